@@ -1,0 +1,4 @@
+pub mod Bools
+pub mod Read
+pub mod Sum
+pub mod Walk

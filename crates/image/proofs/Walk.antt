@@ -1,0 +1,88 @@
+-- Laws of the walk: one word, the way out at a fault, the end; and that the walk is the scan of document 01.
+-- Assumes nothing.
+use Prim.Native.Nat.{ℕ, suc, _+_, _≤_, _<_}
+use native.Mathlib.Nat.{add-suc, add-zero}
+use native.Mathlib.Omega.{arith}
+use native.Mathlib.Numerals.{add-one}
+use mathlib.Core.Path.{_≡_, refl, sym, ap, ap₂, _∙_}
+use mathlib.Core.List.{List, [], _∷_, _++_}
+use lib.ListN.{length, getD, drop, length-append}
+use mir.Val.{boolByte}
+use lib.Seq.{drop-cons, drop-length}
+use Rattle.image.specs.Word.{isKind}
+use Rattle.image.specs.Rules.{opened, lastOf, earlier, faultAt}
+use Rattle.image.specs.Checked.{atWord, scan}
+use Rattle.image.specs.Walk.{after, ended, walk}
+use Rattle.image.specs.declared.answer.Head.{Head}
+use Rattle.image.specs.declared.answer.Refusal.{Refusal}
+use Rattle.image.specs.declared.answer.Checked.{Checked}
+use Rattle.image.specs.declared.answer.Checked.the-variants.{Refused}
+use Rattle.image.specs.declared.rules.Earlier.{Earlier}
+use Rattle.image.specs.declared.rules.Fault.{Fault}
+use Rattle.image.specs.declared.rules.Fault.the-variants.{Found, Nothing}
+use Rattle.image.proofs.Bools.{byte-le}
+
+walk-drop : (h : Head) (e : Earlier) (p i : ℕ) (ws : List ℕ) → i < length ws
+    → walk h e p (drop i ws) ≡ atWord (faultAt h e p (getD ws i 0)) (walk h (after e (getD ws i 0)) (p + 1) (drop (i + 1) ws))
+unfolding walk
+walk-drop h e p i ws l = rw (add-one i, add-one p) (ap (walk h e p) (drop-cons ws i 0 l))
+
+-- what holds at the head of a loop that reads a part from position p₀ on, where e₀ stands for the words before the part
+pub record Reading (h : Head) (e₀ : Earlier) (p₀ : ℕ) (part : List ℕ) (e : Earlier) (i : ℕ) : Type 0 where
+  pub within : i ≤ length part
+  pub steps : e .steps ≤ e₀ .steps + i
+  pub sequences : e .sequences ≤ e₀ .sequences + i
+  pub same : walk h e (p₀ + i) (drop i part) ≡ walk h e₀ p₀ part
+
+module _ (h : Head) (e₀ : Earlier) (p₀ : ℕ) (part : List ℕ) where
+  pub reading-start : Reading h e₀ p₀ part e₀ 0
+  reading-start = record { within = omega arith; steps = omega arith; sequences = omega arith; same = rw (add-zero p₀) }
+
+  pub reading-turn : (e : Earlier) (i : ℕ) → i < length part → Reading h e₀ p₀ part e i
+      → Nothing ≡ faultAt h e (p₀ + i) (getD part i 0) → Reading h e₀ p₀ part (after e (getD part i 0)) (i + 1)
+  reading-turn e i l r fine =
+      let w = getD part i 0 in
+      let rest : ℕ → Checked = λ p. walk h (after e w) p (drop (i + 1) part) in
+      let p : p₀ + (i + 1) ≡ p₀ + i + 1 = omega arith in
+      record {
+        within = omega arith;
+        steps = omega (arith, byte-le (isKind 5 w));
+        sequences = omega (arith, byte-le (isKind 6 w));
+        same = ap rest p ∙ ap (λ (f : Fault). atWord f (rest (p₀ + i + 1))) fine ∙ sym (walk-drop h e (p₀ + i) i part l) ∙ r .same;
+      }
+
+  pub reading-refused : (e : Earlier) (i : ℕ) (x : Refusal) → i < length part → Reading h e₀ p₀ part e i
+      → Found x ≡ faultAt h e (p₀ + i) (getD part i 0) → Refused x ≡ walk h e₀ p₀ part
+  reading-refused e i x l r found =
+      ap (λ (f : Fault). atWord f (walk h (after e (getD part i 0)) (p₀ + i + 1) (drop (i + 1) part))) found
+      ∙ sym (walk-drop h e (p₀ + i) i part l) ∙ r .same
+
+  pub reading-end : (e : Earlier) (i : ℕ) → i ≡ length part → Reading h e₀ p₀ part e i → ended h e (p₀ + i) ≡ walk h e₀ p₀ part
+  unfolding walk
+  reading-end e i l r = sym (ap (walk h e (p₀ + i)) (ap (λ (n : ℕ). drop n part) l ∙ drop-length part)) ∙ r .same
+
+-- ---- the walk is the scan
+
+opened-snoc : (k w : ℕ) (ws : List ℕ) → opened k (ws ++ (w ∷ [])) ≡ opened k ws + boolByte (isKind k w)
+unfolding opened
+opened-snoc k w [] = omega arith
+opened-snoc k w (v ∷ ws) = omega (arith, opened-snoc k w ws)
+
+last-snoc : (w : ℕ) (ws : List ℕ) → lastOf (ws ++ (w ∷ [])) ≡ w
+unfolding lastOf
+last-snoc w [] = refl
+last-snoc w (v ∷ []) = refl
+last-snoc w (v ∷ u ∷ ws) = last-snoc w (u ∷ ws)
+
+earlier-snoc : (w : ℕ) (ws : List ℕ) → earlier (ws ++ (w ∷ [])) ≡ after (earlier ws) w
+earlier-snoc w ws i = record { steps = opened-snoc 5 w ws i; sequences = opened-snoc 6 w ws i; last = last-snoc w ws i }
+
+length-snoc : (w : ℕ) (ws : List ℕ) → length (ws ++ (w ∷ [])) ≡ suc (length ws)
+length-snoc w ws = length-append ws (w ∷ []) ∙ add-one (length ws)
+
+pub scan-walk : (h : Head) (before ws : List ℕ) → scan h before ws ≡ walk h (earlier before) (length before) ws
+unfolding scan walk
+scan-walk h before [] = refl
+scan-walk h before (w ∷ ws) =
+    ap (atWord (faultAt h (earlier before) (length before) w))
+    (scan-walk h (before ++ (w ∷ [])) ws ∙ ap₂ (λ (e : Earlier) (p : ℕ). walk h e p ws) (earlier-snoc w before) (length-snoc w before))

@@ -1,0 +1,110 @@
+use borrow.Author.Needs.{needs}
+use native.Mathlib.Omega.{arith}
+use Prim.Native.Nat.{_-_}
+use mathlib.Core.Path.{sym, _∙_}
+use lib.ListN.{length}
+use Rattle.image.proofs.Walk.{Reading, reading-start, reading-turn, reading-refused, reading-end}
+use Rattle.image.proofs.check.read_sequences.Statement.{statement}
+use Rattle.image.proofs.check.read_sequences.Tie as tie
+use Rattle.image.proofs.check.read_sequences.Reads as reads
+use Rattle.image.proofs.check.read_sequences.Lts as lts
+use Rattle.image.proofs.check.ended_at.Reads as ended-at-reads
+use Rattle.image.proofs.rules.fault_at.Reads as fault-at-reads
+use Rattle.image.proofs.rules.past.Reads as past-reads
+
+abbrev Inv-loop : tie.InvT-loop
+Inv-loop h at part e₀ i₀ e i = Reading h e₀ at part e i
+
+abbrev μ-loop : tie.MeasureT-loop
+μ-loop h at part e₀ i₀ e i = length part - i
+
+loop-holds : tie.Need-loop-holds Inv-loop μ-loop
+loop-holds c = let a = c .before .args in reading-start (a .h) (a .before) (a .at) (a .part .now)
+
+mul-w : tie.Need-mul-w Inv-loop μ-loop
+mul-w c = search needs
+
+shared-slice-read-w : tie.Need-shared-slice-read-w Inv-loop μ-loop
+shared-slice-read-w c = search needs
+
+add-fault-at : tie.Need-add-fault-at Inv-loop μ-loop
+add-fault-at c = search needs
+
+cast-fault-at : tie.Need-cast-fault-at Inv-loop μ-loop
+cast-fault-at c = search needs
+
+fault-at-requires : tie.Need-fault-at-requires Inv-loop μ-loop
+fault-at-requires c κs = search needs
+
+enum-known-r : tie.Need-enum-known-r Inv-loop μ-loop
+enum-known-r c = search needs
+
+returns : tie.Need-returns Inv-loop μ-loop
+returns c =
+    let found = c .before in
+    let judged = found .before .before in
+    let at-loop = judged .before .before .before in
+    let a = at-loop .before .before .args in
+    reading-refused (a .h) (a .before) (a .at) (a .part .now) (at-loop .loop .e) (at-loop .loop .i) (found .r .given .0 .0)
+    (omega arith) (at-loop .loop .inv) (sym (found .r .given .1) ∙ judged .fault-at .ensures)
+
+enum-told : tie.Need-enum-told Inv-loop μ-loop
+enum-told c = search needs
+
+past-requires : tie.Need-past-requires Inv-loop μ-loop
+past-requires c κs = search needs
+
+add-i : tie.Need-add-i Inv-loop μ-loop
+add-i c = search needs
+
+loop-less : tie.Need-loop-less Inv-loop μ-loop
+loop-less c = search needs
+
+loop-again : tie.Need-loop-again Inv-loop μ-loop
+loop-again c =
+    let judged = c .before .before .before in
+    let at-loop = judged .before .before .before in
+    let a = at-loop .before .before .args in
+    rw (c .past .ensures)
+    (reading-turn (a .h) (a .before) (a .at) (a .part .now) (at-loop .loop .e) (at-loop .loop .i) (omega arith) (at-loop .loop .inv)
+    (sym (c .before .enum-told .given .1) ∙ judged .fault-at .ensures))
+
+add-ended-at : tie.Need-add-ended-at Inv-loop μ-loop
+add-ended-at c = search needs
+
+cast-ended-at : tie.Need-cast-ended-at Inv-loop μ-loop
+cast-ended-at c = search needs
+
+ended-at-requires : tie.Need-ended-at-requires Inv-loop μ-loop
+ended-at-requires c κs = search needs
+
+returns-2 : tie.Need-returns-2 Inv-loop μ-loop
+returns-2 c =
+    let at-loop = c .before .before in
+    let a = at-loop .before .before .args in
+    c .ended-at .ensures
+    ∙ reading-end (a .h) (a .before) (a .at) (a .part .now) (at-loop .loop .e) (at-loop .loop .i) (omega arith) (at-loop .loop .inv)
+
+pub read-sequences-spec : {M : Type 1} → statement M
+read-sequences-spec =
+    tie.close
+    (tie.spec
+    Inv-loop
+    μ-loop
+    loop-holds
+    mul-w
+    shared-slice-read-w
+    add-fault-at
+    cast-fault-at
+    fault-at-requires
+    enum-known-r
+    returns
+    enum-told
+    past-requires
+    add-i
+    loop-less
+    loop-again
+    add-ended-at
+    cast-ended-at
+    ended-at-requires
+    returns-2)

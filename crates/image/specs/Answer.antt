@@ -1,0 +1,51 @@
+-- The numbers of the answers, as document 01 gives them: "For each case of an enum answer, a definition gives this paper's
+-- number and values."
+use Prim.Native.Nat.{ℕ, _+_, _*_, _^_}
+use Rattle.image.specs.declared.answer.Head.{Head}
+use Rattle.image.specs.declared.answer.Refusal.{Refusal}
+use Rattle.image.specs.declared.answer.Refusal.the-variants.{Length, SumWord, HeadWord, Kind, Payload, FactOrder, Missing, CardArea, Sequence, Question, Fact, ChainArea}
+use Rattle.image.specs.declared.answer.Checked.{Checked}
+use Rattle.image.specs.declared.answer.Checked.the-variants.{Accepted, Refused}
+
+-- "Turned down, in checking order"
+abbrev pub refusalNumber : Refusal → ℕ
+refusalNumber Length = 1
+refusalNumber (SumWord p) = 2
+refusalNumber HeadWord = 3
+refusalNumber (Kind p) = 4
+refusalNumber (Payload p) = 5
+refusalNumber (FactOrder p) = 6
+refusalNumber (Missing p) = 7
+refusalNumber CardArea = 8
+refusalNumber Sequence = 9
+refusalNumber Question = 10
+refusalNumber Fact = 11
+refusalNumber ChainArea = 12
+
+-- "a word position counted from 0; from 8 on the position is 0". 1 and 3 have "position 0"
+abbrev pub refusalPosition : Refusal → ℕ
+refusalPosition Length = 0
+refusalPosition (SumWord p) = p
+refusalPosition HeadWord = 0
+refusalPosition (Kind p) = p
+refusalPosition (Payload p) = p
+refusalPosition (FactOrder p) = p
+refusalPosition (Missing p) = p
+refusalPosition CardArea = 0
+refusalPosition Sequence = 0
+refusalPosition Question = 0
+refusalPosition Fact = 0
+refusalPosition ChainArea = 0
+
+-- "N × 2^32 + P for refusal N at position P"
+abbrev pub refusalAnswer : Refusal → ℕ
+refusalAnswer r = refusalNumber r * 2 ^ 32 + refusalPosition r
+
+-- a head's payload: "bits 0 to 6 hold F", "bits 7 to 17 hold A", "bits 18 to 26 hold C"
+abbrev pub headPayload : Head → ℕ
+headPayload h = h .facts + h .steps * 2 ^ 7 + h .sequences * 2 ^ 18
+
+-- "It gets one 64-bit number: N × 2^32 + P for refusal N at position P, otherwise the head's payload from the check"
+abbrev pub checkedAnswer : Checked → ℕ
+checkedAnswer (Accepted h) = headPayload h
+checkedAnswer (Refused r) = refusalAnswer r

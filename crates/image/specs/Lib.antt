@@ -1,0 +1,6 @@
+pub mod Answer
+pub mod Word
+pub mod Rules
+pub mod Checked
+pub mod Walk
+pub mod Library

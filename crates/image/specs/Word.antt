@@ -1,0 +1,54 @@
+-- Words, their kinds and payloads, and the two words at the ends of an image: the head and the sum word (document 01, "The image").
+use Prim.Native.Nat.{ℕ, _+_, _/_, _%_, _^_}
+use mathlib.Core.Bool.{Bool, _&&_, _||_}
+use mathlib.Core.List.{List, [], _∷_}
+use lib.Dec.{leb, eqb}
+use Rattle.image.specs.declared.answer.Head.{Head}
+
+-- "Bits 31 to 28 are the kind; the low 28 bits are the payload, an unsigned number."
+abbrev pub kind : ℕ → ℕ
+kind w = w / 2 ^ 28
+
+abbrev pub payload : ℕ → ℕ
+payload w = w % 2 ^ 28
+
+abbrev pub isKind : ℕ → ℕ → Bool
+isKind k w = eqb (kind w) k
+
+-- "Kinds 2, 3 and 4 follow a step's opener: the step needs, sets or clears the fact with that number": fact words
+abbrev pub isFact : ℕ → Bool
+isFact w = isKind 2 w || isKind 3 w || isKind 4 w
+
+-- "Kind 8 is an entry naming a step, kind 9 an entry naming a sequence."
+abbrev pub isEntry : ℕ → Bool
+isEntry w = isKind 8 w || isKind 9 w
+
+-- the words added up, without wrap
+unfoldable pub total : List ℕ → ℕ
+total [] = 0
+total (w ∷ ws) = w + total ws
+
+-- "Let s be the sum of all earlier words with wrap at 2^32"
+abbrev pub wrappedSum : List ℕ → ℕ
+wrappedSum earlier = total earlier % 2 ^ 32
+
+-- "its payload is (s + s / 2^28) mod 2^28, the quotient whole"
+abbrev pub folded : ℕ → ℕ
+folded s = (s + s / 2 ^ 28) % 2 ^ 28
+
+-- "Kind 15 is the sum word", with the payload that the rule gives over the words before it
+abbrev pub sumRight : List ℕ → ℕ → Bool
+sumRight earlier w = isKind 15 w && eqb (payload w) (folded (wrappedSum earlier))
+
+-- "bits 0 to 6 hold F, the number of facts", "bits 7 to 17 hold A, steps", "bits 18 to 26 hold C, sequences"
+abbrev pub headOf : ℕ → Head
+headOf w = record { facts = payload w % 2 ^ 7; steps = payload w / 2 ^ 7 % 2 ^ 11; sequences = payload w / 2 ^ 18 % 2 ^ 9 }
+
+-- "Kind 1, head": F "1 to 64", A "0 to 1,024", C "0 to 256", "bit 27 is zero"
+abbrev pub headRight : ℕ → Bool
+headRight w =
+    isKind 1 w
+    && (leb 1 (headOf w .facts) && leb (headOf w .facts) 64)
+    && leb (headOf w .steps) 1024
+    && leb (headOf w .sequences) 256
+    && eqb (payload w / 2 ^ 27) 0

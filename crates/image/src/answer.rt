@@ -1,0 +1,92 @@
+// What the calls answer with: the head, the refusals of document 01, and the 64-bit numbers that the C side gets.
+ghost use mathlib.Core.Path.{_≡_};
+ghost use Prim.Native.Nat.{_≤_};
+ghost use Rattle.image.specs.Answer.{refusalNumber, refusalPosition, refusalAnswer, headPayload, checkedAnswer};
+
+// What the head counts: facts (F), steps (A) and sequences (C).
+pub struct Head {
+    pub facts: u32,
+    pub steps: u32,
+    pub sequences: u32,
+}
+
+// The refusals of document 01, 1 to 12 in its order. The number that a case carries is the position of a word.
+pub enum Refusal {
+    // 1. fewer than 2 or more than 8,192 words
+    Length,
+    // 2. the last word is no sum word, or has another payload than the rule gives
+    SumWord(u32),
+    // 3. the first word breaks the rule for the head
+    HeadWord,
+    // 4. a kind that may not stand there
+    Kind(u32),
+    // 5. a payload that breaks its rule
+    Payload(u32),
+    // 6. a fact word that is not greater than the fact word before it
+    FactOrder(u32),
+    // 7. fewer steps or sequences than the head counts
+    Missing(u32),
+    // 8. the card area is too short
+    CardArea,
+    // 9. the sequence asked about is not below C
+    Sequence,
+    // 10. the question is above 5
+    Question,
+    // 11. the fact asked about is not below F
+    Fact,
+    // 12. a chain exists but has more words than the chain area
+    ChainArea,
+}
+
+// What the check finds: the head of a library, or the first refusal that applies.
+pub enum Checked {
+    Accepted(Head),
+    Refused(Refusal),
+}
+
+// Document 01's number of a refusal.
+fn number(refusal: Refusal) -> u64
+    ensures { λ r. ⌜ (r ≡ refusalNumber refusal) × (r ≤ 12) ⌝ }
+{
+    match refusal {
+        Refusal::Length => 1,
+        Refusal::SumWord(_) => 2,
+        Refusal::HeadWord => 3,
+        Refusal::Kind(_) => 4,
+        Refusal::Payload(_) => 5,
+        Refusal::FactOrder(_) => 6,
+        Refusal::Missing(_) => 7,
+        Refusal::CardArea => 8,
+        Refusal::Sequence => 9,
+        Refusal::Question => 10,
+        Refusal::Fact => 11,
+        Refusal::ChainArea => 12,
+    }
+}
+
+// The word position of a refusal.
+fn position(refusal: Refusal) -> u32
+    ensures { λ r. ⌜ r ≡ refusalPosition refusal ⌝ }
+{
+    match refusal {
+        Refusal::Length => 0,
+        Refusal::SumWord(p) => p,
+        Refusal::HeadWord => 0,
+        Refusal::Kind(p) => p,
+        Refusal::Payload(p) => p,
+        Refusal::FactOrder(p) => p,
+        Refusal::Missing(p) => p,
+        Refusal::CardArea => 0,
+        Refusal::Sequence => 0,
+        Refusal::Question => 0,
+        Refusal::Fact => 0,
+        Refusal::ChainArea => 0,
+    }
+}
+
+// The 64-bit answer that stands for a refusal on the C side.
+pub fn refusal_answer(refusal: Refusal) -> u64
+    ensures { λ r. ⌜ r ≡ refusalAnswer refusal ⌝ }
+{
+    number(refusal) * 4294967296 + position(refusal) as u64
+}

@@ -1,0 +1,112 @@
+// The check: refusals 1 to 7. The steps' part and the sequences' part are each read as a part of the image that begins in its middle.
+use crate::answer::Checked;
+use crate::answer::Head;
+use crate::answer::Refusal;
+use crate::rules::Earlier;
+use crate::rules::Fault;
+use crate::rules::fault_at;
+use crate::rules::past;
+use crate::word::head_of;
+use crate::word::head_right;
+use crate::word::is_kind;
+use crate::word::sum_right;
+ghost use mathlib.Core.Path.{_≡_};
+ghost use Prim.Native.Nat.{_+_, _≤_, _<_};
+ghost use lib.ListN.{length};
+ghost use Rattle.image.specs.Checked.{checked};
+ghost use Rattle.image.specs.Walk.{walk, ended, opening, StepsRead};
+ghost use Rattle.image.specs.Word.{headOf};
+
+// Where the reader of the steps' part stopped: at a refusal, or at the part's word with this index, the first sequence or the part's
+// end, with what the rules ask of the words before it.
+pub enum Steps {
+    Refused(Refusal),
+    End(Earlier, usize),
+}
+
+// Reads the steps' part: the words of `part` up to the first sequence. The part begins at position 1, after the head.
+fn read_steps(h: Head, first: u32, part: &[u32]) -> Steps
+    requires { ⌜ length (now part) < 8192 ⌝ }
+    ensures { λ r. ⌜ StepsRead h first (now (part .entry)) r ⌝ }
+{
+    let mut e = Earlier {
+        steps: 0,
+        sequences: 0,
+        last: first,
+    };
+    let mut i = 0;
+    while i < part.len() {
+        let w = part[i];
+        if is_kind(6, w) {
+            return Steps::End(e, i);
+        }
+        if let Fault::Found(r) = fault_at(h, e, (1 + i) as u32, w) {
+            return Steps::Refused(r);
+        }
+        e = past(e, w);
+        i += 1;
+    }
+    Steps::End(e, i)
+}
+
+// What is answered where all words are read: refusal 7 at the last word, or acceptance.
+fn ended_at(h: Head, e: Earlier, p: u32) -> Checked
+    ensures { λ r. ⌜ r ≡ ended h e p ⌝ }
+{
+    if (e.steps < h.steps) | (e.sequences < h.sequences) {
+        return Checked::Refused(Refusal::Missing(p));
+    }
+    Checked::Accepted(h)
+}
+
+// Reads the sequences' part, which begins at position `at`, to its end.
+fn read_sequences(h: Head, before: Earlier, at: usize, part: &[u32]) -> Checked
+    requires { ⌜ (at + length (now part) < 8192) × (before .steps ≤ at) × (before .sequences ≤ at) ⌝ }
+    ensures { λ r. ⌜ r ≡ walk h before at (now (part .entry)) ⌝ }
+{
+    let mut e = before;
+    let mut i = 0;
+    while i < part.len() {
+        let w = part[i];
+        if let Fault::Found(r) = fault_at(h, e, (at + i) as u32, w) {
+            return Checked::Refused(r);
+        }
+        e = past(e, w);
+        i += 1;
+    }
+    ended_at(h, e, (at + i) as u32)
+}
+
+// Reads the words between head and sum word: refusals 4 to 7, or acceptance.
+fn read(first: u32, between: &[u32]) -> Checked
+    requires { ⌜ length (now between) < 8191 ⌝ }
+    ensures { λ r. ⌜ r ≡ walk (headOf first) (opening first) 1 (now (between .entry)) ⌝ }
+{
+    let h = head_of(first);
+    match read_steps(h, first, between) {
+        Steps::Refused(r) => Checked::Refused(r),
+        Steps::End(e, at) => read_sequences(h, e, 1 + at, &between[at..]),
+    }
+}
+
+// What document 01 answers for an image: the head's counts, or the first of the refusals 1 to 7 that applies.
+pub fn check(image: &[u32]) -> Checked
+    ensures { λ r. ⌜ r ≡ checked (now (image .entry)) ⌝ }
+{
+    let n = image.len();
+    if n < 2 {
+        return Checked::Refused(Refusal::Length);
+    }
+    if 8192 < n {
+        return Checked::Refused(Refusal::Length);
+    }
+    let last = n - 1;
+    if !sum_right(&image[..last], image[last]) {
+        return Checked::Refused(Refusal::SumWord(last as u32));
+    }
+    let first = image[0];
+    if !head_right(first) {
+        return Checked::Refused(Refusal::HeadWord);
+    }
+    read(first, &image[1..last])
+}

@@ -1,0 +1,84 @@
+// The rules for a word between head and sum word: refusals 4, 5 and 6.
+use crate::answer::Head;
+use crate::answer::Refusal;
+ghost use mathlib.Core.Path.{_≡_};
+ghost use Prim.Native.Nat.{_+_, _<_};
+ghost use Rattle.image.specs.Rules.{mayStand, payloadRight, inOrder, faultAt};
+ghost use Rattle.image.specs.Walk.{after};
+
+// What the rules ask of the words before a word: how many steps and sequences they open, and the word right before it.
+pub struct Earlier {
+    pub steps: u32,
+    pub sequences: u32,
+    pub last: u32,
+}
+
+// What is wrong with a word: refusal 4, 5 or 6 with its position, or nothing.
+pub enum Fault {
+    Found(Refusal),
+    Nothing,
+}
+
+// Refusal 4: whether a word of this kind may stand here.
+fn may_stand(h: Head, e: Earlier, w: u32) -> bool
+    ensures { λ r. ⌜ r ≡ mayStand h e w ⌝ }
+{
+    let k = w / 268435456;
+    let l = e.last / 268435456;
+    ((k == 2) | (k == 3) | (k == 4)) & ((l == 5) | ((l == 2) | (l == 3) | (l == 4)))
+        | (k == 5) & (e.sequences == 0)
+        | (k == 6) & (h.steps <= e.steps)
+        | (k == 7) & (0 < e.sequences)
+        | ((k == 8) | (k == 9)) & ((l == 7) | ((l == 8) | (l == 9)))
+}
+
+// Refusal 5: whether the payload keeps the rule of its kind.
+fn payload_right(h: Head, e: Earlier, w: u32) -> bool
+    ensures { λ r. ⌜ r ≡ payloadRight h e w ⌝ }
+{
+    let k = w / 268435456;
+    let p = w % 268435456;
+    (!(k == 5) | ((p == e.steps) & (p < h.steps)))
+        & (!(k == 6) | ((p == e.sequences) & (p < h.sequences)))
+        & (!(k == 8) | (p < h.steps))
+        & (!(k == 9) | (p < h.sequences))
+        & (!((k == 2) | (k == 3) | (k == 4)) | (p < h.facts))
+        & (!(k == 7) | (p == 0))
+}
+
+// Refusal 6: whether a fact word is greater than the fact word right before it.
+fn in_order(e: Earlier, w: u32) -> bool
+    ensures { λ r. ⌜ r ≡ inOrder e w ⌝ }
+{
+    let k = w / 268435456;
+    let l = e.last / 268435456;
+    !(((k == 2) | (k == 3) | (k == 4)) & ((l == 2) | (l == 3) | (l == 4))) | (e.last < w)
+}
+
+// The lowest refusal of 4 to 6 that a word at position `p` meets.
+pub fn fault_at(h: Head, e: Earlier, p: u32, w: u32) -> Fault
+    ensures { λ r. ⌜ r ≡ faultAt h e p w ⌝ }
+{
+    if !may_stand(h, e, w) {
+        return Fault::Found(Refusal::Kind(p));
+    }
+    if !payload_right(h, e, w) {
+        return Fault::Found(Refusal::Payload(p));
+    }
+    if !in_order(e, w) {
+        return Fault::Found(Refusal::FactOrder(p));
+    }
+    Fault::Nothing
+}
+
+// What the rules ask of the words up to and with `w`.
+pub fn past(e: Earlier, w: u32) -> Earlier
+    requires { ⌜ (e .steps + 1 < 4294967296) × (e .sequences + 1 < 4294967296) ⌝ }
+    ensures { λ r. ⌜ r ≡ after e w ⌝ }
+{
+    Earlier {
+        steps: e.steps + ((w / 268435456 == 5) as u32),
+        sequences: e.sequences + ((w / 268435456 == 6) as u32),
+        last: w,
+    }
+}
