@@ -90,3 +90,20 @@ pub fn refusal_answer(refusal: Refusal) -> u64
 {
     number(refusal) * 4294967296 + position(refusal) as u64
 }
+
+// The payload of a head.
+fn head_payload(h: Head) -> u64
+    ensures { λ r. ⌜ r ≡ headPayload h ⌝ }
+{
+    h.facts as u64 + h.steps as u64 * 128 + h.sequences as u64 * 262144
+}
+
+// The 64-bit answer that stands for what the check finds: the head's payload, or the refusal.
+pub fn checked_answer(found: Checked) -> u64
+    ensures { λ r. ⌜ r ≡ checkedAnswer found ⌝ }
+{
+    match found {
+        Checked::Accepted(h) => head_payload(h),
+        Checked::Refused(r) => refusal_answer(r),
+    }
+}
