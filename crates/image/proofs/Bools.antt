@@ -23,3 +23,20 @@ and-right false b e = absurd (false≢true e)
 pub or-cases : (a b : Bool) → a || b ≡ true → (a ≡ true) ⊎ (b ≡ true)
 or-cases true b e = inl refl
 or-cases false b e = inr e
+
+pub or-five : (a b c d e : Bool) → a || b || c || d || e ≡ true → (a ≡ true) ⊎ (b ≡ true) ⊎ (c ≡ true) ⊎ (d ≡ true) ⊎ (e ≡ true)
+or-five true b c d e q = inl refl
+or-five false true c d e q = inr (inl refl)
+or-five false false true d e q = inr (inr (inl refl))
+or-five false false false true e q = inr (inr (inr (inl refl)))
+or-five false false false false e q = inr (inr (inr (inr q)))
+
+-- the members of a longer conjunction, which groups to the left
+pub and-six : (a b c d e f : Bool) → a && b && c && d && e && f ≡ true
+    → (a ≡ true) × (b ≡ true) × (c ≡ true) × (d ≡ true) × (e ≡ true) × (f ≡ true)
+and-six true true true true true f q = (refl, refl, refl, refl, refl, q)
+and-six true true true true false f q = absurd (false≢true q)
+and-six true true true false e f q = absurd (false≢true q)
+and-six true true false d e f q = absurd (false≢true q)
+and-six true false c d e f q = absurd (false≢true q)
+and-six false b c d e f q = absurd (false≢true q)

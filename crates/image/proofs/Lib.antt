@@ -1,4 +1,6 @@
+pub mod Accepted
 pub mod Bools
+pub mod Decode
 pub mod Read
 pub mod Sum
 pub mod Walk

@@ -4,3 +4,4 @@ pub mod Rules
 pub mod Checked
 pub mod Walk
 pub mod Library
+pub mod Accepted
