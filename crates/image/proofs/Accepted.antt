@@ -8,8 +8,8 @@ use mathlib.Core.Path.{_≡_, refl, sym, ap, ap₂, _∙_, subst}
 use mathlib.Core.Bool.{Bool, true, false, cond, not, _&&_, _||_, false≢true}
 use mathlib.Core.Logic.{_⊎_, inl, inr, ⊎-elim}
 use mathlib.Core.List.{List, [], _∷_, _++_, append-nil}
-use lib.ListN.{length, getD, take, drop, length-append, length-take, length-drop, List·getD-append}
-use lib.Seq.{take-append-le, append-snoc, take-take, getD-take, getD-drop}
+use lib.ListN.{length, getD, take, drop, length-append, length-take, List·getD-append}
+use lib.Seq.{take-append-le, append-snoc, take-take, getD-take}
 use lib.Dec.{leb, ltb, eqb}
 use borrow.Author.Tests.{leb-true, ltb-true, eqb-true, eqb-false, ltb-false}
 use mir.Val.{boolByte}
@@ -30,6 +30,7 @@ use Rattle.image.specs.declared.rules.Fault.the-variants.{Found, Nothing
 use Rattle.image.proofs.Bools.{byte-le, and-left, and-right, or-cases, or-five, and-six}
 use Rattle.image.proofs.Decode.{is, is-not, kind-is, parts-opened, parts-joined, steps-length, sequences-length}
 use Rattle.image.proofs.Read.{checked-walk}
+use Rattle.image.proofs.Seam.{length-between}
 
 -- ---- an answer that is no refusal
 
@@ -144,8 +145,8 @@ payloads h e w s =
     let five = eqb p (e .steps) && ltb p (h .steps) in
     let six = eqb p (e .sequences) && ltb p (h .sequences) in
     let t =
-        and-six (whereKind (isKind 5 w) five) (whereKind (isKind 6 w) six) (whereKind (isKind 8 w) (ltb p (h .steps)))
-        (whereKind (isKind 9 w) (ltb p (h .sequences))) (whereKind (isFact w) (ltb p (h .facts))) (whereKind (isKind 7 w) (eqb p 0)) s in
+    and-six (whereKind (isKind 5 w) five) (whereKind (isKind 6 w) six) (whereKind (isKind 8 w) (ltb p (h .steps)))
+    (whereKind (isKind 9 w) (ltb p (h .sequences))) (whereKind (isFact w) (ltb p (h .facts))) (whereKind (isKind 7 w) (eqb p 0)) s in
     let opens-step : kind w ≡ 5 → five ≡ true = λ k. rule (isKind 5 w) five (t .0) (is 5 w k) in
     let opens-sequence : kind w ≡ 6 → six ≡ true = λ k. rule (isKind 6 w) six (t .1) (is 6 w k) in
     record {
@@ -261,8 +262,8 @@ counts h e p (w ∷ ws) g a s q =
     let c = walk-cons h e p w ws g a in
     let f = payloads h e w (fine h e p w (c .0) .pays) in
     let ih =
-        counts h (after e w) (suc p) ws g (c .1) (grows 5 w (e .steps) (h .steps) s (λ k. omega (arith, f .step k)))
-        (grows 6 w (e .sequences) (h .sequences) q (λ k. omega (arith, f .sequence k))) in
+    counts h (after e w) (suc p) ws g (c .1) (grows 5 w (e .steps) (h .steps) s (λ k. omega (arith, f .step k)))
+    (grows 6 w (e .sequences) (h .sequences) q (λ k. omega (arith, f .sequence k))) in
     omega arith
   where
     grows : (k w n m : ℕ) → n ≤ m → (kind w ≡ k → n < m) → n + boolByte (isKind k w) ≤ m
@@ -415,9 +416,6 @@ word-between : (image : List ℕ) (i : ℕ) → i < length image - 2 → getD (b
 word-between [] i l = absurd (omega arith)
 word-between (w ∷ ws) i l = getD-take (length (w ∷ ws) - 2) ws i 0 l
 
-length-between : (image : List ℕ) → length (between image) ≡ length image - 2
-length-between image = length-take (length image - 2) (drop 1 image) ∙ omega (arith, length-drop 1 image)
-
 module _ (image : List ℕ) (h : Head) (a : checked image ≡ Accepted h) where
   head-is : h ≡ headOf (firstWord image)
   head-is = sym (walk-head (headOf (firstWord image)) _ _ (between image) h (walked image h a))
@@ -435,8 +433,8 @@ module _ (image : List ℕ) (h : Head) (a : checked image ≡ Accepted h) where
       let w = firstWord image in
       let g = headOf w in
       let t =
-          and-six true (isKind 1 w) (leb 1 (g .facts) && leb (g .facts) 64) (leb (g .steps) 1024) (leb (g .sequences) 256)
-          (eqb (payload w / 2 ^ 27) 0) (checks image h a .head) in (
+      and-six true (isKind 1 w) (leb 1 (g .facts) && leb (g .facts) 64) (leb (g .steps) 1024) (leb (g .sequences) 256)
+      (eqb (payload w / 2 ^ 27) 0) (checks image h a .head) in (
         t .1,
         rw head-is (leb-true 1 (g .facts) (and-left (leb 1 (g .facts)) _ (t .2))),
         rw head-is (leb-true (g .facts) 64 (and-right (leb 1 (g .facts)) _ (t .2))),

@@ -1,16 +1,15 @@
 -- `image::check::read` meets its contract: the answer from where the steps' part was left is the answer from its start.
 -- Assumes nothing.
-use borrow.Author.Needs.{needs, scaled-fits}
+use borrow.Author.Needs.{needs}
 use native.Mathlib.Omega.{arith}
-use mathlib.Core.Path.{_≡_, ap, _∙_}
-use mathlib.Core.List.{List}
-use Prim.Native.Nat.{ℕ, _+_, _-_, _≤_}
-use lib.ListN.{length, drop, take, length-drop}
-use lib.Seq.{take-all}
+use mathlib.Core.Path.{ap, _∙_}
+use Prim.Native.Nat.{_+_, _≤_}
+use lib.ListN.{length, length-drop}
 use Rattle.image.specs.Word.{headOf}
 use Rattle.image.specs.Walk.{walk, opening}
 use Rattle.image.specs.declared.answer.Head.{Head}
 use Rattle.image.proofs.Read.{stopped-refused, stopped-end, stopped-within}
+use Rattle.image.proofs.Seam.{whole-rest}
 use Rattle.image.proofs.check.read.Statement.{statement}
 use Rattle.image.proofs.check.read.Tie as tie
 use Rattle.image.proofs.check.read.Reads as reads
@@ -36,9 +35,6 @@ left-within : (c : tie.After-known-told2) → (c .before .e .given .0 .1 .0 ≤ 
 left-within c =
     let stopped = c .before .before .before in
     stopped-within _ _ _ _ (stopped .read-steps .ensures) (c .before .e .given .0 .0) (c .before .e .given .0 .1 .0) (c .before .e .given .1)
-
-whole-rest : (i : ℕ) (ws : List ℕ) → take (length ws - i) (drop i ws) ≡ drop i ws
-whole-rest i ws = take-all (length ws - i) (drop i ws) (omega (arith, length-drop i ws))
 
 add-read-sequences : tie.Need-add-read-sequences
 add-read-sequences c = omega (arith, left-within c)
