@@ -1,7 +1,9 @@
 pub mod Accepted
 pub mod Bools
 pub mod Decode
+pub mod Rows
 pub mod Seam
+pub mod Lookup
 pub mod Read
 pub mod Sum
 pub mod Walk

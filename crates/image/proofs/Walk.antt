@@ -63,7 +63,7 @@ module _ (h : Head) (e₀ : Earlier) (p₀ : ℕ) (part : List ℕ) where
 
 -- ---- the walk is the scan
 
-opened-snoc : (k w : ℕ) (ws : List ℕ) → opened k (ws ++ (w ∷ [])) ≡ opened k ws + boolByte (isKind k w)
+pub opened-snoc : (k w : ℕ) (ws : List ℕ) → opened k (ws ++ (w ∷ [])) ≡ opened k ws + boolByte (isKind k w)
 unfolding opened
 opened-snoc k w [] = omega arith
 opened-snoc k w (v ∷ ws) = omega (arith, opened-snoc k w ws)

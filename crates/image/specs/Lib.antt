@@ -5,3 +5,4 @@ pub mod Checked
 pub mod Walk
 pub mod Library
 pub mod Accepted
+pub mod Tables

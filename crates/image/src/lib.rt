@@ -3,4 +3,5 @@ pub mod answer;
 pub mod check;
 pub mod parts;
 pub mod rules;
+pub mod tables;
 pub mod word;
