@@ -7,7 +7,7 @@
 use Prim.Native.Nat.{ℕ}
 use mathlib.Core.Bool.{Bool, true, false, cond, _||_}
 use mathlib.Core.List.{List, [], _∷_}
-use Rattle.image.specs.Word.{payload, isKind, isFact, isEntry, headOf}
+use Rattle.image.specs.Word.{kind, payload, isKind, isFact, isEntry, headOf}
 use Rattle.image.specs.Checked.{firstWord, between}
 
 -- "Kinds 2, 3 and 4 follow a step's opener: the step needs, sets or clears the fact with that number"
