@@ -10,11 +10,12 @@ use mathlib.Core.Bool.{Bool, true, false, cond, _||_, false≢true}
 use mathlib.Core.Logic.{_⊎_, inl, inr}
 use mathlib.Core.List.{List, [], _∷_, _++_}
 use lib.ListN.{length, getD, take, drop}
+use lib.Dec.{eqb}
 use borrow.Author.Tests.{eq-eqb, ne-eqb, eqb-true, eqb-false}
 use mir.Val.{boolByte}
 use Rattle.image.specs.Word.{kind, payload, isKind, isFact, isEntry}
 use Rattle.image.specs.Rules.{opened}
-use Rattle.image.specs.Library.{Step, Entry, step, call, Alternative, Sequence, factsFrom, stepsFrom, entriesFrom, alternativesFrom, sequencesFrom, beforeSequences, fromSequences}
+use Rattle.image.specs.Library.{has, Step, Entry, step, call, Alternative, Sequence, factsFrom, stepsFrom, entriesFrom, alternativesFrom, sequencesFrom, beforeSequences, fromSequences}
 
 -- ---- kinds
 
@@ -35,6 +36,16 @@ fact-of w l u = go (isKind 2 w) (isKind 3 w) (isKind 4 w) refl refl refl
     go false true c p q r = refl
     go false false true p q r = refl
     go false false false p q r = absurd (omega (arith, eqb-false (kind w) 2 p, eqb-false (kind w) 3 q, eqb-false (kind w) 4 r))
+
+-- ---- facts of a list
+
+pub has-none : (f : ℕ) → has f [] ≡ false
+unfolding has
+has-none f = refl
+
+pub has-cons : (f g : ℕ) (gs : List ℕ) → has f (g ∷ gs) ≡ (eqb g f || has f gs)
+unfolding has
+has-cons f g gs = refl
 
 -- ---- one word of the decoding
 

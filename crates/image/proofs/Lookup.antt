@@ -12,15 +12,15 @@ use Rattle.column.specs.Column.{bit}
 use Rattle.column.proofs.Bits.{bit-column}
 use Rattle.image.specs.Word.{kind, isKind}
 use Rattle.image.specs.Rules.{opened}
-use Rattle.image.specs.Library.{Step, alternativesFrom, sequencesFrom}
-use Rattle.image.specs.Tables.{among, maskOf, masks, placesFrom}
+use Rattle.image.specs.Library.{has, Step, alternativesFrom, sequencesFrom}
+use Rattle.image.specs.Tables.{maskOf, masks, placesFrom}
 use Rattle.image.proofs.Decode.{kind-is, sequences-open, sequences-skip}
 use borrow.Author.Tests.{eqb-false}
 
--- bit f of a mask is set exactly where fact f is among its facts
-pub mask-bit : (facts : List ℕ) (f : ℕ) → f < 64 → bit (maskOf facts) f ≡ boolByte (among facts f)
+-- bit f of a mask is set exactly where fact f is one of its facts
+pub mask-bit : (facts : List ℕ) (f : ℕ) → f < 64 → bit (maskOf facts) f ≡ boolByte (has f facts)
 unfolding maskOf
-mask-bit facts f l = bit-column 64 (among facts) f l
+mask-bit facts f l = bit-column 64 (λ (g : ℕ). has g facts) f l
 
 -- the words of step a
 pub row-at : (ss : List Step) (a : ℕ) (d : Step) → a < length ss

@@ -16,9 +16,9 @@ use Rattle.column.specs.Column.{column, withFact}
 use Rattle.column.proofs.Bits.{column-with, column-none}
 use Rattle.image.specs.Word.{kind, payload, isKind}
 use Rattle.image.specs.Rules.{opened}
-use Rattle.image.specs.Library.{Step, factsFrom, stepsFrom}
+use Rattle.image.specs.Library.{has, Step, factsFrom, stepsFrom}
 use Rattle.image.specs.Accepted.{All, StepWord, SequenceWord, Numbered}
-use Rattle.image.specs.Tables.{among, maskOf, masks, placesFrom, masksFrom, withWord, withRow, StepsAsked, SequencesAsked}
+use Rattle.image.specs.Tables.{maskOf, masks, placesFrom, masksFrom, withWord, withRow, StepsAsked, SequencesAsked}
 use Rattle.image.specs.declared.answer.Head.{Head}
 use Rattle.image.specs.declared.tables.Masks.{Masks}
 use Rattle.image.proofs.Decode.{is, is-not, kind-is, steps-open, steps-skip, facts-here, facts-other, facts-end}
@@ -65,12 +65,12 @@ opened-within k j ws = omega (arith, opened-append k (take j ws) (drop j ws), ap
 -- ---- masks
 
 mask-none : maskOf [] ≡ 0
-unfolding maskOf among
+unfolding maskOf has
 mask-none = column-none 64
 
 mask-cons : (f : ℕ) (fs : List ℕ) → f < 64 → withFact (maskOf fs) f ≡ maskOf (f ∷ fs)
-unfolding maskOf among
-mask-cons f fs l = column-with 64 f (among fs) l
+unfolding maskOf has
+mask-cons f fs l = column-with 64 f (λ (k : ℕ). has k fs) l
 
 -- no fact stands from an opener to the step's end, since there the step before it ends
 mask-opener : (k w : ℕ) (ws : List ℕ) → kind w ≡ 5 → 0 ≡ maskOf (factsFrom k (w ∷ ws))

@@ -7,6 +7,7 @@
 use Prim.Native.Nat.{ℕ}
 use mathlib.Core.Bool.{Bool, true, false, cond, _||_}
 use mathlib.Core.List.{List, [], _∷_}
+use lib.Dec.{eqb}
 use Rattle.image.specs.Word.{kind, payload, isKind, isFact, isEntry, headOf}
 use Rattle.image.specs.Checked.{firstWord, between}
 
@@ -15,6 +16,11 @@ pub record Step : Type 0 where
   pub needs : List ℕ
   pub sets : List ℕ
   pub clears : List ℕ
+
+-- fact f is one of the facts listed
+unfoldable pub has : ℕ → List ℕ → Bool
+has f [] = false
+has f (g ∷ gs) = eqb g f || has f gs
 
 -- "Kind 8 is an entry naming a step, kind 9 an entry naming a sequence."
 pub data Entry : Type 0 where

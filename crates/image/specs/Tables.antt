@@ -1,27 +1,21 @@
 -- Tables that the crates above look up: the steps' masks, and where each sequence stands.
 use Prim.Native.Nat.{ℕ, suc, _+_, _*_, _≤_, _<_}
 use mathlib.Core.Path.{_≡_}
-use mathlib.Core.Bool.{Bool, false, cond, _||_}
+use mathlib.Core.Bool.{cond}
 use mathlib.Core.List.{List, [], _∷_}
 use lib.ListN.{length, set}
-use lib.Dec.{eqb}
 use Rattle.column.specs.Column.{column, withFact}
 use Rattle.image.specs.Word.{payload, isKind}
 use Rattle.image.specs.Rules.{opened}
-use Rattle.image.specs.Library.{Step, factsFrom}
+use Rattle.image.specs.Library.{has, Step, factsFrom}
 use Rattle.image.specs.Accepted.{All, StepWord, SequenceWord, Numbered}
 use Rattle.image.specs.declared.answer.Head.{Head}
 use Rattle.image.specs.declared.tables.Masks.{Masks}
 
--- whether fact f is among the facts of a list
-unfoldable pub among : List ℕ → ℕ → Bool
-among [] f = false
-among (g ∷ gs) f = eqb g f || among gs f
-
--- the column of a list of facts: bit f exactly where fact f is among them
+-- the column of a list of facts: bit f exactly where fact f is one of them
 unfoldable pub maskOf : List ℕ → ℕ
-unfolding among column
-maskOf facts = column 64 (among facts)
+unfolding has column
+maskOf facts = column 64 (λ (f : ℕ). has f facts)
 
 -- three words a step, in the order of the steps: what it needs, sets and clears
 unfoldable pub masks : List Step → List ℕ

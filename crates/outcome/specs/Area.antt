@@ -1,0 +1,26 @@
+-- The outcome table as words: for each sequence eight 64-bit words, one for each column, in which bit f says of fact f what is
+-- possible.
+use Prim.Native.Nat.{ℕ, zero, suc}
+use mathlib.Core.List.{List, [], _∷_}
+use lib.ListN.{length}
+use Rattle.image.specs.Library.{Library}
+use Rattle.column.specs.Column.{column}
+use Rattle.outcome.specs.Possible.{columnPossible}
+
+-- column j of sequence c: bit f, for f below F, is set exactly where the column's outcome is possible, and no other bit is
+unfoldable pub outcomeWord : Library → ℕ → ℕ → ℕ
+unfolding column
+outcomeWord L j c = column (L .facts) (λ (f : ℕ). columnPossible L j c f)
+
+-- the words of n sequences from sequence c on
+unfoldable pub outcomeRows : Library → ℕ → ℕ → List ℕ
+unfolding outcomeWord
+outcomeRows L c zero = []
+outcomeRows L c (suc n) =
+    outcomeWord L 0 c ∷ outcomeWord L 1 c ∷ outcomeWord L 2 c ∷ outcomeWord L 3 c ∷ outcomeWord L 4 c ∷ outcomeWord L 5 c
+    ∷ outcomeWord L 6 c ∷ outcomeWord L 7 c ∷ outcomeRows L (suc c) n
+
+-- the whole table, sequence 0 first
+unfoldable pub outcomes : Library → List ℕ
+unfolding outcomeRows
+outcomes L = outcomeRows L 0 (length (L .sequences))

@@ -1,0 +1,1 @@
+// Runs, touches and outcomes: the definitions of source documents 000 and 001, and their theory.
