@@ -5,6 +5,8 @@ pub mod Outcome
 pub mod Possible
 pub mod Reading
 pub mod Rows
+pub mod Words
+pub mod Walks
 pub mod Columns
 pub mod Execution
 pub mod Published

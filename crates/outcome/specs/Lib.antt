@@ -9,4 +9,6 @@ pub mod Possible
 pub mod Table
 pub mod Reading
 pub mod Rows
+pub mod Words
+pub mod Walks
 pub mod Published
