@@ -1,6 +1,6 @@
 -- What the tables say where they are looked up: a step's three words bit by bit, and a sequence by its place.
 -- Assumes nothing.
-use Prim.Native.Nat.{ℕ, zero, suc, _+_, _*_, _<_}
+use Prim.Native.Nat.{ℕ, zero, suc, _+_, _*_, _^_, _<_}
 use native.Mathlib.Nat.{le-of-suc-le-suc, zero-add}
 use native.Mathlib.Omega.{arith}
 use mathlib.Core.Path.{_≡_, refl, ap, _∙_}
@@ -9,7 +9,7 @@ use mathlib.Core.List.{List, [], _∷_}
 use lib.ListN.{length, getD, drop}
 use mir.Val.{boolByte}
 use Rattle.column.specs.Column.{bit}
-use Rattle.column.proofs.Bits.{bit-column}
+use Rattle.column.proofs.Bits.{bit-column, column-lt}
 use Rattle.image.specs.Word.{kind, isKind}
 use Rattle.image.specs.Rules.{opened}
 use Rattle.image.specs.Library.{has, Step, alternativesFrom, sequencesFrom}
@@ -21,6 +21,16 @@ use borrow.Author.Tests.{eqb-false}
 pub mask-bit : (facts : List ℕ) (f : ℕ) → f < 64 → bit (maskOf facts) f ≡ boolByte (has f facts)
 unfolding maskOf
 mask-bit facts f l = bit-column 64 (λ (g : ℕ). has g facts) f l
+
+pub mask-lt : (facts : List ℕ) → maskOf facts < 2 ^ 64
+unfolding maskOf
+mask-lt facts = column-lt 64 (λ (g : ℕ). has g facts)
+
+-- three words a step
+pub masks-length : (ss : List Step) → length (masks ss) ≡ 3 * length ss
+unfolding masks
+masks-length [] = refl
+masks-length (s ∷ ss) = omega (arith, masks-length ss)
 
 -- the words of step a
 pub row-at : (ss : List Step) (a : ℕ) (d : Step) → a < length ss
@@ -75,3 +85,13 @@ place-at ws c l =
     let o = opens-at ws 0 c l in
     let e : getD (placesFrom 0 ws) c 0 ≡ o .j = o .index ∙ zero-add (o .j) in
     rw e (record { within = o .within; opener = o .opener; reads = o .reads })
+
+-- a word a sequence
+pub places-length : (i : ℕ) (ws : List ℕ) → length (placesFrom i ws) ≡ opened 6 ws
+unfolding placesFrom opened
+places-length i [] = refl
+places-length i (w ∷ ws) = go (isKind 6 w) (places-length (suc i) ws)
+  where
+    go : (b : Bool) → length (placesFrom (suc i) ws) ≡ opened 6 ws → length (cond b (i ∷ placesFrom (suc i) ws) (placesFrom (suc i) ws)) ≡ boolByte b + opened 6 ws
+    go true ih = omega arith
+    go false ih = omega arith

@@ -7,6 +7,7 @@ pub mod Reading
 pub mod Rows
 pub mod Words
 pub mod Walks
+pub mod Bridge
 pub mod Columns
 pub mod Execution
 pub mod Published

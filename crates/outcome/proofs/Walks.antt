@@ -25,28 +25,24 @@ entry-high : (w : ℕ) → isEntry w ≡ true → 8 ≤ kind w
 entry-high w e =
     ⊎-elim (λ p. omega (arith, eqb-true (kind w) 8 p)) (λ p. omega (arith, eqb-true (kind w) 9 p)) (or-cases (isKind 8 w) (isKind 9 w) e)
 
-module _ (all : ℕ) (masks table part : List ℕ) where
-  fold : Row → List ℕ → Row
-  fold X ws = foldWords all masks table X ws
+-- ---- one word
 
-  united : Row → List ℕ → Row
-  united X ws = sequenceWords all masks table X ws
-
-  -- ---- one word
-
-  fold-cons : (X : Row) (w : ℕ) (ws : List ℕ) (b : Bool) → isEntry w ≡ b
-      → fold X (w ∷ ws) ≡ cond b (fold (joinRows X (entryWord all masks table w)) ws) X
-  unfolding fold foldWords
+module _ (all : ℕ) (masks table : List ℕ) where
+  pub fold-cons : (X : Row) (w : ℕ) (ws : List ℕ) (b : Bool) → isEntry w ≡ b
+      → foldWords all masks table X (w ∷ ws) ≡ cond b (foldWords all masks table (joinRows X (entryWord all masks table w)) ws) X
+  unfolding foldWords
   fold-cons X w ws b e = ap (λ (c : Bool). cond c (foldWords all masks table (joinRows X (entryWord all masks table w)) ws) X) e
 
-  united-cons : (X : Row) (w : ℕ) (ws : List ℕ) (a b : Bool) → isKind 6 w ≡ a → isKind 7 w ≡ b
-      → united X (w ∷ ws) ≡ cond a X (cond b (united (orRows X (alternativeWords all masks table ws)) ws) (united X ws))
-  unfolding united sequenceWords
+  pub united-cons : (X : Row) (w : ℕ) (ws : List ℕ) (a b : Bool) → isKind 6 w ≡ a → isKind 7 w ≡ b
+      → sequenceWords all masks table X (w ∷ ws)
+      ≡ cond a X (cond b (sequenceWords all masks table (orRows X (alternativeWords all masks table ws)) ws) (sequenceWords all masks table X ws))
+  unfolding sequenceWords
   united-cons X w ws a b e f =
       let S = sequenceWords all masks table in
       ap (λ (c : Bool). cond c X (cond (isKind 7 w) (S (orRows X (alternativeWords all masks table ws)) ws) (S X ws))) e
       ∙ ap (λ (c : Bool). cond a X (cond c (S (orRows X (alternativeWords all masks table ws)) ws) (S X ws))) f
 
+module _ (all : ℕ) (masks table part : List ℕ) where
   -- ---- the entries of an alternative
 
   pub record Folding (at : ℕ) (x : Row) (i : ℕ) : Type 0 where
@@ -60,7 +56,6 @@ module _ (all : ℕ) (masks table part : List ℕ) where
 
   module _ (at : ℕ) (x : Row) (i : ℕ) (here : Folding at x i) where
     pub folding-turn : i < length part → isEntry (getD part i 0) ≡ true → Folding at (joinRows x (entryWord all masks table (getD part i 0))) (i + 1)
-    unfolding fold united
     folding-turn l e =
         let w = getD part i 0 in
         let rest = drop (suc i) part in
@@ -72,18 +67,18 @@ module _ (all : ℕ) (masks table part : List ℕ) where
           within = omega arith;
           same =
               ap (foldWords all masks table (joinRows x (entryWord all masks table w))) next
-              ∙ sym (ap (foldWords all masks table x) cut ∙ fold-cons x w rest true e)
+              ∙ sym (ap (foldWords all masks table x) cut ∙ fold-cons all masks table x w rest true e)
               ∙ here .same;
           skips = λ X.
               here .skips X ∙ ap (sequenceWords all masks table X) cut
-              ∙ united-cons X w rest false false (ne-eqb (kind w) 6 (λ q. omega arith)) (ne-eqb (kind w) 7 (λ q. omega arith))
+              ∙ united-cons all masks table X w rest false false (ne-eqb (kind w) 6 (λ q. omega arith)) (ne-eqb (kind w) 7 (λ q. omega arith))
               ∙ ap (sequenceWords all masks table X) (sym next);
         }
 
     pub folding-out : i < length part → isEntry (getD part i 0) ≡ false → liveRow x ≡ alternativeWords all masks table (drop at part)
-    unfolding alternativeWords fold
+    unfolding alternativeWords
     folding-out l e =
-        ap liveRow (sym (ap (foldWords all masks table x) (drop-cons part i 0 l) ∙ fold-cons x (getD part i 0) (drop (suc i) part) false e) ∙ here .same)
+        ap liveRow (sym (ap (foldWords all masks table x) (drop-cons part i 0 l) ∙ fold-cons all masks table x (getD part i 0) (drop (suc i) part) false e) ∙ here .same)
 
     pub folding-end : i ≡ length part → liveRow x ≡ alternativeWords all masks table (drop at part)
     unfolding alternativeWords foldWords
@@ -101,9 +96,8 @@ module _ (all : ℕ) (masks table part : List ℕ) where
   module _ (at : ℕ) (x : Row) (i : ℕ) (here : Uniting at x i) where
     -- the next sequence
     pub uniting-out : i < length part → isKind 6 (getD part i 0) ≡ true → x ≡ sequenceWords all masks table noRow (drop at part)
-    unfolding united
     uniting-out l e =
-        sym (ap (sequenceWords all masks table x) (drop-cons part i 0 l) ∙ united-cons x (getD part i 0) (drop (suc i) part) true (isKind 7 (getD part i 0)) e refl)
+        sym (ap (sequenceWords all masks table x) (drop-cons part i 0 l) ∙ united-cons all masks table x (getD part i 0) (drop (suc i) part) true (isKind 7 (getD part i 0)) e refl)
         ∙ here .same
 
     pub uniting-end : i ≡ length part → x ≡ sequenceWords all masks table noRow (drop at part)
@@ -111,21 +105,20 @@ module _ (all : ℕ) (masks table part : List ℕ) where
     uniting-end l = sym (ap (sequenceWords all masks table x) (ap (λ (n : ℕ). drop n part) l ∙ drop-length part)) ∙ here .same
 
     after : (b : Bool) → i < length part → isKind 6 (getD part i 0) ≡ false → isKind 7 (getD part i 0) ≡ b
-        → cond b (united (orRows x (alternativeWords all masks table (drop (i + 1) part))) (drop (i + 1) part)) (united x (drop (i + 1) part)) ≡ united noRow (drop at part)
-    unfolding united
+        → cond b (sequenceWords all masks table (orRows x (alternativeWords all masks table (drop (i + 1) part))) (drop (i + 1) part))
+        (sequenceWords all masks table x (drop (i + 1) part))
+        ≡ sequenceWords all masks table noRow (drop at part)
     after b l e f =
         rw (add-one i)
-        (sym (ap (sequenceWords all masks table x) (drop-cons part i 0 l) ∙ united-cons x (getD part i 0) (drop (suc i) part) false b e f) ∙ here .same)
+        (sym (ap (sequenceWords all masks table x) (drop-cons part i 0 l) ∙ united-cons all masks table x (getD part i 0) (drop (suc i) part) false b e f) ∙ here .same)
 
     -- an entry
     pub uniting-skip : i < length part → isKind 6 (getD part i 0) ≡ false → isKind 7 (getD part i 0) ≡ false → Uniting at x (i + 1)
-    unfolding united
     uniting-skip l e f = record { within = omega arith; same = after false l e f }
 
     -- an alternative
     pub uniting-turn : i < length part → isKind 6 (getD part i 0) ≡ false → isKind 7 (getD part i 0) ≡ true → (r : Read)
         → AlternativeRead all masks table part (i + 1) r → Uniting at (orRows x (r .row)) (r .next)
-    unfolding united
     uniting-turn l e f r read =
         record {
           within = read .within;

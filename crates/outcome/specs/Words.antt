@@ -6,7 +6,7 @@ use mathlib.Core.List.{List, [], _∷_}
 use lib.ListN.{length, getD, set}
 use lib.Bits.{bitAnd, bitOr}
 use lib.Dec.{eqb}
-use Rattle.image.specs.Word.{payload, isKind, isEntry}
+use Rattle.column.specs.Column.{bit}
 use Rattle.outcome.specs.declared.row.Marks.{Marks}
 use Rattle.outcome.specs.declared.row.Row.{Row}
 
@@ -131,3 +131,16 @@ withRow table c r =
     (8 * c + 5) (r .first .present))
     (8 * c + 6) (r .first .absent))
     (8 * c + 7) (r .first .untouched)
+
+-- the words of a row in the order of the columns
+abbrev pub wordsOf : Row → List ℕ
+wordsOf r =
+    r .run ∷ r .empty ∷ r .last .present ∷ r .last .absent ∷ r .last .untouched ∷ r .first .present ∷ r .first .absent ∷ r .first .untouched ∷ []
+
+-- whether bit f is set
+abbrev pub isSet : ℕ → ℕ → Bool
+isSet n f = eqb (bit n f) 1
+
+-- what a row of words says of fact f
+abbrev pub bitRow : Row → ℕ → ℕ → Bool
+bitRow r f j = isSet (getD (wordsOf r) j 0) f
