@@ -6,9 +6,11 @@ pub mod Possible
 pub mod Reading
 pub mod Rows
 pub mod Words
+pub mod Visits
 pub mod Walks
 pub mod Bridge
 pub mod Columns
 pub mod Execution
 pub mod Published
 pub mod Sample
+pub mod Stores

@@ -11,4 +11,5 @@ pub mod Reading
 pub mod Rows
 pub mod Words
 pub mod Walks
+pub mod Passes
 pub mod Published

@@ -1,3 +1,4 @@
 // Runs, touches and outcomes: the definitions of source documents 000 and 001, their theory, and the table of what is possible.
+pub mod pass;
 pub mod read;
 pub mod row;
