@@ -1,6 +1,7 @@
 pub mod Tests
 pub mod Run
 pub mod Levels
+pub mod Low
 pub mod Outcome
 pub mod Possible
 pub mod Reading
@@ -13,4 +14,5 @@ pub mod Columns
 pub mod Execution
 pub mod Published
 pub mod Sample
+pub mod Settled
 pub mod Stores
