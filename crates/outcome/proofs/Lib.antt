@@ -1,5 +1,7 @@
 pub mod Tests
 pub mod Run
+pub mod Fill
+pub mod Filled
 pub mod Levels
 pub mod Low
 pub mod Outcome
@@ -10,6 +12,7 @@ pub mod Words
 pub mod Visits
 pub mod Walks
 pub mod Bridge
+pub mod Clear
 pub mod Columns
 pub mod Execution
 pub mod Published

@@ -37,7 +37,7 @@ module _ (n : ℕ) where
   and-low : (a b : ℕ) → a < 2 ^ n → bitAnd a b < 2 ^ n
   and-low a b l = lt-of-le-of-lt (and-le-l a b) l
 
-  none-low : LowRow noRow
+  pub none-low : LowRow noRow
   none-low = let z = pow-pos n in record { run = z; empty = z; last = (z, z, z); first = (z, z, z) }
 
   start-low : LowRow (startRow (allFacts n))

@@ -61,7 +61,7 @@ none-row f = by-column (λ (j : ℕ). bitRow noRow f j ≡ false) (none-set f) (
     side first absent = none-set f
     side first untouched = none-set f
 
-blank-row : (t : List ℕ) → ((k : ℕ) → getD t k 0 ≡ 0) → (c : ℕ) → rowIn t c ≡ noRow
+pub blank-row : (t : List ℕ) → ((k : ℕ) → getD t k 0 ≡ 0) → (c : ℕ) → rowIn t c ≡ noRow
 blank-row t blank c i =
     record {
       run = blank (8 * c) i;

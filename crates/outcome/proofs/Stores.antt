@@ -91,11 +91,11 @@ lacking-append [] ys = omega arith
 lacking-append (x ∷ xs) ys = omega (arith, lacking-append xs ys)
 
 -- n words from index i on
-wordsFrom : ℕ → List ℕ → ℕ → List ℕ
+unfoldable pub wordsFrom : ℕ → List ℕ → ℕ → List ℕ
 wordsFrom zero l i = []
 wordsFrom (suc n) l i = getD l i 0 ∷ wordsFrom n l (suc i)
 
-take-words : (n : ℕ) (l : List ℕ) (i : ℕ) → i + n ≤ length l → take n (drop i l) ≡ wordsFrom n l i
+pub take-words : (n : ℕ) (l : List ℕ) (i : ℕ) → i + n ≤ length l → take n (drop i l) ≡ wordsFrom n l i
 unfolding wordsFrom
 take-words zero l i room = refl
 take-words (suc n) l i room =

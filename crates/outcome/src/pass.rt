@@ -58,7 +58,7 @@ fn forward_pass(
     masks: &[u64],
     part: &[u32],
     places: &[u32],
-    order: &[u32],
+    order: &[usize],
     table: &mut [u64],
     n: usize,
 )
@@ -67,7 +67,7 @@ fn forward_pass(
 {
     let mut i = 0;
     while i < order.len() {
-        let c = order[i] as usize;
+        let c = order[i];
         i += 1;
         if c < n {
             visit(all, masks, part, places, table, n, c);
@@ -81,7 +81,7 @@ fn backward_pass(
     masks: &[u64],
     part: &[u32],
     places: &[u32],
-    order: &[u32],
+    order: &[usize],
     table: &mut [u64],
     n: usize,
 )
@@ -91,7 +91,7 @@ fn backward_pass(
     let mut i = order.len();
     while 0 < i {
         i -= 1;
-        let c = order[i] as usize;
+        let c = order[i];
         if c < n {
             visit(all, masks, part, places, table, n, c);
         }
@@ -104,7 +104,7 @@ fn round(
     masks: &[u64],
     part: &[u32],
     places: &[u32],
-    order: &[u32],
+    order: &[usize],
     table: &mut [u64],
     n: usize,
 ) -> bool
@@ -122,7 +122,7 @@ pub fn settle(
     masks: &[u64],
     part: &[u32],
     places: &[u32],
-    order: &[u32],
+    order: &[usize],
     table: &mut [u64],
     n: usize,
 )

@@ -31,9 +31,6 @@ mul-c c = search needs
 shared-slice-read-c : tie.Need-shared-slice-read-c Inv-loop μ-loop
 shared-slice-read-c c = search needs
 
-cast-c : tie.Need-cast-c Inv-loop μ-loop
-cast-c c = omega (arith, c .shared-slice-known5 .given (c .before .before .loop .i - 1))
-
 visit-requires : tie.Need-visit-requires Inv-loop μ-loop
 visit-requires c κs =
     let at-loop = c .before .before .before .before in
@@ -76,7 +73,6 @@ backward-pass-spec =
     sub-i
     mul-c
     shared-slice-read-c
-    cast-c
     visit-requires
     loop-less
     loop-again

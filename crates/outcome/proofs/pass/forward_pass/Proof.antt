@@ -28,9 +28,6 @@ mul-c c = search needs
 shared-slice-read-c : tie.Need-shared-slice-read-c Inv-loop μ-loop
 shared-slice-read-c c = search needs
 
-cast-c : tie.Need-cast-c Inv-loop μ-loop
-cast-c c = omega (arith, c .shared-slice-known5 .given (c .before .before .loop .i))
-
 add-i : tie.Need-add-i Inv-loop μ-loop
 add-i c = search needs
 
@@ -75,7 +72,6 @@ forward-pass-spec =
     loop-holds
     mul-c
     shared-slice-read-c
-    cast-c
     add-i
     visit-requires
     loop-less
