@@ -1,0 +1,4 @@
+pub mod Card
+pub mod Answer
+pub mod Meaning
+pub mod Row
