@@ -6,14 +6,15 @@ use native.Mathlib.Nat.{pow-suc}
 use native.Mathlib.Omega.{arith}
 use mathlib.Core.Path.{_≡_, refl, sym, ap, ap₂, _∙_}
 use mathlib.Core.Logic.{_↔_}
-use mathlib.Core.Bool.{Bool, true, false, not, _&&_, _||_, false≢true}
+use mathlib.Core.Bool.{Bool, true, false, not, _&&_, _||_, false≢true, true≢false}
 use lib.Bits.{bitAnd, bitOr, or-lt, and-lt, and-le-l}
 use lib.Count.{ones, ones-step}
+use lib.Dec.{eqb}
 use lib.Pow.{pow-mono, pow-pos}
 use mir.Val.{boolByte}
 use Rattle.column.specs.Column.{bit, column}
 use Rattle.column.specs.Sets.{difference, inColumn, countBelow}
-use Rattle.column.proofs.Bits.{bit-or, bit-and, bit-not, bit-high, column-lt, bit-column, column-is}
+use Rattle.column.proofs.Bits.{bit-or, bit-and, bit-not, bit-high, column-lt, bit-column, column-is, column-same}
 
 -- ---- tests as bits
 
@@ -94,3 +95,32 @@ byte-one false = ((λ e. absurd (omega arith)), λ e. absurd (false≢true e))
 -- a fact is in the column of a test exactly where it is below the width and the test holds of it
 pub bit-one : (n : ℕ) (p : ℕ → Bool) (k : ℕ) → k < n → (bit (column n p) k ≡ 1) ↔ (p k ≡ true)
 bit-one n p k l = ((λ e. byte-one (p k) .0 (sym (bit-column n p k l) ∙ e)), λ e. bit-column n p k l ∙ byte-one (p k) .1 e)
+
+byte-zero : (b : Bool) → (boolByte b ≡ 0) ↔ (b ≡ false)
+byte-zero true = ((λ e. absurd (omega arith)), λ e. absurd (true≢false e))
+byte-zero false = ((λ e. refl), λ e. refl)
+
+-- and is missing from it exactly where the test does not hold
+pub bit-null : (n : ℕ) (p : ℕ → Bool) (k : ℕ) → k < n → (bit (column n p) k ≡ 0) ↔ (p k ≡ false)
+bit-null n p k l = ((λ e. byte-zero (p k) .0 (sym (bit-column n p k l) ∙ e)), λ e. bit-column n p k l ∙ byte-zero (p k) .1 e)
+
+byte-test : (b : Bool) → eqb (boolByte b) 1 ≡ b
+byte-test true = refl
+byte-test false = refl
+
+pub in-column : (n : ℕ) (p : ℕ → Bool) (k : ℕ) → k < n → inColumn (column n p) k ≡ p k
+unfolding inColumn
+in-column n p k l = ap (λ (b : ℕ). eqb b 1) (bit-column n p k l) ∙ byte-test (p k)
+
+-- no fact from the width on is in a column
+pub column-high : (n : ℕ) (p : ℕ → Bool) (k : ℕ) → n ≤ k → bit (column n p) k ≡ 0
+column-high n p k l = bit-high n (column n p) k (column-lt n p) l
+
+-- counts of tests that agree are equal
+pub count-same : (n : ℕ) (p q : ℕ → Bool) → ((k : ℕ) → k < n → p k ≡ q k) → countBelow n p ≡ countBelow n q
+count-same n p q same = sym (ones-column n p) ∙ ap ones (column-same n p q same) ∙ ones-column n q
+
+pub count-none : (n : ℕ) → countBelow n (λ (k : ℕ). false) ≡ 0
+unfolding countBelow
+count-none zero = refl
+count-none (suc n) = omega (arith, count-none n)
