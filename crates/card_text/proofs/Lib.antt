@@ -1,0 +1,4 @@
+pub mod Lines
+pub mod Numeral
+pub mod Text
+pub mod Words
