@@ -1,6 +1,7 @@
 -- The card call's answer for every image and every card area, the area after it, and the number that the C side gets (document 01,
 -- "Turned down, in checking order", "The card" and "Chains").
 use Prim.Native.Nat.{ℕ, _*_}
+use mathlib.Core.Path.{_≡_}
 use mathlib.Core.Bool.{cond}
 use mathlib.Core.List.{List, _++_}
 use lib.ListN.{length, drop}
@@ -36,3 +37,8 @@ cardArea image area = areaAfter (cardsOf image area) image area
 abbrev pub cardsAnswer : Cards → ℕ
 cardsAnswer (Cards.Filled n) = n
 cardsAnswer (Cards.Refused r) = refusalAnswer r
+
+-- what the card call does: its answer, and the area after it
+pub record Called (image area : List ℕ) (answer : Cards) (after : List ℕ) : Type 0 where
+  pub answer : answer ≡ cardsOf image area
+  pub area : after ≡ cardArea image area
