@@ -39,6 +39,6 @@ cardsAnswer (Cards.Filled n) = n
 cardsAnswer (Cards.Refused r) = refusalAnswer r
 
 -- what the card call does: its answer, and the area after it
-pub record Called (image area : List ℕ) (answer : Cards) (after : List ℕ) : Type 0 where
-  pub answer : answer ≡ cardsOf image area
-  pub area : after ≡ cardArea image area
+pub record Called (image before : List ℕ) (found : Cards) (after : List ℕ) : Type 0 where
+  pub answer : found ≡ cardsOf image before
+  pub area : after ≡ cardArea image before
