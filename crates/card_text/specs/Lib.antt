@@ -2,3 +2,4 @@ pub mod Words
 pub mod Text
 pub mod Number
 pub mod Line
+pub mod Print

@@ -3,3 +3,4 @@
 pub mod bytes;
 pub mod line;
 pub mod number;
+pub mod print;
