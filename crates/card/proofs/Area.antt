@@ -54,7 +54,7 @@ unfolding cards
 length-cards L = length-from L 0 (length (L .sequences))
 
 -- where the call answers a count, the image is accepted with that count, and the area has room
-filled : (found : Checked) (room n : ℕ) → answered found room ≡ Cards.Filled n
+pub filled : (found : Checked) (room n : ℕ) → answered found room ≡ Cards.Filled n
     → (h : Head) × (found ≡ Checked.Accepted h) × (h .sequences ≡ n) × (cardWords * n ≤ room)
 filled (Checked.Refused r) room n e = let no : _≡_ {A = ℕ} 0 1 = cc in absurd (omega arith)
 filled (Checked.Accepted h) room n e = go (ltb room (cardWords * h .sequences)) refl e
