@@ -27,7 +27,7 @@ use Rattle.card_text.specs.Line.{cardLine, linesFrom, cardLines, refusal
 use Rattle.card_text.specs.Print.{answerText, imageText, printed, AnswerAsked}
 
 -- four bytes a word
-length-words : (bytes : List ℕ) → length (wordsOf bytes) ≡ length bytes / 4
+pub length-words : (bytes : List ℕ) → length (wordsOf bytes) ≡ length bytes / 4
 unfolding wordsOf
 length-words [] = refl
 length-words (a ∷ []) = omega arith
