@@ -1,4 +1,6 @@
 // Columns: 64-bit words in which bit f says something of fact f.
+pub mod sets;
+
 ghost use mathlib.Core.Path.{_≡_};
 ghost use Prim.Native.Nat.{_<_};
 ghost use Rattle.column.specs.Column.{withFact};

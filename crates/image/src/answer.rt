@@ -45,7 +45,7 @@ pub enum Checked {
 }
 
 // Document 01's number of a refusal.
-fn number(refusal: Refusal) -> u64
+pub fn number(refusal: Refusal) -> u64
     ensures { λ r. ⌜ (r ≡ refusalNumber refusal) × (r ≤ 12) ⌝ }
 {
     match refusal {
@@ -65,7 +65,7 @@ fn number(refusal: Refusal) -> u64
 }
 
 // The word position of a refusal.
-fn position(refusal: Refusal) -> u32
+pub fn position(refusal: Refusal) -> u32
     ensures { λ r. ⌜ r ≡ refusalPosition refusal ⌝ }
 {
     match refusal {

@@ -1,0 +1,59 @@
+-- The card call: refused, too little room, or the cards of the outcome table written.
+-- Assumes nothing.
+use Prim.Native.Nat.{ℕ, _*_, _≤_, _<_}
+use native.Mathlib.Omega.{arith}
+use mathlib.Core.Path.{_≡_, refl, sym, ap, ap₂, _∙_}
+use mathlib.Core.Bool.{Bool, cond}
+use mathlib.Core.List.{List, _++_}
+use lib.ListN.{length, drop}
+use borrow.Author.Tests.{lt-ltb, le-ltb}
+use Rattle.image.specs.Library.{Library, libraryOf}
+use Rattle.image.specs.Checked.{checked}
+use Rattle.image.specs.Accepted.{Counted, Faultless}
+use Rattle.image.specs.declared.answer.Head.{Head}
+use Rattle.image.specs.declared.answer.Refusal.{Refusal}
+use Rattle.image.specs.declared.answer.Refusal.the-variants.{CardArea}
+use Rattle.image.specs.declared.answer.Checked.{Checked}
+use Rattle.image.proofs.Accepted.{faultless, counted}
+use Rattle.outcome.specs.Area.{outcomes}
+use Rattle.card.specs.Card.{cardWords, cards}
+use Rattle.card.specs.Row.{tableCards}
+use Rattle.card.specs.Answer.{answered, cardsOf, areaAfter, cardArea, Called}
+use Rattle.card.specs.declared.answer.Cards.{Cards}
+use Rattle.card.proofs.Table.{table-cards}
+
+-- an answer, and the area that goes with it
+called : (image area : List ℕ) (found : Checked) (answer : Cards) (after : List ℕ) → checked image ≡ found
+    → answered found (length area) ≡ answer → after ≡ areaAfter answer image area → Called image area answer after
+called image area found answer after e a w =
+    let same : cardsOf image area ≡ answer = ap (λ (f : Checked). answered f (length area)) e ∙ a in
+    record { answer = sym same; area = w ∙ ap (λ (c : Cards). areaAfter c image area) (sym same) }
+
+-- 1 to 7
+pub call-refused : (image area : List ℕ) (r : Refusal) → checked image ≡ Checked.Refused r → Called image area (Cards.Refused r) area
+call-refused image area r e = called image area (Checked.Refused r) (Cards.Refused r) area e refl refl
+
+module _ (image area : List ℕ) (h : Head) (accepted : checked image ≡ Checked.Accepted h) where
+  -- 8
+  pub call-short : length area < 7 * h .sequences → Called image area (Cards.Refused CardArea) area
+  call-short l =
+      called image area (Checked.Accepted h) (Cards.Refused CardArea) area accepted
+      (ap (λ (b : Bool). cond b (Cards.Refused CardArea) (Cards.Filled (h .sequences))) (lt-ltb (length area) (7 * h .sequences) l)) refl
+
+  -- the outcome table of an accepted image has at most 256 rows
+  pub call-rows : 8 * h .sequences ≤ 2048
+  call-rows = omega (arith, faultless image h accepted .sequences-high)
+
+  pub call-filled : 7 * h .sequences ≤ length area → (table rest after : List ℕ) → table ≡ outcomes (libraryOf image) ++ rest
+      → after ≡ tableCards table 0 (h .sequences) ++ drop (7 * h .sequences) area → Called image area (Cards.Filled (h .sequences)) after
+  call-filled l table rest after t w =
+      let L = libraryOf image in
+      let has : Counted L h = counted image h accepted in
+      let right : Faultless image h = faultless image h accepted in
+      let low : 1 ≤ L .facts = omega (arith, has .facts, right .facts-low) in
+      let high : L .facts ≤ 64 = omega (arith, has .facts, right .facts-high) in
+      let written : tableCards table 0 (h .sequences) ≡ cards L =
+              ap₂ (λ (x : List ℕ) (n : ℕ). tableCards x 0 n) t (sym (has .sequences)) ∙ table-cards L low high rest in
+      called image area (Checked.Accepted h) (Cards.Filled (h .sequences)) after accepted
+      (ap (λ (b : Bool). cond b (Cards.Refused CardArea) (Cards.Filled (h .sequences))) (le-ltb (length area) (7 * h .sequences) l))
+      (w ∙ ap (λ (x : List ℕ). x ++ drop (7 * h .sequences) area) written)

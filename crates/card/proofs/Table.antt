@@ -1,0 +1,70 @@
+-- The cards of the outcome table are the cards of the library: each word of a row is a column of what is possible.
+-- Assumes nothing.
+use Prim.Native.Nat.{ℕ, zero, suc, _+_, _*_, _%_, _≤_, _<_}
+use native.Mathlib.Omega.{arith}
+use mathlib.Core.Path.{_≡_, refl, sym, ap, ap₂, _∙_}
+use mathlib.Core.Bool.{Bool, _&&_, _||_, not}
+use mathlib.Core.List.{List, [], _∷_, _++_}
+use lib.ListN.{length, take, drop}
+use lib.Seq.{drop-drop}
+use lib.Bits.{bitOr}
+use lib.Count.{ones}
+use mir.Val.{boolByte}
+use Rattle.column.specs.Column.{column}
+use Rattle.column.specs.Sets.{difference}
+use Rattle.column.proofs.Bits.{bit-zero, bit-column}
+use Rattle.column.proofs.Operations.{column-or, column-difference, ones-column}
+use Rattle.image.specs.Library.{Library}
+use Rattle.outcome.specs.Touch.{Question, rival, untouchedOn, lastSet, lastCleared, firstNeeded}
+use Rattle.outcome.specs.Possible.{columnPossible, possibleOutcome, hasRun, hasEmptyRun}
+use Rattle.outcome.specs.Area.{outcomeWord, outcomeRows, outcomes}
+use Rattle.card.specs.Card.{may, always, changeable, flags, card, cardsFrom, cards}
+use Rattle.card.specs.Row.{flagsOf, alwaysOf, rowCard, rowAt, tableCards}
+
+module _ (L : Library) (low : 1 ≤ L .facts) (high : L .facts ≤ 64) (c : ℕ) where
+  -- the lowest bit of a column says of fact 0 what the column says
+  lowest : (j : ℕ) → outcomeWord L j c % 2 ≡ boolByte (columnPossible L j c 0)
+  unfolding outcomeWord
+  lowest j = sym (bit-zero (outcomeWord L j c)) ∙ bit-column (L .facts) (columnPossible L j c) 0 low
+
+  flags-word : flagsOf (outcomeWord L 0 c) (outcomeWord L 1 c) (outcomeWord L 2 c) (outcomeWord L 3 c) ≡ flags L c
+  unfolding flags outcomeWord
+  flags-word =
+      let count : ones (bitOr (outcomeWord L 2 c) (outcomeWord L 3 c)) ≡ changeable L c =
+              ap ones (column-or (L .facts) (columnPossible L 2 c) (columnPossible L 3 c))
+              ∙ ones-column (L .facts) (λ (f : ℕ). columnPossible L 2 c f || columnPossible L 3 c f) in
+      omega (arith, lowest 0, lowest 1, count)
+
+  always-word : (q : Question)
+      → alwaysOf (outcomeWord L 0 c) (may L (rival q) c) (may L (untouchedOn q) c) ≡ always L q c
+  unfolding may always outcomeWord
+  always-word q =
+      let rivals = column-or (L .facts) (λ (f : ℕ). possibleOutcome L (rival q) c f) (λ (f : ℕ). possibleOutcome L (untouchedOn q) c f) in
+      ap (difference 64 (outcomeWord L 0 c)) rivals
+      ∙ column-difference 64 (L .facts) (λ (f : ℕ). hasRun L c)
+      (λ (f : ℕ). possibleOutcome L (rival q) c f || possibleOutcome L (untouchedOn q) c f) high
+
+  -- a row's card
+  row-card : rowCard
+      (outcomeWord L 0 c ∷ outcomeWord L 1 c ∷ outcomeWord L 2 c ∷ outcomeWord L 3 c ∷ outcomeWord L 4 c ∷ outcomeWord L 5 c
+      ∷ outcomeWord L 6 c ∷ outcomeWord L 7 c ∷ [])
+      ≡ card L c
+  unfolding rowCard card outcomeWord
+  row-card i =
+      flags-word i ∷ always-word firstNeeded i ∷ may L firstNeeded c ∷ may L lastSet c ∷ may L lastCleared c ∷ always-word lastSet i
+      ∷ always-word lastCleared i ∷ []
+
+module _ (L : Library) (low : 1 ≤ L .facts) (high : L .facts ≤ 64) (rest : List ℕ) where
+  rows-cards : (table : List ℕ) (c n : ℕ) → drop (8 * c) table ≡ outcomeRows L c n ++ rest → tableCards table c n ≡ cardsFrom L c n
+  unfolding tableCards cardsFrom outcomeRows
+  rows-cards table c zero e = refl
+  rows-cards table c (suc n) e =
+      let eight : 8 * c + 8 ≡ 8 * suc c = omega arith in
+      let next : drop (8 * suc c) table ≡ outcomeRows L (suc c) n ++ rest =
+              ap (λ (i : ℕ). drop i table) (sym eight) ∙ sym (drop-drop 8 (8 * c) table) ∙ ap (drop 8) e in
+      ap₂ (λ (x y : List ℕ). x ++ y) (ap (λ (r : List ℕ). rowCard (take 8 r)) e ∙ row-card L low high c) (rows-cards table (suc c) n next)
+
+  -- the cards of the outcome table, whatever stands after it
+  pub table-cards : tableCards (outcomes L ++ rest) 0 (length (L .sequences)) ≡ cards L
+  unfolding outcomes cards
+  table-cards = rows-cards (outcomes L ++ rest) 0 (length (L .sequences)) refl

@@ -1,0 +1,5 @@
+pub mod Card
+pub mod Answer
+pub mod Meaning
+pub mod Area
+pub mod Row

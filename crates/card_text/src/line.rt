@@ -1,0 +1,71 @@
+// The lines that the program prints: a card, the cards of all sequences, a refusal.
+use crate::bytes::put_byte;
+use crate::bytes::put_bytes;
+use crate::number::put_numeral;
+ghost use mathlib.Core.List.{_∷_};
+ghost use Prim.Native.Nat.{_+_, _*_, _≤_};
+ghost use lib.ListN.{length};
+ghost use Rattle.card_text.specs.Text.{InFront, PutWithin};
+ghost use Rattle.card_text.specs.Number.{numeral};
+ghost use Rattle.card_text.specs.Line.{spaced, cardLine, cardLines, refusalLine};
+
+// Puts a hexadecimal word, after a space, in front of the text that begins at `at`.
+fn put_word(text: &mut [u8], at: usize, w: u64) -> usize
+    requires { ⌜ (17 ≤ at) × (at ≤ length (now text)) ⌝ }
+    ensures { λ r. ⌜ PutWithin 17 (now (text .entry)) at (now (text .exit)) r (32 ∷ numeral 16 w) ⌝ }
+{
+    let begin = put_numeral(text, at, 16, w);
+    put_byte(text, begin, b' ')
+}
+
+// Puts the words of a card, each after a space, in front of the text that begins at `at`.
+fn put_words(text: &mut [u8], at: usize, card: &[u64]) -> usize
+    requires { ⌜ (17 * length (now card) ≤ at) × (at ≤ length (now text)) ⌝ }
+    ensures { λ r. ⌜ PutWithin (17 * length (now (card .entry))) (now (text .entry)) at (now (text .exit)) r (spaced (now (card .entry))) ⌝ }
+{
+    let mut i = card.len();
+    let mut begin = at;
+    while 0 < i {
+        i -= 1;
+        begin = put_word(text, begin, card[i]);
+    }
+    begin
+}
+
+// Puts a card's line in front of the text that begins at `at`.
+pub fn put_line(text: &mut [u8], at: usize, sequence: u32, card: &[u64]) -> usize
+    requires { ⌜ (17 * length (now card) + 11 ≤ at) × (at ≤ length (now text)) ⌝ }
+    ensures { λ r. ⌜ PutWithin (17 * length (now (card .entry)) + 11) (now (text .entry)) at (now (text .exit)) r (cardLine sequence (now (card .entry))) ⌝ }
+{
+    let end = put_byte(text, at, b'\n');
+    let words = put_words(text, end, card);
+    put_numeral(text, words, 10, sequence as u64)
+}
+
+// Puts the lines of the first `n` sequences, whose cards stand one after the other, in front of the text that begins at `at`.
+pub fn put_lines(text: &mut [u8], at: usize, n: u32, cards: &[u64]) -> usize
+    requires { ⌜ (130 * n ≤ at) × (at ≤ length (now text)) × (7 * n ≤ length (now cards)) ⌝ }
+    ensures { λ r. ⌜ InFront (now (text .entry)) at (now (text .exit)) r (cardLines (now (cards .entry)) n) ⌝ }
+{
+    let mut c = n;
+    let mut begin = at;
+    while 0 < c {
+        c -= 1;
+        let from = 7 * c as usize;
+        let to = from + 7;
+        begin = put_line(text, begin, c, &cards[from..to]);
+    }
+    begin
+}
+
+// Puts the line of a refusal in front of the text that begins at `at`.
+pub fn put_refusal(text: &mut [u8], at: usize, number: u64, position: u64) -> usize
+    requires { ⌜ (53 ≤ at) × (at ≤ length (now text)) ⌝ }
+    ensures { λ r. ⌜ InFront (now (text .entry)) at (now (text .exit)) r (refusalLine number position) ⌝ }
+{
+    let end = put_byte(text, at, b'\n');
+    let after = put_numeral(text, end, 10, position);
+    let between = put_bytes(text, after, b" at ");
+    let before = put_numeral(text, between, 10, number);
+    put_bytes(text, before, b"refused ")
+}
