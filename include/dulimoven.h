@@ -76,6 +76,69 @@ enum dulimoven_refusal {
  */
 uint64_t dulimoven_check(const uint32_t *image, size_t image_len);
 
+/*
+ * The words of a card, in their order. In all but the flags bit f is fact f. A
+ * fact is needed where a run first touches it by a need, set or cleared where
+ * the run's last touch sets or clears it. Without a run all words are 0.
+ */
+enum dulimoven_card_word {
+    /* dulimoven_has_run, dulimoven_has_empty_run, dulimoven_changeable */
+    DULIMOVEN_FLAGS = 0,
+    /* a run exists, and every run needs the fact */
+    DULIMOVEN_ALWAYS_NEEDED = 1,
+    /* some run needs it */
+    DULIMOVEN_MAY_NEED = 2,
+    /* some run sets it */
+    DULIMOVEN_MAY_SET = 3,
+    /* some run clears it */
+    DULIMOVEN_MAY_CLEAR = 4,
+    /* a run exists, and every run sets it */
+    DULIMOVEN_ALWAYS_SET = 5,
+    /* a run exists, and every run clears it */
+    DULIMOVEN_ALWAYS_CLEARED = 6,
+    /* how many words a card has */
+    DULIMOVEN_CARD_WORDS = 7
+};
+
+/*
+ * Fills the cards of all sequences of a library image.
+ *
+ * image      as for dulimoven_check.
+ * image_len  as for dulimoven_check.
+ * area       area_len words of 64 bits, lent for the call, which keeps no
+ *            pointer to them. They may not overlap the image, and no other
+ *            thread may read or write them before the call returns. An empty
+ *            area, area_len 0, may have a null pointer.
+ * area_len   how many words area has; 7 for each sequence are enough.
+ *
+ * Answers C, the number of sequences, at most 256. The card of sequence c
+ * stands in the 7 words from area[7 * c] on then, and the words after the last
+ * card are as they were. Otherwise the call answers one of refusals 1 to 7, as
+ * dulimoven_check does for the image, or
+ *   8  DULIMOVEN_CARD_AREA   area_len is below 7 * C; position 0
+ * and every word of the area is as it was.
+ */
+uint64_t dulimoven_cards(const uint32_t *image, size_t image_len,
+                         uint64_t *area, size_t area_len);
+
+/* Whether a card's sequence has a run. */
+static inline int dulimoven_has_run(const uint64_t *card)
+{
+    return (int)(card[DULIMOVEN_FLAGS] & 1u);
+}
+
+/* Whether it has an empty run. */
+static inline int dulimoven_has_empty_run(const uint64_t *card)
+{
+    return (int)(card[DULIMOVEN_FLAGS] >> 1 & 1u);
+}
+
+/* How many facts it may set or may clear: 0 to 64. */
+static inline uint32_t dulimoven_changeable(const uint64_t *card)
+{
+    return (uint32_t)(card[DULIMOVEN_FLAGS] >> 8 & 0x7fu);
+}
+
 /* An answer's refusal, 1 to 12, or 0 where the call refused nothing. */
 static inline uint32_t dulimoven_refusal_of(uint64_t answer)
 {
