@@ -17,7 +17,7 @@ fn refused(number: u64, position: u32) -> Answer {
 }
 
 // The numbers of document 01's list, written here once more and not taken from the reader.
-fn of_refusal(refusal: Refusal) -> Answer {
+pub fn of_refusal(refusal: Refusal) -> Answer {
     match refusal {
         Refusal::Length => refused(1, 0),
         Refusal::SumWord(p) => refused(2, p),

@@ -1,7 +1,8 @@
-// Runs the check on samples: those of document 01 that are not starred, and more for each refusal. Each table has a file of its
+// Runs the check and the card call on samples: those of document 01 that are not starred, and more for each refusal. Each table has a file of its
 // own, with the expected value of each row worked out from document 01 in a comment.
 mod accepted;
 mod answer;
+mod card_area;
 mod fact_order;
 mod head_word;
 mod kind;
@@ -49,5 +50,7 @@ fn main() {
     t = group(t, b"refusal 6", &fact_order::ROWS);
     t = group(t, b"refusal 7", &missing::ROWS);
     t = long_group(t, b"long images", &long::ROWS);
-    print_group(b"total", t);
+    let areas = card_area::walked();
+    print_group(b"card area", areas);
+    print_group(b"total", t.joined(areas));
 }

@@ -13,7 +13,7 @@ impl Tally {
         Tally { ran: 0, differ: 0 }
     }
 
-    fn counted(self, differs: bool) -> Self {
+    pub fn counted(self, differs: bool) -> Self {
         Tally {
             ran: std::num::wrapping_add_u32(self.ran, 1),
             differ: std::num::wrapping_add_u32(self.differ, differs as u32),
