@@ -75,7 +75,7 @@ bits-equal (suc w) a b l u same =
 
 -- ---- columns
 
-byte-le : (b : Bool) → boolByte b ≤ 1
+pub byte-le : (b : Bool) → boolByte b ≤ 1
 byte-le true = omega arith
 byte-le false = omega arith
 

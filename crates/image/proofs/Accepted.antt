@@ -328,7 +328,7 @@ facts-below h k (w ∷ ws) a = go (isFact w) (isKind k w) refl (facts-below h k 
     go true false q rest = rest
     go false c q rest = tt
 
-steps-below : (h : Head) (ws : List ℕ) → All (StepWord h) ws → All (Below (h .facts)) (stepsFrom ws)
+pub steps-below : (h : Head) (ws : List ℕ) → All (StepWord h) ws → All (Below (h .facts)) (stepsFrom ws)
 unfolding stepsFrom
 steps-below h [] a = tt
 steps-below h (w ∷ ws) a = go (isKind 5 w) (steps-below h ws (a .1))
@@ -481,6 +481,8 @@ module _ (image : List ℕ) (h : Head) (a : checked image ≡ Accepted h) where
         sequences = sequences;
         sequences-numbered = λ i l k. sequences-numbers h e 1 ws h walks i l k ∙ zero-add _;
         sequences-opened = omega (arith, n, parts-opened 6 ws, no-sequences h (beforeSequences ws) steps);
+        sequences-short =
+            omega (arith, ap length (parts-joined ws), length-append (beforeSequences ws) (fromSequences ws), length-between image, checks image h a .high);
       }
 
   pub counted : Counted (libraryOf image) h
@@ -493,3 +495,9 @@ module _ (image : List ℕ) (h : Head) (a : checked image ≡ Accepted h) where
         below = steps-below h (stepsPart image) (parts .steps);
         named = sequences-named h (sequencesPart image) (parts .sequences);
       }
+
+  -- the library by its head and its two parts
+  pub library-is : libraryOf image ≡ record { facts = h .facts; steps = stepsFrom (stepsPart image); sequences = sequencesFrom (sequencesPart image) }
+  unfolding libraryOf
+  library-is =
+      ap (λ (g : Head). record { facts = g .facts; steps = stepsFrom (stepsPart image); sequences = sequencesFrom (sequencesPart image) }) (sym head-is)

@@ -1,26 +1,38 @@
 -- What the tables say where they are looked up: a step's three words bit by bit, and a sequence by its place.
 -- Assumes nothing.
-use Prim.Native.Nat.{ℕ, zero, suc, _+_, _*_, _<_}
+use Prim.Native.Nat.{ℕ, zero, suc, _+_, _*_, _^_, _≤_, _<_}
 use native.Mathlib.Nat.{le-of-suc-le-suc, zero-add}
 use native.Mathlib.Omega.{arith}
-use mathlib.Core.Path.{_≡_, refl, ap, _∙_}
-use mathlib.Core.Bool.{Bool, true, false, cond}
+use mathlib.Core.Path.{_≡_, refl, ap, ap₂, _∙_}
+use mathlib.Core.Bool.{Bool, true, false, cond, _||_}
 use mathlib.Core.List.{List, [], _∷_}
 use lib.ListN.{length, getD, drop}
 use mir.Val.{boolByte}
 use Rattle.column.specs.Column.{bit}
-use Rattle.column.proofs.Bits.{bit-column}
+use Rattle.column.proofs.Bits.{bit-column, column-lt}
+use Rattle.column.proofs.Low.{column-low}
 use Rattle.image.specs.Word.{kind, isKind}
 use Rattle.image.specs.Rules.{opened}
 use Rattle.image.specs.Library.{has, Step, alternativesFrom, sequencesFrom}
+use Rattle.image.specs.Accepted.{All}
 use Rattle.image.specs.Tables.{maskOf, masks, placesFrom}
 use Rattle.image.proofs.Decode.{kind-is, sequences-open, sequences-skip}
-use borrow.Author.Tests.{eqb-false}
+use borrow.Author.Tests.{eqb-false, ne-eqb}
 
 -- bit f of a mask is set exactly where fact f is one of its facts
 pub mask-bit : (facts : List ℕ) (f : ℕ) → f < 64 → bit (maskOf facts) f ≡ boolByte (has f facts)
 unfolding maskOf
 mask-bit facts f l = bit-column 64 (λ (g : ℕ). has g facts) f l
+
+pub mask-lt : (facts : List ℕ) → maskOf facts < 2 ^ 64
+unfolding maskOf
+mask-lt facts = column-lt 64 (λ (g : ℕ). has g facts)
+
+-- three words a step
+pub masks-length : (ss : List Step) → length (masks ss) ≡ 3 * length ss
+unfolding masks
+masks-length [] = refl
+masks-length (s ∷ ss) = omega (arith, masks-length ss)
 
 -- the words of step a
 pub row-at : (ss : List Step) (a : ℕ) (d : Step) → a < length ss
@@ -75,3 +87,23 @@ place-at ws c l =
     let o = opens-at ws 0 c l in
     let e : getD (placesFrom 0 ws) c 0 ≡ o .j = o .index ∙ zero-add (o .j) in
     rw e (record { within = o .within; opener = o .opener; reads = o .reads })
+
+-- a word a sequence
+pub places-length : (i : ℕ) (ws : List ℕ) → length (placesFrom i ws) ≡ opened 6 ws
+unfolding placesFrom opened
+places-length i [] = refl
+places-length i (w ∷ ws) = go (isKind 6 w) (places-length (suc i) ws)
+  where
+    go : (b : Bool) → length (placesFrom (suc i) ws) ≡ opened 6 ws → length (cond b (i ∷ placesFrom (suc i) ws) (placesFrom (suc i) ws)) ≡ boolByte b + opened 6 ws
+    go true ih = omega arith
+    go false ih = omega arith
+
+-- the mask of facts below n has no bit from n upward
+none-above : (n : ℕ) (facts : List ℕ) → All (λ (f : ℕ). f < n) facts → (k : ℕ) → n ≤ k → has k facts ≡ false
+unfolding has
+none-above n [] a k l = refl
+none-above n (f ∷ facts) a k l = ap₂ _||_ (ne-eqb f k (λ e. omega (arith, a .0))) (none-above n facts (a .1) k l)
+
+pub mask-low : (n : ℕ) (facts : List ℕ) → All (λ (f : ℕ). f < n) facts → maskOf facts < 2 ^ n
+unfolding maskOf
+mask-low n facts a = column-low 64 n (λ (f : ℕ). has f facts) (λ k l u. none-above n facts a k l)

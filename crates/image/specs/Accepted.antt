@@ -54,6 +54,7 @@ pub record Parts (image : List ℕ) (h : Head) : Type 0 where
   pub sequences : All (SequenceWord h) (sequencesPart image)
   pub sequences-numbered : Numbered 6 (sequencesPart image)
   pub sequences-opened : opened 6 (sequencesPart image) ≡ h .sequences
+  pub sequences-short : length (sequencesPart image) ≤ 8192
 
 -- an entry names a step below A or a sequence below C
 abbrev pub Named : Head → Entry → Type 0

@@ -60,7 +60,7 @@ module _ (L : Library) (f c : ℕ) where
   unfolding OccursColumn
   side-occurs s m o = subst OccursColumn (sym (side-column s m)) o
 
-columnNumber-below : (s : Side) (m : Mark) → columnNumber s m < 8
+pub columnNumber-below : (s : Side) (m : Mark) → columnNumber s m < 8
 columnNumber-below last present = omega arith
 columnNumber-below last absent = omega arith
 columnNumber-below last untouched = omega arith

@@ -1,9 +1,15 @@
 -- The outcome table as words: for each sequence eight 64-bit words, one for each column, in which bit f says of fact f what is
 -- possible.
-use Prim.Native.Nat.{ℕ, zero, suc}
+use Prim.Native.Nat.{ℕ, zero, suc, _*_, _≤_}
+use mathlib.Core.Path.{_≡_}
 use mathlib.Core.List.{List, [], _∷_}
-use lib.ListN.{length}
-use Rattle.image.specs.Library.{Library}
+use lib.ListN.{length, getD}
+use Rattle.image.specs.Library.{Library, stepsFrom, sequencesFrom}
+use Rattle.image.specs.Checked.{checked}
+use Rattle.image.specs.Rules.{opened}
+use Rattle.image.specs.Accepted.{All, StepWord, SequenceWord, Numbered}
+use Rattle.image.specs.declared.answer.Head.{Head}
+use Rattle.image.specs.declared.answer.Checked.the-variants.{Accepted}
 use Rattle.column.specs.Column.{column}
 use Rattle.outcome.specs.Possible.{columnPossible}
 
@@ -24,3 +30,31 @@ outcomeRows L c (suc n) =
 unfoldable pub outcomes : Library → List ℕ
 unfolding outcomeRows
 outcomes L = outcomeRows L 0 (length (L .sequences))
+
+-- what the table asks: an accepted image, and room for eight words a sequence
+pub record TableAsked (h : Head) (image area : List ℕ) : Type 0 where
+  pub accepted : checked image ≡ Accepted h
+  pub room : 8 * h .sequences ≤ length area
+
+-- every word is 0
+abbrev pub Blank : List ℕ → Type 0
+Blank area = (k : ℕ) → getD area k 0 ≡ 0
+
+-- what is asked of the two parts of an accepted image and of an area of eight words a sequence
+pub record FillAsked (h : Head) (first second table : List ℕ) : Type 0 where
+  pub low : 1 ≤ h .facts
+  pub high : h .facts ≤ 64
+  pub steps-high : h .steps ≤ 1024
+  pub sequences-high : h .sequences ≤ 256
+  pub short : length second ≤ 8192
+  pub steps : All (StepWord h) first
+  pub steps-numbered : Numbered 5 first
+  pub steps-opened : opened 5 first ≡ h .steps
+  pub sequences : All (SequenceWord h) second
+  pub sequences-numbered : Numbered 6 second
+  pub sequences-opened : opened 6 second ≡ h .sequences
+  pub long : length table ≡ 8 * h .sequences
+
+-- the library that the two parts hold
+abbrev pub libraryIn : Head → List ℕ → List ℕ → Library
+libraryIn h steps sequences = record { facts = h .facts; steps = stepsFrom steps; sequences = sequencesFrom sequences }

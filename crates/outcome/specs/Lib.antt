@@ -9,4 +9,7 @@ pub mod Possible
 pub mod Table
 pub mod Reading
 pub mod Rows
+pub mod Words
+pub mod Walks
+pub mod Passes
 pub mod Published

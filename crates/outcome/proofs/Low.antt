@@ -1,0 +1,153 @@
+-- No bit is set from F upward: of each formula on rows, of a walk, and of a table that visits lead to from a blank one.
+-- Assumes nothing.
+use Prim.Native.Nat.{ℕ, zero, suc, _+_, _-_, _*_, _^_, _≤_, _<_}
+use native.Mathlib.Decide.{ℕ-discrete}
+use native.Mathlib.Nat.{lt-of-le-of-lt}
+use native.Mathlib.Omega.{arith}
+use mathlib.Core.Path.{_≡_, refl, sym, ap, _∙_, subst}
+use mathlib.Core.Bool.{Bool, true, false, cond}
+use mathlib.Core.List.{List, [], _∷_}
+use lib.ListN.{length, getD, drop}
+use lib.Bits.{bitAnd, bitOr, and-le-l, and-lt, or-lt}
+use lib.Pow.{pow-pos, ones-lt}
+use Rattle.image.specs.Word.{payload, isKind, isEntry}
+use Rattle.image.specs.Accepted.{All}
+use Rattle.outcome.specs.Words.{allFacts, noRow, startRow, notWord, stepMarks, stepRow, laterMarks, joinRows, orMarks, orRows, liveMarks, liveRow, rowIn, withRow, wordsOf}
+use Rattle.outcome.specs.Walks.{maskRow, entryWord, foldWords, alternativeWords, sequenceWords}
+use Rattle.outcome.specs.Passes.{visitedRow, visited, Reached, here, next}
+use Rattle.outcome.specs.declared.row.Marks.{Marks}
+use Rattle.outcome.specs.declared.row.Row.{Row}
+use Rattle.outcome.proofs.Stores.{row-same, row-other}
+use Rattle.outcome.proofs.Visits.{reached-length}
+
+module _ (n : ℕ) where
+  LowMarks : Marks → Type 0
+  LowMarks m = (m .present < 2 ^ n) × (m .absent < 2 ^ n) × (m .untouched < 2 ^ n)
+
+  -- each word of the row is below 2^n
+  pub record LowRow (r : Row) : Type 0 where
+    pub run : r .run < 2 ^ n
+    pub empty : r .empty < 2 ^ n
+    pub last : (r .last .present < 2 ^ n) × (r .last .absent < 2 ^ n) × (r .last .untouched < 2 ^ n)
+    pub first : (r .first .present < 2 ^ n) × (r .first .absent < 2 ^ n) × (r .first .untouched < 2 ^ n)
+
+  or-low : (a b : ℕ) → a < 2 ^ n → b < 2 ^ n → bitOr a b < 2 ^ n
+  or-low = or-lt n
+
+  and-low : (a b : ℕ) → a < 2 ^ n → bitAnd a b < 2 ^ n
+  and-low a b l = lt-of-le-of-lt (and-le-l a b) l
+
+  pub none-low : LowRow noRow
+  none-low = let z = pow-pos n in record { run = z; empty = z; last = (z, z, z); first = (z, z, z) }
+
+  start-low : LowRow (startRow (allFacts n))
+  start-low = let z = pow-pos n in let o = ones-lt n in record { run = o; empty = o; last = (z, z, o); first = (z, z, o) }
+
+  step-marks-low : (one other : ℕ) → one < 2 ^ n → other < 2 ^ n → LowMarks (stepMarks (allFacts n) one other)
+  unfolding LowMarks
+  step-marks-low one other a b = (a, and-low other (notWord one) b, and-low (allFacts n) (notWord (bitOr one other)) (ones-lt n))
+
+  step-low : (needs sets clears : ℕ) → needs < 2 ^ n → sets < 2 ^ n → clears < 2 ^ n → LowRow (stepRow (allFacts n) needs sets clears)
+  unfolding LowMarks
+  step-low needs sets clears a b c =
+      record { run = ones-lt n; empty = pow-pos n; last = step-marks-low sets clears b c; first = step-marks-low needs sets a b }
+
+  later-low : (x y : Marks) → LowMarks x → LowMarks y → LowMarks (laterMarks x y)
+  unfolding LowMarks
+  later-low x y a b = (
+    or-low (bitAnd (x .present) (y .untouched)) (y .present) (and-low (x .present) (y .untouched) (a .0)) (b .0),
+    or-low (bitAnd (x .absent) (y .untouched)) (y .absent) (and-low (x .absent) (y .untouched) (a .1)) (b .1),
+    and-low (x .untouched) (y .untouched) (a .2),
+  )
+
+  join-low : (x y : Row) → LowRow x → LowRow y → LowRow (joinRows x y)
+  unfolding LowMarks
+  join-low x y a b =
+      record {
+        run = and-low (x .run) (y .run) (a .run);
+        empty = and-low (x .empty) (y .empty) (a .empty);
+        last = later-low (x .last) (y .last) (a .last) (b .last);
+        first = later-low (y .first) (x .first) (b .first) (a .first);
+      }
+
+  either-low : (x y : Marks) → LowMarks x → LowMarks y → LowMarks (orMarks x y)
+  unfolding LowMarks
+  either-low x y a b =
+      (or-low (x .present) (y .present) (a .0) (b .0), or-low (x .absent) (y .absent) (a .1) (b .1), or-low (x .untouched) (y .untouched) (a .2) (b .2))
+
+  union-low : (x y : Row) → LowRow x → LowRow y → LowRow (orRows x y)
+  unfolding LowMarks
+  union-low x y a b =
+      record {
+        run = or-low (x .run) (y .run) (a .run) (b .run);
+        empty = or-low (x .empty) (y .empty) (a .empty) (b .empty);
+        last = either-low (x .last) (y .last) (a .last) (b .last);
+        first = either-low (x .first) (y .first) (a .first) (b .first);
+      }
+
+  live-low : (x : Row) → LowRow x → LowRow (liveRow x)
+  live-low x a =
+      let low : (b : ℕ) → bitAnd (x .run) b < 2 ^ n = λ b. and-low (x .run) b (a .run) in
+      record {
+        run = low (x .run);
+        empty = low (x .empty);
+        last = (low (x .last .present), low (x .last .absent), low (x .last .untouched));
+        first = (low (x .first .present), low (x .first .absent), low (x .first .untouched));
+      }
+
+  -- ---- a walk
+
+  module _ (masks table : List ℕ) (low-masks : (k : ℕ) → getD masks k 0 < 2 ^ n) (low-table : (c : ℕ) → LowRow (rowIn table c)) where
+    entry-low : (w : ℕ) → LowRow (entryWord (allFacts n) masks table w)
+    entry-low w = go (isKind 8 w)
+      where
+        go : (b : Bool) → LowRow (cond b (maskRow (allFacts n) masks (payload w)) (rowIn table (payload w)))
+        go true = step-low _ _ _ (low-masks (3 * payload w)) (low-masks (3 * payload w + 1)) (low-masks (3 * payload w + 2))
+        go false = low-table (payload w)
+
+    fold-low : (ws : List ℕ) (X : Row) → LowRow X → LowRow (foldWords (allFacts n) masks table X ws)
+    unfolding foldWords
+    fold-low [] X a = a
+    fold-low (w ∷ ws) X a = go (isEntry w) (fold-low ws (joinRows X (entryWord (allFacts n) masks table w)) (join-low X _ a (entry-low w)))
+      where
+        go : (b : Bool) → LowRow (foldWords (allFacts n) masks table (joinRows X (entryWord (allFacts n) masks table w)) ws)
+            → LowRow (cond b (foldWords (allFacts n) masks table (joinRows X (entryWord (allFacts n) masks table w)) ws) X)
+        go true rest = rest
+        go false rest = a
+
+    alternative-low : (ws : List ℕ) → LowRow (alternativeWords (allFacts n) masks table ws)
+    unfolding alternativeWords
+    alternative-low ws = live-low _ (fold-low ws (startRow (allFacts n)) start-low)
+
+    sequence-low : (ws : List ℕ) (X : Row) → LowRow X → LowRow (sequenceWords (allFacts n) masks table X ws)
+    unfolding sequenceWords
+    sequence-low [] X a = a
+    sequence-low (w ∷ ws) X a =
+        go (isKind 6 w) (isKind 7 w)
+        (sequence-low ws (orRows X (alternativeWords (allFacts n) masks table ws)) (union-low X _ a (alternative-low ws)))
+        (sequence-low ws X a)
+      where
+        S : Row → Row
+        S Y = sequenceWords (allFacts n) masks table Y ws
+
+        go : (b c : Bool) → LowRow (S (orRows X (alternativeWords (allFacts n) masks table ws))) → LowRow (S X)
+            → LowRow (cond b X (cond c (S (orRows X (alternativeWords (allFacts n) masks table ws))) (S X)))
+        go true c more rest = a
+        go false true more rest = more
+        go false false more rest = rest
+
+  -- ---- a table
+
+  module _ (masks part places : List ℕ) (low-masks : (k : ℕ) → getD masks k 0 < 2 ^ n) (m : ℕ) where
+    pub reached-low : {t₀ t : List ℕ} → 8 * m ≤ length t₀ → ((c : ℕ) → LowRow (rowIn t₀ c)) → Reached (allFacts n) masks part places m t₀ t
+        → (c : ℕ) → LowRow (rowIn t c)
+    reached-low room low here = low
+    reached-low room low (next {table = s} c l r) = λ d.
+        let before = reached-low room low r in
+        let y = sequenceWords (allFacts n) masks s noRow (drop (getD places c 0 + 1) part) in
+        elim (ℕ-discrete d c) [
+          | yes e ↦ subst (λ (k : ℕ). LowRow (rowIn (visited (allFacts n) masks part places s c) k)) (sym e)
+              (subst LowRow (sym (row-same s c (orRows (rowIn s c) y) (omega (arith, reached-length (allFacts n) masks part places m r))))
+              (union-low (rowIn s c) y (before c) (sequence-low masks s low-masks before (drop (getD places c 0 + 1) part) noRow none-low)))
+          | no apart ↦ subst LowRow (sym (row-other s c (orRows (rowIn s c) y) d apart)) (before d)
+        ]

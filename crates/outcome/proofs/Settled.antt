@@ -1,0 +1,160 @@
+-- A table of words that visits lead to from a blank one, and that no visit changes, is the outcome table: its bits are good rows to
+-- which reading adds nothing, and no bit is set from F upward.
+-- Assumes nothing.
+use Prim.Native.Nat.{ℕ, zero, suc, _+_, _-_, _*_, _^_, _≤_, _<_}
+use native.Mathlib.Nat.{le-of-suc-le-suc}
+use native.Mathlib.Decide.{ℕ-discrete, decLt}
+use native.Mathlib.Numerals.{add-one}
+use native.Mathlib.Omega.{arith}
+use mathlib.Core.Path.{_≡_, refl, sym, ap, ap₂, _∙_, subst, fun-ext}
+use mathlib.Core.Bool.{Bool, true, false, _&&_, _||_, false≢true}
+use mathlib.Core.List.{List, [], _∷_, List·Memᴰ, List·Memᴰ·head, List·Memᴰ·tail}
+use lib.ListN.{length, getD, take, drop, List·getD-eq-default}
+use Rattle.image.specs.Library.{Library, Sequence, Alternative, Entry, alternativesFrom, sequencesFrom}
+use Rattle.image.specs.Accepted.{All, SequenceWord}
+use Rattle.image.specs.declared.answer.Head.{Head}
+use Rattle.image.proofs.Lookup.{Placed}
+use Rattle.outcome.specs.Tests.{some}
+use Rattle.outcome.specs.Run.{alternativesOf, alternativeOf}
+use Rattle.outcome.specs.Touch.{Side, last, first, Mark, present, absent, untouched}
+use Rattle.outcome.specs.Algebra.{sideAlgebra}
+use Rattle.outcome.specs.Possible.{columnPossible}
+use Rattle.outcome.specs.Rows.{Row, columnNumber, rowSide, readRow, GoodRow, GoodRows, ClosedRows}
+use Rattle.outcome.specs.Words.{allFacts, noRow, orRows, rowIn, withRow, wordsOf, isSet, bitRow}
+use Rattle.outcome.specs.Walks.{sequenceWords}
+use Rattle.outcome.specs.Passes.{visitedRow, visited, Reached, here, next, Settled}
+use Rattle.outcome.specs.declared.row.Row as words
+use Rattle.outcome.proofs.Bridge.{Masked, tableBits, sequence-bits}
+use Rattle.outcome.proofs.Rows.{by-column, columnNumber-below, none-good, or-good, read-good, rows-possible}
+use Rattle.outcome.proofs.Stores.{row-same, row-other}
+use Rattle.outcome.proofs.Tests.{or-right, some-intro}
+use Rattle.outcome.proofs.Visits.{reached-length}
+use Rattle.outcome.proofs.Words.{or-bits, none-set}
+
+-- rows that agree are good together
+good-agree : (L : Library) (f c : ℕ) (r r′ : Row) → ((j : ℕ) → j < 8 → r j ≡ r′ j) → GoodRow L f c r → GoodRow L f c r′
+good-agree L f c r r′ same g =
+    record {
+      sound = λ j l e. g .sound j l (same j l ∙ e);
+      live = λ s.
+          ap (λ (X : Mark → Bool). some X (sideAlgebra s .all)) (fun-ext (λ m. sym (same (columnNumber s m) (columnNumber-below s m))))
+          ∙ g .live s ∙ same 0 (omega arith);
+      empty = λ e. sym (same 0 (omega arith)) ∙ g .empty (same 1 (omega arith) ∙ e);
+    }
+
+-- what some alternative of a list gives is good, where each of them gives a good row
+union-good : (L : Library) (f c : ℕ) (B : ℕ → Row) (alts : List Alternative) → ((i : ℕ) → i < length alts → GoodRow L f c (readRow L f B (getD alts i [])))
+    → GoodRow L f c (λ (j : ℕ). some (λ (es : List Entry). readRow L f B es j) alts)
+unfolding some
+union-good L f c B [] each = none-good L f c
+union-good L f c B (es ∷ alts) each = or-good L f c (readRow L f B es) _ (each 0 (omega arith)) (union-good L f c B alts (λ i l. each (suc i) (omega arith)))
+
+-- a blank row has nothing
+none-row : (f j : ℕ) → j < 8 → bitRow noRow f j ≡ false
+none-row f = by-column (λ (j : ℕ). bitRow noRow f j ≡ false) (none-set f) (none-set f) side
+  where
+    side : (s : Side) (m : Mark) → bitRow noRow f (columnNumber s m) ≡ false
+    side last present = none-set f
+    side last absent = none-set f
+    side last untouched = none-set f
+    side first present = none-set f
+    side first absent = none-set f
+    side first untouched = none-set f
+
+pub blank-row : (t : List ℕ) → ((k : ℕ) → getD t k 0 ≡ 0) → (c : ℕ) → rowIn t c ≡ noRow
+blank-row t blank c i =
+    record {
+      run = blank (8 * c) i;
+      empty = blank (8 * c + 1) i;
+      last = record { present = blank (8 * c + 2) i; absent = blank (8 * c + 3) i; untouched = blank (8 * c + 4) i };
+      first = record { present = blank (8 * c + 5) i; absent = blank (8 * c + 6) i; untouched = blank (8 * c + 7) i };
+    }
+
+member : (alts : List Alternative) (i : ℕ) → i < length alts → List·Memᴰ (getD alts i []) alts
+member [] i l = absurd (omega arith)
+member (es ∷ alts) zero l = List·Memᴰ·head refl
+member (es ∷ alts) (suc i) l = List·Memᴰ·tail (member alts i (le-of-suc-le-suc l))
+
+-- what the tables of an accepted image say: masks and places
+pub record Given (L : Library) (h : Head) (masks part places : List ℕ) : Type 0 where
+  pub narrow : L .facts ≤ 64
+  pub steps : length (L .steps) ≡ h .steps
+  pub sequences : length (L .sequences) ≡ h .sequences
+  pub masked : Masked L masks
+  pub words : All (SequenceWord h) part
+  pub reads : L .sequences ≡ sequencesFrom part
+  pub placed : (c : ℕ) → c < h .sequences → Placed part c (getD places c 0)
+
+all-drop : (h : Head) (n : ℕ) (ws : List ℕ) → All (SequenceWord h) ws → All (SequenceWord h) (drop n ws)
+all-drop h zero ws a = a
+all-drop h (suc n) [] a = tt
+all-drop h (suc n) (w ∷ ws) a = all-drop h n ws (a .1)
+
+module _ (L : Library) (h : Head) (masks part places : List ℕ) (given : Given L h masks part places) where
+  visit : List ℕ → ℕ → List ℕ
+  visit t c = visited (allFacts (L .facts)) masks part places t c
+
+  -- the bits of a row after a visit
+  module _ (t : List ℕ) (room : 8 * h .sequences ≤ length t) (c : ℕ) (l : c < h .sequences) (f : ℕ) (below : f < L .facts) where
+    gives : Row
+    gives j = some (λ (es : List Entry). readRow L f (tableBits t f) es j) (alternativesOf (L .sequences) c)
+
+    visit-bits : (j : ℕ) → j < 8 → tableBits (visit t c) f c j ≡ (tableBits t f c j || gives j)
+    unfolding visit gives
+    visit-bits j k =
+        let p = getD places c 0 in
+        let rest = drop (p + 1) part in
+        let y = sequenceWords (allFacts (L .facts)) masks t noRow rest in
+        let alts : alternativesFrom rest ≡ alternativesOf (L .sequences) c =
+        ap (λ (n : ℕ). alternativesFrom (drop n part)) (add-one p) ∙ given .placed c l .reads ∙ ap (λ (S : List Sequence). getD S c []) (sym (given .reads)) in
+        ap (λ (r : words.Row). bitRow r f j) (row-same t c (orRows (rowIn t c) y) (omega arith))
+        ∙ or-bits (rowIn t c) y f j k
+        ∙ ap (λ (b : Bool). tableBits t f c j || b)
+        (sequence-bits L h masks t (given .narrow) (given .steps) (given .masked) f below rest (all-drop h (p + 1) part (given .words)) noRow j k
+        ∙ ap₂ _||_ (none-row f j k) (ap (λ (alts′ : List Alternative). some (λ (es : List Entry). readRow L f (tableBits t f) es j) alts′) alts))
+
+    good-visit : GoodRows L f (tableBits t f) → GoodRows L f (tableBits (visit t c) f)
+    unfolding visit gives
+    good-visit good d =
+        elim (ℕ-discrete d c) [
+          | yes e ↦ subst (λ (n : ℕ). GoodRow L f n (tableBits (visit t c) f n)) (sym e)
+              (good-agree L f c (λ (j : ℕ). tableBits t f c j || gives j) (tableBits (visit t c) f c) (λ j k. sym (visit-bits j k))
+              (or-good L f c (tableBits t f c) gives (good c)
+              (union-good L f c (tableBits t f) (alternativesOf (L .sequences) c) (λ i k. read-good L f (tableBits t f) good c i k))))
+          | no apart ↦ subst (λ (r : words.Row). GoodRow L f d (bitRow r f)) (sym (row-other t c _ d apart)) (good d)
+        ]
+
+    -- where the visit changes nothing, the row has what each alternative gives
+    settled-covers : visit t c ≡ t → (i : ℕ) → i < length (alternativesOf (L .sequences) c) → (j : ℕ) → j < 8
+        → readRow L f (tableBits t f) (alternativeOf (L .sequences) c i) j ≡ true → tableBits t f c j ≡ true
+    unfolding gives
+    settled-covers same i k j u e =
+        let alts = alternativesOf (L .sequences) c in
+        ap (λ (s : List ℕ). tableBits s f c j) (sym same) ∙ visit-bits j u
+        ∙ or-right (tableBits t f c j) (gives j) (some-intro (λ (es : List Entry). readRow L f (tableBits t f) es j) (member alts i k) e)
+
+  -- from a blank table every row stays good
+  reached-good : {t₀ t : List ℕ} → 8 * h .sequences ≤ length t₀ → ((k : ℕ) → getD t₀ k 0 ≡ 0)
+      → Reached (allFacts (L .facts)) masks part places (h .sequences) t₀ t → (f : ℕ) → f < L .facts → GoodRows L f (tableBits t f)
+  unfolding visit
+  reached-good {t₀} room blank here f below = λ c.
+      good-agree L f c (λ (j : ℕ). false) (tableBits t₀ f c) (λ j k. sym (ap (λ (r : words.Row). bitRow r f j) (blank-row t₀ blank c) ∙ none-row f j k)) (none-good L f c)
+  reached-good room blank (next {table = s} c l r) f below =
+      good-visit s (omega (arith, reached-length (allFacts (L .facts)) masks part places (h .sequences) r)) c l f below (reached-good room blank r f below)
+
+  settled-closed : (t : List ℕ) → 8 * h .sequences ≤ length t → Settled (allFacts (L .facts)) masks part places (h .sequences) t
+      → (f : ℕ) → f < L .facts → ClosedRows L f (tableBits t f)
+  unfolding visit
+  settled-closed t room settled f below c i k j u e =
+      elim (decLt c (h .sequences)) [
+        | yes l ↦ settled-covers t room c l f below (settled c l) i k j u e
+        | no l ↦ absurd (omega (arith, ap (λ (alts : List Alternative). length alts) (List·getD-eq-default (L .sequences) [] {n = c} (omega (arith, given .sequences)))))
+      ]
+
+  -- what the bits of such a table say
+  pub settled-bits : (t₀ t : List ℕ) → 8 * h .sequences ≤ length t₀ → ((k : ℕ) → getD t₀ k 0 ≡ 0)
+      → Reached (allFacts (L .facts)) masks part places (h .sequences) t₀ t → Settled (allFacts (L .facts)) masks part places (h .sequences) t
+      → (f : ℕ) → f < L .facts → (j : ℕ) → j < 8 → (c : ℕ) → tableBits t f c j ≡ columnPossible L j c f
+  settled-bits t₀ t room blank reached settled f below =
+      rows-possible L f (tableBits t f) (reached-good room blank reached f below)
+      (settled-closed t (omega (arith, reached-length (allFacts (L .facts)) masks part places (h .sequences) reached)) settled f below)

@@ -1,0 +1,65 @@
+-- `outcome::order::finishing_order` is safe, ends and keeps the areas' lengths.
+-- Assumes nothing.
+use borrow.Author.Needs.{needs}
+use native.Mathlib.Omega.{arith}
+use mathlib.Core.Path.{_≡_, _∙_}
+use lib.ListN.{length}
+use Rattle.outcome.proofs.order.finishing_order.Statement.{statement}
+use Rattle.outcome.proofs.order.finishing_order.Tie as tie
+use Rattle.outcome.proofs.order.finishing_order.Reads as reads
+use Rattle.outcome.proofs.order.finishing_order.Lts as lts
+use Rattle.outcome.proofs.order.turn.Reads as turn-reads
+
+abbrev Inv-loop : tie.InvT-loop
+Inv-loop part places next₀ stack₀ order₀ at₀ turns₀ next stack order at turns =
+    (length next ≡ length next₀) × (length stack ≡ length stack₀) × (length order ≡ length order₀)
+
+abbrev μ-loop : tie.MeasureT-loop
+μ-loop part places next₀ stack₀ order₀ at₀ turns₀ next stack order at turns = turns
+
+mul-turns : tie.Need-mul-turns Inv-loop μ-loop
+mul-turns c = search needs
+
+loop-holds : tie.Need-loop-holds Inv-loop μ-loop
+loop-holds c = search needs
+
+sub-turns : tie.Need-sub-turns Inv-loop μ-loop
+sub-turns c = search needs
+
+turn-requires : tie.Need-turn-requires Inv-loop μ-loop
+turn-requires c κs = search needs
+
+loop-less : tie.Need-loop-less Inv-loop μ-loop
+loop-less c = search needs
+
+loop-again : tie.Need-loop-again Inv-loop μ-loop
+loop-again c = search needs
+
+same-length : tie.Need-same-length Inv-loop μ-loop
+same-length c = search needs
+
+same-length-2 : tie.Need-same-length-2 Inv-loop μ-loop
+same-length-2 c = search needs
+
+same-length-3 : tie.Need-same-length-3 Inv-loop μ-loop
+same-length-3 c = search needs
+
+returns : tie.Need-returns Inv-loop μ-loop
+returns c = search needs
+
+pub finishing-order-spec : {M : Type 1} → statement M
+finishing-order-spec =
+    tie.close
+    (tie.spec
+    Inv-loop
+    μ-loop
+    mul-turns
+    loop-holds
+    sub-turns
+    turn-requires
+    loop-less
+    loop-again
+    same-length
+    same-length-2
+    same-length-3
+    returns)

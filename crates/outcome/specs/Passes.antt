@@ -1,0 +1,54 @@
+-- Passes over the table until nothing changes, in the form that the loops follow: a visit of a sequence unites its row with what its
+-- alternatives give by the table as it stands; a pass visits sequences one after the other, in place.
+use Prim.Native.Nat.{ℕ, _+_, _-_, _*_, _^_, _≤_, _<_}
+use mathlib.Core.Path.{_≡_}
+use mathlib.Core.Bool.{Bool, true, false}
+use mathlib.Core.List.{List, [], _∷_}
+use lib.ListN.{length, getD, drop}
+use Rattle.outcome.specs.Words.{noRow, orRows, rowIn, withRow}
+use Rattle.outcome.specs.Walks.{Readable, sequenceWords}
+use Rattle.outcome.specs.declared.row.Row.{Row}
+
+-- how much the words lack to the greatest number: what falls while the table grows
+unfoldable pub lacking : List ℕ → ℕ
+lacking [] = 0
+lacking (x ∷ xs) = 2 ^ 64 - 1 - x + lacking xs
+
+-- what a visit of the sequences below n asks of the areas
+pub record Visitable (n : ℕ) (masks part places table : List ℕ) : Type 0 where
+  pub readable : Readable masks table part
+  pub rows : 8 * n ≤ length table
+  pub placed : n ≤ length places
+  pub within : (c : ℕ) → c < n → getD places c 0 < length part
+
+module _ (all : ℕ) (masks part places : List ℕ) where
+  -- the row of sequence c after a visit
+  abbrev pub visitedRow : List ℕ → ℕ → Row
+  visitedRow table c = orRows (rowIn table c) (sequenceWords all masks table noRow (drop (getD places c 0 + 1) part))
+
+  -- the table after a visit of sequence c
+  abbrev pub visited : List ℕ → ℕ → List ℕ
+  visited table c = withRow table c (visitedRow table c)
+
+  -- what a visit promises: the table after it, and whether that is another
+  pub record Visit (before : List ℕ) (c : ℕ) (after : List ℕ) (changed : Bool) : Type 0 where
+    pub done : after ≡ visited before c
+    pub falls : changed ≡ true → lacking after < lacking before
+    pub stays : changed ≡ false → after ≡ before
+
+  module _ (n : ℕ) where
+    -- tables that visits of the sequences below n lead to
+    pub data Reached (before : List ℕ) : List ℕ → Type 0 where
+      here : Reached before before
+      next : {table : List ℕ} (c : ℕ) → c < n → Reached before table → Reached before (visited table c)
+
+    -- no visit changes the table
+    abbrev pub Settled : List ℕ → Type 0
+    Settled table = (c : ℕ) → c < n → visited table c ≡ table
+
+    -- what a pass that goes over all sequences promises: it visits; less is lacking where it changed something; otherwise no visit
+    -- changes anything
+    pub record Pass (before after : List ℕ) (changed : Bool) : Type 0 where
+      pub reached : Reached before after
+      pub falls : changed ≡ true → lacking after < lacking before
+      pub settled : changed ≡ false → Settled after

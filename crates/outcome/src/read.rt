@@ -1,0 +1,92 @@
+// One walk over the words of a sequence: its alternatives, each folded from left to right for all facts at once.
+use crate::row::Row;
+use crate::row::joined;
+use crate::row::live;
+use crate::row::none;
+use crate::row::of_step;
+use crate::row::row_at;
+use crate::row::start;
+use crate::row::united;
+use image::word::is_entry;
+use image::word::is_kind;
+use image::word::payload_of;
+ghost use mathlib.Core.Path.{_≡_};
+ghost use mathlib.Core.Bool.{true};
+ghost use Prim.Native.Nat.{_+_, _*_, _≤_, _<_};
+ghost use lib.ListN.{length, drop};
+ghost use Rattle.image.specs.Word.{isEntry};
+ghost use Rattle.outcome.specs.Words.{noRow};
+ghost use Rattle.outcome.specs.Walks.{Within, Readable, maskRow, entryWord, sequenceWords, AlternativeRead};
+
+// The row of an alternative, and the index of the word after its entries.
+pub struct Read {
+    pub row: Row,
+    pub next: usize,
+}
+
+// The row of step `a`, by the table of masks.
+fn step_row(all: u64, masks: &[u64], a: u32) -> Row
+    requires { ⌜ 3 * a + 3 ≤ length (now masks) ⌝ }
+    ensures { λ r. ⌜ r ≡ maskRow all (now (masks .entry)) a ⌝ }
+{
+    let at = 3 * a as usize;
+    of_step(all, masks[at], masks[at + 1], masks[at + 2])
+}
+
+// The row of an entry.
+fn entry_row(all: u64, masks: &[u64], table: &[u64], w: u32) -> Row
+    requires { ⌜ Within (now masks) (now table) w × (isEntry w ≡ true) ⌝ }
+    ensures { λ r. ⌜ r ≡ entryWord all (now (masks .entry)) (now (table .entry)) w ⌝ }
+{
+    if is_kind(8, w) {
+        return step_row(all, masks, payload_of(w));
+    }
+    row_at(table, payload_of(w) as usize)
+}
+
+// Reads the entries that stand from index `at` on.
+fn read_alternative(all: u64, masks: &[u64], table: &[u64], part: &[u32], at: usize) -> Read
+    requires { ⌜ Readable (now masks) (now table) (now part) × (at ≤ length (now part)) ⌝ }
+    ensures { λ r. ⌜ AlternativeRead all (now (masks .entry)) (now (table .entry)) (now (part .entry)) at r ⌝ }
+{
+    let mut x = start(all);
+    let mut i = at;
+    while i < part.len() {
+        let w = part[i];
+        if !is_entry(w) {
+            return Read {
+                row: live(x),
+                next: i,
+            };
+        }
+        x = joined(x, entry_row(all, masks, table, w));
+        i += 1;
+    }
+    Read {
+        row: live(x),
+        next: i,
+    }
+}
+
+// Unites the alternatives that stand from index `at` on, up to the next sequence.
+pub fn read_sequence(all: u64, masks: &[u64], table: &[u64], part: &[u32], at: usize) -> Row
+    requires { ⌜ Readable (now masks) (now table) (now part) × (at ≤ length (now part)) ⌝ }
+    ensures { λ r. ⌜ r ≡ sequenceWords all (now (masks .entry)) (now (table .entry)) noRow (drop at (now (part .entry))) ⌝ }
+{
+    let mut x = none();
+    let mut i = at;
+    while i < part.len() {
+        let w = part[i];
+        if is_kind(6, w) {
+            return x;
+        }
+        i += 1;
+        if is_kind(7, w) {
+            let r = read_alternative(all, masks, table, part, i);
+            let row = r.row;
+            x = united(x, row);
+            i = r.next;
+        }
+    }
+    x
+}

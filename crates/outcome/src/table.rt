@@ -1,0 +1,66 @@
+// The outcome table of a library: for each sequence eight words, worked out for all facts at once from the image's slices.
+use crate::order::finishing_order;
+use crate::pass::settle;
+use crate::row::all_facts;
+use image::answer::Head;
+use image::parts::sequences_part;
+use image::parts::steps_part;
+use image::tables::write_masks;
+use image::tables::write_places;
+ghost use mathlib.Core.Path.{_≡_};
+ghost use mathlib.Core.List.{_++_};
+ghost use Prim.Native.Nat.{_+_, _*_, _≤_, _<_};
+ghost use lib.ListN.{length, drop};
+ghost use Rattle.image.specs.Library.{libraryOf};
+ghost use Rattle.outcome.specs.Area.{outcomes, TableAsked, FillAsked, Blank, libraryIn};
+
+// Clears an area.
+fn clear(area: &mut [u64])
+    ensures { λ _. ⌜ Blank (now (area .exit)) ⌝ }
+{
+    let mut i = 0;
+    while i < area.len() {
+        area[i] = 0;
+        i += 1;
+    }
+}
+
+// Fills `table`, which has eight words a sequence, from the two parts of an accepted image.
+fn fill(h: Head, steps: &[u32], sequences: &[u32], table: &mut [u64])
+    requires { ⌜ FillAsked h (now steps) (now sequences) (now table) ⌝ }
+    ensures { λ _. ⌜ now (table .exit) ≡ outcomes (libraryIn h (now (steps .entry)) (now (sequences .entry))) ⌝ }
+{
+    let mut masks = [0u64; 3072];
+    let mut places = [0u32; 256];
+    let mut next = [0usize; 256];
+    let mut stack = [0usize; 256];
+    let mut order = [0usize; 256];
+    let n = h.sequences as usize;
+    write_masks(h, steps, &mut masks);
+    write_places(h, sequences, &mut places);
+    finishing_order(sequences, &places[..n], &mut next, &mut stack, &mut order);
+    clear(table);
+    settle(
+        all_facts(h.facts),
+        &masks,
+        sequences,
+        &places,
+        &order[..n],
+        table,
+        n,
+    );
+}
+
+// Writes the outcome table of an accepted image into the area. Words past it stay.
+pub fn outcome_table(h: Head, image: &[u32], area: &mut [u64])
+    requires { ⌜ TableAsked h (now image) (now area) ⌝ }
+    ensures { λ _. ⌜ now (area .exit) ≡ outcomes (libraryOf (now (image .entry))) ++ drop (8 * h .sequences) (now (area .entry)) ⌝ }
+{
+    let words = 8 * h.sequences as usize;
+    fill(
+        h,
+        steps_part(image),
+        sequences_part(image),
+        &mut area[..words],
+    );
+}
