@@ -53,7 +53,7 @@ module _ (image area : List ℕ) (h : Head) (accepted : checked image ≡ Checke
       let low : 1 ≤ L .facts = omega (arith, has .facts, right .facts-low) in
       let high : L .facts ≤ 64 = omega (arith, has .facts, right .facts-high) in
       let written : tableCards table 0 (h .sequences) ≡ cards L =
-              ap₂ (λ (x : List ℕ) (n : ℕ). tableCards x 0 n) t (sym (has .sequences)) ∙ table-cards L low high rest in
+      ap₂ (λ (x : List ℕ) (n : ℕ). tableCards x 0 n) t (sym (has .sequences)) ∙ table-cards L low high rest in
       called image area (Checked.Accepted h) (Cards.Filled (h .sequences)) after accepted
       (ap (λ (b : Bool). cond b (Cards.Refused CardArea) (Cards.Filled (h .sequences))) (le-ltb (length area) (7 * h .sequences) l))
       (w ∙ ap (λ (x : List ℕ). x ++ drop (7 * h .sequences) area) written)

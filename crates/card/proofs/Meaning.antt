@@ -113,7 +113,7 @@ flags-right L high c =
     let whole : flags L c / 2 ^ 8 ≡ n = omega (arith, byte-bound run, byte-bound empty) in
     let low : bit (flags L c) 0 ≡ boolByte run = bit-zero (flags L c) ∙ omega (arith, byte-bound run, byte-bound empty) in
     let second : bit (flags L c) 1 ≡ boolByte empty =
-            bit-suc (flags L c) 0 ∙ bit-zero (flags L c / 2) ∙ omega (arith, byte-bound run, byte-bound empty) in
+    bit-suc (flags L c) 0 ∙ bit-zero (flags L c / 2) ∙ omega (arith, byte-bound run, byte-bound empty) in
     record {
       run = Iff·trans ((λ e. byte-true run .0 (sym low ∙ e)), λ e. low ∙ byte-true run .1 e) (hasRun-iff L c);
       empty-run = Iff·trans ((λ e. byte-true empty .0 (sym second ∙ e)), λ e. second ∙ byte-true empty .1 e) (hasEmptyRun-iff L c);
@@ -143,9 +143,9 @@ module _ (L : Library) (c : ℕ) (none : hasRun L c ≡ false) where
   flags-blank =
       let empty = blank-columns emptyColumn L c 0 none in
       let count : changeable L c ≡ 0 =
-              count-same (L .facts) (λ (f : ℕ). possibleOutcome L lastSet c f || possibleOutcome L lastCleared c f) (λ (f : ℕ). false)
-              (λ f l. ap₂ _||_ (blank-columns (questionColumn lastSet) L c f none) (blank-columns (questionColumn lastCleared) L c f none))
-              ∙ count-none (L .facts) in
+      count-same (L .facts) (λ (f : ℕ). possibleOutcome L lastSet c f || possibleOutcome L lastCleared c f) (λ (f : ℕ). false)
+      (λ f l. ap₂ _||_ (blank-columns (questionColumn lastSet) L c f none) (blank-columns (questionColumn lastCleared) L c f none))
+      ∙ count-none (L .facts) in
       omega (arith, ap boolByte none, ap boolByte empty, count)
 
   card-blank : card L c ≡ blank

@@ -64,11 +64,11 @@ module _ (table area₀ : List ℕ) (n : ℕ) (room : 7 * n ≤ length area₀) 
     cards-next l j k part eight seven new =
         let before : take (7 * c) area ≡ done = ap (take (7 * c)) (at .written) ∙ take-at done (drop (7 * c) area₀) (7 * c) (length-cards table 0 c) in
         let here : part ≡ rowCard (rowAt table (0 + c)) =
-                new ∙ ap₂ (λ (i d : ℕ). rowCard (take i (drop (8 * d) table))) eight (sym (zero-add c)) in
+        new ∙ ap₂ (λ (i d : ℕ). rowCard (take i (drop (8 * d) table))) eight (sym (zero-add c)) in
         let seam : 7 * c + 7 ≡ 7 * (c + 1) = omega arith in
         let past : drop k (drop (7 * c) area) ≡ drop (7 * (c + 1)) area₀ =
-                ap₂ drop seven (ap (drop (7 * c)) (at .written) ∙ drop-at done (drop (7 * c) area₀) (7 * c) (length-cards table 0 c))
-                ∙ drop-drop 7 (7 * c) area₀ ∙ ap (λ (i : ℕ). drop i area₀) seam in
+        ap₂ drop seven (ap (drop (7 * c)) (at .written) ∙ drop-at done (drop (7 * c) area₀) (7 * c) (length-cards table 0 c))
+        ∙ drop-drop 7 (7 * c) area₀ ∙ ap (λ (i : ℕ). drop i area₀) seam in
         record {
           within = omega arith;
           written =

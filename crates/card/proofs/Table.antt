@@ -31,8 +31,8 @@ module _ (L : Library) (low : 1 ≤ L .facts) (high : L .facts ≤ 64) (c : ℕ)
   unfolding flags outcomeWord
   flags-word =
       let count : ones (bitOr (outcomeWord L 2 c) (outcomeWord L 3 c)) ≡ changeable L c =
-              ap ones (column-or (L .facts) (columnPossible L 2 c) (columnPossible L 3 c))
-              ∙ ones-column (L .facts) (λ (f : ℕ). columnPossible L 2 c f || columnPossible L 3 c f) in
+      ap ones (column-or (L .facts) (columnPossible L 2 c) (columnPossible L 3 c))
+      ∙ ones-column (L .facts) (λ (f : ℕ). columnPossible L 2 c f || columnPossible L 3 c f) in
       omega (arith, lowest 0, lowest 1, count)
 
   always-word : (q : Question)
@@ -61,7 +61,7 @@ module _ (L : Library) (low : 1 ≤ L .facts) (high : L .facts ≤ 64) (rest : L
   rows-cards table c (suc n) e =
       let eight : 8 * c + 8 ≡ 8 * suc c = omega arith in
       let next : drop (8 * suc c) table ≡ outcomeRows L (suc c) n ++ rest =
-              ap (λ (i : ℕ). drop i table) (sym eight) ∙ sym (drop-drop 8 (8 * c) table) ∙ ap (drop 8) e in
+      ap (λ (i : ℕ). drop i table) (sym eight) ∙ sym (drop-drop 8 (8 * c) table) ∙ ap (drop 8) e in
       ap₂ (λ (x y : List ℕ). x ++ y) (ap (λ (r : List ℕ). rowCard (take 8 r)) e ∙ row-card L low high c) (rows-cards table (suc c) n next)
 
   -- the cards of the outcome table, whatever stands after it

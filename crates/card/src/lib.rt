@@ -1,3 +1,4 @@
 // Sequence cards: seven words a sequence, made of the outcome table.
 pub mod answer;
+pub mod call;
 pub mod write;

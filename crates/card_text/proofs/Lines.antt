@@ -66,7 +66,7 @@ module _ (card a₀ : List ℕ) (at : ℕ) where
         let w = getD card (i - 1) 0 in
         let back : suc (i - 1) ≡ i = omega arith in
         let cut : drop (i - 1) card ≡ w ∷ drop i card =
-                drop-cons card (i - 1) 0 (omega (arith, p .below)) ∙ ap (λ (k : ℕ). w ∷ drop k card) back in
+        drop-cons card (i - 1) 0 (omega (arith, p .below)) ∙ ap (λ (k : ℕ). w ∷ drop k card) back in
         record {
           below = omega (arith, p .below);
           put =
@@ -129,7 +129,7 @@ module _ (cards a₀ : List ℕ) (at n : ℕ) where
         let back : c ≡ suc j = omega arith in
         let more : suc (n - c) ≡ n - j = omega (arith, p .below) in
         let same : cardLine j (take k (drop (7 * j) cards)) ++ linesFrom cards c (n - c) ≡ linesFrom cards j (n - j) =
-                ap₂ (λ (i d : ℕ). cardLine j (take i (drop (7 * j) cards)) ++ linesFrom cards d (n - c)) seven back ∙ ap (linesFrom cards j) more in
+        ap₂ (λ (i d : ℕ). cardLine j (take i (drop (7 * j) cards)) ++ linesFrom cards d (n - c)) seven back ∙ ap (linesFrom cards j) more in
         record {
           below = omega (arith, p .below);
           put =

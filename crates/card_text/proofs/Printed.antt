@@ -45,8 +45,8 @@ unfolding linesFrom
 lines-prefix xs ys c zero l = refl
 lines-prefix xs ys c (suc n) l =
     let here : take 7 (drop (7 * c) (xs ++ ys)) ≡ take 7 (drop (7 * c) xs) =
-            ap (take 7) (drop-append-le (7 * c) xs ys (omega arith))
-            ∙ take-append-le 7 (drop (7 * c) xs) ys (omega (arith, length-drop (7 * c) xs)) in
+    ap (take 7) (drop-append-le (7 * c) xs ys (omega arith))
+    ∙ take-append-le 7 (drop (7 * c) xs) ys (omega (arith, length-drop (7 * c) xs)) in
     ap₂ (λ (x y : List ℕ). cardLine c x ++ y) here (lines-prefix xs ys (suc c) n (omega arith))
 
 module _ (image area : List ℕ) (room : 1792 ≤ length area) where

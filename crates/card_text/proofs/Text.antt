@@ -56,7 +56,7 @@ module _ (bytes area₀ : List ℕ) (at : ℕ) where
     bytes-next area′ start′ q =
         let back : suc (i - 1) ≡ i = omega arith in
         let cut : drop (i - 1) bytes ≡ getD bytes (i - 1) 0 ∷ drop i bytes =
-                drop-cons bytes (i - 1) 0 (omega (arith, p .within)) ∙ ap (λ (k : ℕ). getD bytes (i - 1) 0 ∷ drop k bytes) back in
+        drop-cons bytes (i - 1) 0 (omega (arith, p .within)) ∙ ap (λ (k : ℕ). getD bytes (i - 1) 0 ∷ drop k bytes) back in
         record {
           within = omega (arith, p .within);
           put =

@@ -2,13 +2,18 @@
 -- follows from the definitions.
 use Prim.Native.Nat.{ℕ, _+_, _*_, _^_}
 use mathlib.Core.Path.{_≡_, refl}
-use mathlib.Core.Bool.{Bool, true, _&&_}
-use mathlib.Core.List.{List, [], _∷_}
+use mathlib.Core.Bool.{Bool, true, false, _&&_}
+use mathlib.Core.List.{List, [], _∷_, _++_}
+use lib.ListN.{length, replicate}
 use lib.Dec.{eqb}
 use Rattle.image.specs.Answer.{checkedAnswer}
 use Rattle.image.specs.Checked.{scan, checked}
+use Rattle.image.specs.Library.{has, libraryOf}
 use Rattle.image.specs.Rules.{opened, lastOf}
 use Rattle.image.specs.Word.{total}
+use Rattle.outcome.specs.Possible.{possible}
+use Rattle.card.specs.Card.{card, cards}
+use Rattle.card.specs.Answer.{cardsOf, cardArea, cardsAnswer}
 
 -- "Library L, 20 words in hexadecimal, F = A = C = 3"
 abbrev pub L : List ℕ
@@ -17,18 +22,60 @@ L =
     ∷ 0x80000000 ∷ 0x70000000 ∷ 0x60000001 ∷ 0x70000000 ∷ 0x90000000 ∷ 0x80000001 ∷ 0x60000002 ∷ 0x70000000 ∷ 0x90000002 ∷ 0xf00c019a
     ∷ []
 
+-- one fact and nothing else: 10000001 f0000002
+abbrev pub bare : List ℕ
+bare = 0x10000001 ∷ 0xf0000002 ∷ []
+
+-- one sequence with the alternatives <itself> and <>
+abbrev pub selfCall : List ℕ
+selfCall = 0x10040001 ∷ 0x60000000 ∷ 0x70000000 ∷ 0x90000000 ∷ 0x70000000 ∷ 0xf004000f ∷ []
+
+-- sequence 0 with the alternatives <set f, sequence 1> and <clear f>; sequence 1 is endless, its one alternative is <itself>
+abbrev pub endlessFirst : List ℕ
+endlessFirst =
+    0x10080101 ∷ 0x50000000 ∷ 0x30000000 ∷ 0x50000001 ∷ 0x40000000 ∷ 0x60000000 ∷ 0x70000000 ∷ 0x80000000 ∷ 0x90000001 ∷ 0x70000000
+    ∷ 0x80000001 ∷ 0x60000001 ∷ 0x70000000 ∷ 0x90000001 ∷ 0xf008010b ∷ []
+
+-- one alternative <clear f, need f>
+abbrev pub clearThenNeed : List ℕ
+clearThenNeed =
+    0x10040101 ∷ 0x50000000 ∷ 0x40000000 ∷ 0x50000001 ∷ 0x20000000 ∷ 0x60000000 ∷ 0x70000000 ∷ 0x80000000 ∷ 0x80000001 ∷ 0xf0040111 ∷ []
+
+-- one alternative with one step that sets and clears f
+abbrev pub pulse : List ℕ
+pulse = 0x10040081 ∷ 0x50000000 ∷ 0x30000000 ∷ 0x40000000 ∷ 0x60000000 ∷ 0x70000000 ∷ 0x80000000 ∷ 0xf0040083 ∷ []
+
 -- a call on an image, with what the paper answers
 pub data Sample : Type 0 where
   -- the check accepts: F, A and C
   accepts : List ℕ → ℕ → ℕ → ℕ → Sample
   -- the check refuses: number and position
   refuses : List ℕ → ℕ → ℕ → Sample
+  -- the cards, a line of seven words for each sequence
+  prints : List ℕ → List (List ℕ) → Sample
 
--- "N × 2^32 + P for refusal N at position P, otherwise the head's payload", F in bits 0 to 6, A in bits 7 to 17, C in bits 18 to 26
+unfoldable pub joined : List (List ℕ) → List ℕ
+joined [] = []
+joined (l ∷ ls) = l ++ joined ls
+
+unfoldable pub sameWords : List ℕ → List ℕ → Bool
+sameWords [] [] = true
+sameWords [] (y ∷ ys) = false
+sameWords (x ∷ xs) [] = false
+sameWords (x ∷ xs) (y ∷ ys) = eqb x y && sameWords xs ys
+
+-- an area of just enough words
+abbrev pub areaFor : List (List ℕ) → List ℕ
+areaFor lines = replicate (7 * length lines) 0
+
+-- "N × 2^32 + P for refusal N at position P, otherwise the head's payload from the check, C from the cards"; F in bits 0 to 6, A in
+-- bits 7 to 17, C in bits 18 to 26
 unfoldable pub holds : Sample → Bool
-unfolding checked
+unfolding checked cards joined sameWords
 holds (accepts image f a c) = eqb (checkedAnswer (checked image)) (f + a * 2 ^ 7 + c * 2 ^ 18)
 holds (refuses image n p) = eqb (checkedAnswer (checked image)) (n * 2 ^ 32 + p)
+holds (prints image lines) =
+    eqb (cardsAnswer (cardsOf image (areaFor lines))) (length lines) && sameWords (cardArea image (areaFor lines)) (joined lines)
 
 unfoldable pub all : List Sample → Bool
 unfolding holds
@@ -39,12 +86,24 @@ abbrev pub starred : List Sample
 starred =
     -- L is read: F = A = C = 3
     accepts L 3 3 3
-    -- "10000001 f0000002 is accepted"
-    ∷ accepts (0x10000001 ∷ 0xf0000002 ∷ []) 1 0 0
+    -- "L prints, whole": 0 103 0 0 1 0 0 0, 1 201 0 1 3 0 2 0, 2 0 0 0 0 0 0 0
+    ∷ prints L
+    ((0x103 ∷ 0 ∷ 0 ∷ 1 ∷ 0 ∷ 0 ∷ 0 ∷ []) ∷ (0x201 ∷ 0 ∷ 1 ∷ 3 ∷ 0 ∷ 2 ∷ 0 ∷ []) ∷ (0 ∷ 0 ∷ 0 ∷ 0 ∷ 0 ∷ 0 ∷ 0 ∷ []) ∷ [])
+    -- "10000001 f0000002 is accepted and prints nothing"
+    ∷ accepts bare 1 0 0
+    ∷ prints bare []
     -- "10000000 f0000001 gets 3"
     ∷ refuses (0x10000000 ∷ 0xf0000001 ∷ []) 3 0
+    -- "Alternatives <itself> and <>: flags 3"
+    ∷ prints selfCall ((3 ∷ 0 ∷ 0 ∷ 0 ∷ 0 ∷ 0 ∷ 0 ∷ []) ∷ [])
+    -- "Alternatives <set f, L's kind of endless sequence> and <clear f>: always cleared." It may clear f, so one fact is changeable
+    ∷ prints endlessFirst ((0x101 ∷ 0 ∷ 0 ∷ 0 ∷ 1 ∷ 0 ∷ 1 ∷ []) ∷ (0 ∷ 0 ∷ 0 ∷ 0 ∷ 0 ∷ 0 ∷ 0 ∷ []) ∷ [])
+    -- "Alternative <clear f, need f>: always needed, though no run executes." It may need f, and always clears it
+    ∷ prints clearThenNeed ((0x101 ∷ 1 ∷ 1 ∷ 0 ∷ 1 ∷ 0 ∷ 1 ∷ []) ∷ [])
+    -- "One step sets and clears f: always set, not may clear."
+    ∷ prints pulse ((0x101 ∷ 0 ∷ 0 ∷ 1 ∷ 0 ∷ 1 ∷ 0 ∷ []) ∷ [])
     ∷ []
 
 pub starred-hold : all starred ≡ true
-unfolding all scan total opened lastOf
+unfolding all scan total opened lastOf libraryOf has possible card
 starred-hold = refl

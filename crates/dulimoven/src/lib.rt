@@ -2,6 +2,7 @@
 ghost use mathlib.Core.Path.{_≡_};
 ghost use Rattle.image.specs.Answer.{checkedAnswer};
 ghost use Rattle.image.specs.Checked.{checked};
+ghost use Rattle.card.specs.Answer.{cardsOf, cardArea, cardsAnswer};
 
 // The check: the head's payload for an accepted image, or N × 2^32 + P for refusal N at position P.
 #[no_mangle]
@@ -9,4 +10,14 @@ pub extern "C" fn dulimoven_check(image: &[u32]) -> u64
     ensures { λ r. ⌜ r ≡ checkedAnswer (checked (now (image .entry))) ⌝ }
 {
     image::answer::checked_answer(image::check::check(image))
+}
+
+// The cards: C with the cards of all sequences written, seven words a sequence, or N × 2^32 + P for refusal N at position P with the area as
+// it was.
+#[no_mangle]
+pub extern "C" fn dulimoven_cards(image: &[u32], area: &mut [u64]) -> u64
+    ensures answer { λ r. ⌜ r ≡ cardsAnswer (cardsOf (now (image .entry)) (now (area .entry))) ⌝ }
+    ensures area { λ _. ⌜ now (area .exit) ≡ cardArea (now (image .entry)) (now (area .entry)) ⌝ }
+{
+    card::answer::cards_answer(card::call::cards(image, area))
 }

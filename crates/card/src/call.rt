@@ -1,0 +1,36 @@
+// The card call: refusals 1 to 8, or the cards of all sequences.
+use crate::answer::Cards;
+use crate::write::write_cards;
+use image::answer::Checked;
+use image::answer::Head;
+use image::answer::Refusal;
+use image::check::check;
+use outcome::table::outcome_table;
+ghost use mathlib.Core.Path.{_≡_};
+ghost use Rattle.image.specs.Checked.{checked};
+ghost use Rattle.card.specs.Answer.{Called, accepts};
+
+// Fills the cards of an accepted image, where the area has room for them: nothing is written before that is known.
+fn fill(h: Head, image: &[u32], area: &mut [u64]) -> Cards
+    requires { ⌜ accepts (now image) h ⌝ }
+    ensures { λ r. ⌜ Called (now (image .entry)) (now (area .entry)) r (now (area .exit)) ⌝ }
+{
+    let n = h.sequences as usize;
+    if area.len() < 7 * n {
+        return Cards::Refused(Refusal::CardArea);
+    }
+    let mut table = [0u64; 2048];
+    outcome_table(h, image, &mut table);
+    write_cards(n, &table, area);
+    Cards::Filled(h.sequences)
+}
+
+// The card call: what it answers, and the words of the area after it, for every image and every area.
+pub fn cards(image: &[u32], area: &mut [u64]) -> Cards
+    ensures { λ r. ⌜ Called (now (image .entry)) (now (area .entry)) r (now (area .exit)) ⌝ }
+{
+    match check(image) {
+        Checked::Refused(r) => Cards::Refused(r),
+        Checked::Accepted(h) => fill(h, image, area),
+    }
+}
