@@ -1,12 +1,17 @@
-// What the program prints for an answer of the card call.
+// What the program prints: for an answer of the card call, and for the bytes of its input.
+use crate::bytes::write_words;
 use crate::line::put_lines;
 use crate::line::put_refusal;
 use card::answer::Cards;
+use card::call::cards;
 use image::answer::number;
 use image::answer::position;
+ghost use Prim.Native.Nat.{_≤_};
 ghost use lib.ListN.{length};
+ghost use Rattle.image.specs.Checked.{checked};
+ghost use Rattle.card_text.specs.Words.{wordsOf};
 ghost use Rattle.card_text.specs.Text.{InFront};
-ghost use Rattle.card_text.specs.Print.{answerText, AnswerAsked};
+ghost use Rattle.card_text.specs.Print.{answerText, imageText, printed, AnswerAsked};
 
 // Puts the cards' lines, or the refusal's, in front of the text that begins at `at`.
 pub fn put_answer(text: &mut [u8], at: usize, found: Cards, cards: &[u64]) -> usize
@@ -17,4 +22,33 @@ pub fn put_answer(text: &mut [u8], at: usize, found: Cards, cards: &[u64]) -> us
         Cards::Filled(n) => put_lines(text, at, n, cards),
         Cards::Refused(r) => put_refusal(text, at, number(r), position(r) as u64),
     }
+}
+
+// Puts the text of an image at the end of the text area.
+fn print_words(bytes: &[u8], text: &mut [u8]) -> usize
+    requires { ⌜ (length (now bytes) ≤ 32768) × (33280 ≤ length (now text)) ⌝ }
+    ensures { λ r. ⌜ InFront (now (text .entry)) (length (now (text .entry))) (now (text .exit)) r (imageText (checked (wordsOf (now (bytes .entry)))) (wordsOf (now (bytes .entry)))) ⌝ }
+{
+    let mut words = [0u32; 8192];
+    write_words(bytes, &mut words);
+    let n = bytes.len() / 4;
+    let mut area = [0u64; 1792];
+    let found = cards(&words[..n], &mut area);
+    let at = text.len();
+    put_answer(text, at, found, &area)
+}
+
+// Puts what the program prints for the bytes of its input at the end of the text area, and says where it begins.
+pub fn print_image(bytes: &[u8], text: &mut [u8]) -> usize
+    requires { ⌜ 33280 ≤ length (now text) ⌝ }
+    ensures { λ r. ⌜ InFront (now (text .entry)) (length (now (text .entry))) (now (text .exit)) r (printed (now (bytes .entry))) ⌝ }
+{
+    let at = text.len();
+    if 32768 < bytes.len() {
+        return put_refusal(text, at, 1, 0);
+    }
+    if bytes.len() % 4 != 0 {
+        return put_refusal(text, at, 1, 0);
+    }
+    print_words(bytes, text)
 }
