@@ -3,9 +3,9 @@
 use Prim.Native.Nat.{ℕ, zero, suc, _+_, _*_, _-_, _≤_, _<_}
 use native.Mathlib.Nat.{add-zero, zero-add, add-suc, suc-add, le-of-suc-le-suc}
 use native.Mathlib.Omega.{arith}
-use mathlib.Core.Path.{_≡_, refl, sym, ap, ap₂, _∙_, subst}
+use mathlib.Core.Path.{_≡_, refl, sym, ap, ap₂, _∙_}
 use mathlib.Core.Bool.{Bool, true, false, cond}
-use mathlib.Core.List.{List, [], _∷_, _++_, append-assoc}
+use mathlib.Core.List.{List, _++_}
 use lib.ListN.{length, getD, drop, length-append, length-drop, List·getD-append}
 use lib.Seq.{getD-append-add, getD-drop}
 use lib.Dec.{ltb}
@@ -19,7 +19,7 @@ use Rattle.image.specs.declared.answer.Checked.{Checked}
 use Rattle.image.proofs.Accepted.{faultless, counted}
 use Rattle.card.specs.Card.{cardWords, card, cardsFrom, cards}
 use Rattle.card.specs.Answer.{answered, cardsOf, areaAfter, cardArea}
-use Rattle.card.specs.Meaning.{cardWord, Card, Runs}
+use Rattle.card.specs.Meaning.{cardWord}
 use Rattle.card.specs.Area.{Written}
 use Rattle.card.specs.declared.answer.Cards.{Cards}
 use Rattle.card.proofs.Meaning.{card-right, runs-right}

@@ -7,7 +7,7 @@ use mathlib.Core.Bool.{Bool, cond}
 use mathlib.Core.List.{List, _++_}
 use lib.ListN.{length, drop}
 use borrow.Author.Tests.{lt-ltb, le-ltb}
-use Rattle.image.specs.Library.{Library, libraryOf}
+use Rattle.image.specs.Library.{libraryOf}
 use Rattle.image.specs.Checked.{checked}
 use Rattle.image.specs.Accepted.{Counted, Faultless}
 use Rattle.image.specs.declared.answer.Head.{Head}
@@ -16,9 +16,9 @@ use Rattle.image.specs.declared.answer.Refusal.the-variants.{CardArea}
 use Rattle.image.specs.declared.answer.Checked.{Checked}
 use Rattle.image.proofs.Accepted.{faultless, counted}
 use Rattle.outcome.specs.Area.{outcomes}
-use Rattle.card.specs.Card.{cardWords, cards}
+use Rattle.card.specs.Card.{cards}
 use Rattle.card.specs.Row.{tableCards}
-use Rattle.card.specs.Answer.{answered, cardsOf, areaAfter, cardArea, Called}
+use Rattle.card.specs.Answer.{answered, cardsOf, areaAfter, Called}
 use Rattle.card.specs.declared.answer.Cards.{Cards}
 use Rattle.card.proofs.Table.{table-cards}
 

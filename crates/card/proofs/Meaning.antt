@@ -1,21 +1,21 @@
 -- What a card says, proved: the columns against the published definitions, the flags, the count and the blank card of demand 2, and
 -- the sentences of demand 3 over the words of a card.
 -- Assumes nothing.
-use Prim.Native.Nat.{ℕ, zero, suc, _+_, _*_, _/_, _%_, _^_, _≤_, _<_}
+use Prim.Native.Nat.{ℕ, zero, suc, _+_, _*_, _/_, _^_, _≤_, _<_}
 use native.Mathlib.Omega.{arith}
 use mathlib.Core.Path.{_≡_, refl, sym, ap, ap₂, _∙_}
-use mathlib.Core.Logic.{_↔_, _≢_, ⊎-elim, Iff·trans, Iff·symm}
+use mathlib.Core.Logic.{_↔_, _≢_, ⊎-elim, Iff·trans}
 use mathlib.Core.Bool.{Bool, true, false, not, _&&_, _||_, true≢false}
 use mathlib.Core.List.{List, [], _∷_}
 use lib.ListN.{getD}
 use mir.Val.{boolByte}
-use Rattle.column.specs.Column.{bit, column}
+use Rattle.column.specs.Column.{bit}
 use Rattle.column.specs.Sets.{inColumn, countBelow}
 use Rattle.column.proofs.Bits.{bit-zero, bit-suc, bit-none, bit-high, column-same, column-none}
 use Rattle.column.proofs.Operations.{bit-one, bit-null, in-column, column-high, count-le, count-same, count-none}
 use Rattle.image.specs.Library.{Library}
 use Rattle.outcome.specs.Run.{Item, Run}
-use Rattle.outcome.specs.Execution.{Fact, State, Executes, end}
+use Rattle.outcome.specs.Execution.{Fact, State, Executes}
 use Rattle.outcome.specs.Touch.{Question, HasOutcome, untouched, lastSet, lastCleared, firstNeeded}
 use Rattle.outcome.specs.Possible.{possibleOutcome, alwaysOutcome, hasRun, hasEmptyRun, brokenRule, questionColumn, emptyColumn}
 use Rattle.outcome.proofs.Tests.{passes-or-not}
@@ -24,7 +24,7 @@ use Rattle.outcome.proofs.Columns.{question-iff, hasRun-iff, hasEmptyRun-iff, b
 use Rattle.outcome.proofs.Published.{published-columns}
 use Rattle.outcome.proofs.Execution.{kept}
 use Rattle.card.specs.Card.{may, always, changeable, flags, card, maySet, mayClear}
-use Rattle.card.specs.Meaning.{cardWord, Holds, Lacks, HasRun, Columns, Flags, blank, Card, Kept, Broken, Missing, Runs}
+use Rattle.card.specs.Meaning.{cardWord, HasRun, Columns, Flags, blank, Card, Kept, Missing, Runs}
 
 -- ---- a word, one fact at a time
 

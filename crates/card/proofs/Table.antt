@@ -1,25 +1,24 @@
 -- The cards of the outcome table are the cards of the library: each word of a row is a column of what is possible.
 -- Assumes nothing.
-use Prim.Native.Nat.{ℕ, zero, suc, _+_, _*_, _%_, _≤_, _<_}
+use Prim.Native.Nat.{ℕ, zero, suc, _+_, _*_, _%_, _≤_}
 use native.Mathlib.Omega.{arith}
 use mathlib.Core.Path.{_≡_, refl, sym, ap, ap₂, _∙_}
-use mathlib.Core.Bool.{Bool, _&&_, _||_, not}
+use mathlib.Core.Bool.{_||_}
 use mathlib.Core.List.{List, [], _∷_, _++_}
 use lib.ListN.{length, take, drop}
 use lib.Seq.{drop-drop}
 use lib.Bits.{bitOr}
 use lib.Count.{ones}
 use mir.Val.{boolByte}
-use Rattle.column.specs.Column.{column}
 use Rattle.column.specs.Sets.{difference}
 use Rattle.column.proofs.Bits.{bit-zero, bit-column}
 use Rattle.column.proofs.Operations.{column-or, column-difference, ones-column}
 use Rattle.image.specs.Library.{Library}
 use Rattle.outcome.specs.Touch.{Question, rival, untouchedOn, lastSet, lastCleared, firstNeeded}
-use Rattle.outcome.specs.Possible.{columnPossible, possibleOutcome, hasRun, hasEmptyRun}
+use Rattle.outcome.specs.Possible.{columnPossible, possibleOutcome, hasRun}
 use Rattle.outcome.specs.Area.{outcomeWord, outcomeRows, outcomes}
 use Rattle.card.specs.Card.{may, always, changeable, flags, card, cardsFrom, cards}
-use Rattle.card.specs.Row.{flagsOf, alwaysOf, rowCard, rowAt, tableCards}
+use Rattle.card.specs.Row.{flagsOf, alwaysOf, rowCard, tableCards}
 
 module _ (L : Library) (low : 1 ≤ L .facts) (high : L .facts ≤ 64) (c : ℕ) where
   -- the lowest bit of a column says of fact 0 what the column says

@@ -2,27 +2,24 @@
 -- Assumes nothing.
 use Prim.Native.Nat.{ℕ, zero, suc, _+_, _*_, _/_, _%_, _≤_, _<_}
 use native.Mathlib.Omega.{arith}
-use mathlib.Core.Path.{_≡_, refl, sym, ap, ap₂, _∙_, subst}
+use mathlib.Core.Path.{_≡_, refl, sym, ap, ap₂, _∙_}
 use mathlib.Core.Bool.{Bool, true, false, cond, _&&_}
 use mathlib.Core.List.{List, [], _∷_, _++_}
 use lib.ListN.{length, take, drop, length-drop}
 use lib.Seq.{take-at, take-append-le, drop-append-le}
-use lib.Dec.{leb, eqb, ltb}
+use lib.Dec.{eqb}
 use borrow.Author.Tests.{le-ltb, le-leb, lt-leb, eq-eqb, ne-eqb}
 use Rattle.image.specs.Checked.{checked}
-use Rattle.image.specs.Library.{Library, libraryOf}
+use Rattle.image.specs.Library.{libraryOf}
 use Rattle.image.specs.Accepted.{Counted}
-use Rattle.image.specs.declared.answer.Head.{Head}
-use Rattle.image.specs.declared.answer.Refusal.{Refusal}
 use Rattle.image.specs.declared.answer.Refusal.the-variants.{CardArea}
 use Rattle.image.specs.declared.answer.Checked.{Checked}
 use Rattle.image.proofs.Accepted.{faultless, counted}
 use Rattle.card.specs.Card.{cards}
-use Rattle.card.specs.Answer.{answered, cardsOf, areaAfter, cardArea, Called}
+use Rattle.card.specs.Answer.{answered, areaAfter, Called}
 use Rattle.card.specs.declared.answer.Cards.{Cards}
 use Rattle.card.proofs.Area.{filled, length-cards}
 use Rattle.card_text.specs.Words.{wordsOf}
-use Rattle.card_text.specs.Text.{InFront}
 use Rattle.card_text.specs.Line.{cardLine, linesFrom, cardLines, refusalLine}
 use Rattle.card_text.specs.Print.{answerText, imageText, printed, AnswerAsked}
 

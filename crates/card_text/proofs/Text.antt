@@ -1,12 +1,12 @@
 -- Texts that grow at the front: one byte, nothing, and two pieces one after the other.
 -- Assumes nothing.
-use Prim.Native.Nat.{ℕ, suc, _+_, _-_, _≤_, _<_}
+use Prim.Native.Nat.{ℕ, suc, _-_, _≤_, _<_}
 use native.Mathlib.Omega.{arith}
 use mathlib.Core.Path.{_≡_, refl, sym, ap, ap₂, _∙_, subst}
 use mathlib.Core.List.{List, [], _∷_, _++_, append-assoc}
 use lib.ListN.{length, drop, set, getD, length-set, length-append, length-drop}
 use lib.Seq.{drop-cons, drop-length, drop-set-lt, getD-set-same}
-use Rattle.card_text.specs.Text.{InFront, PutWithin}
+use Rattle.card_text.specs.Text.{InFront}
 
 pub front-none : (area : List ℕ) (at : ℕ) → InFront area at area at []
 front-none area at = record { long = refl; room = omega arith; text = refl }

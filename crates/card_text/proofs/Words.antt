@@ -6,7 +6,6 @@ use native.Mathlib.Omega.{arith}
 use mathlib.Core.Path.{_≡_, refl, sym, ap, ap₂, _∙_, subst}
 use mathlib.Core.List.{List, [], _∷_, _++_}
 use lib.ListN.{length, take, drop, set, getD, length-set, length-drop, take-append-drop}
-use lib.Seq.{drop-cons}
 use Rattle.card_text.specs.Words.{word, wordsOf}
 
 -- fewer than four bytes hold no word

@@ -1,5 +1,5 @@
 -- The lines of the printing program (document 01, "The printing program").
-use Prim.Native.Nat.{ℕ, zero, suc, _+_, _*_}
+use Prim.Native.Nat.{ℕ, zero, suc, _*_}
 use mathlib.Core.List.{List, [], _∷_, _++_}
 use lib.ListN.{take, drop}
 use Rattle.card_text.specs.Number.{numeral}

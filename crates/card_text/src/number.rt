@@ -1,8 +1,7 @@
 // Numbers as text, without leading zeros.
 use crate::bytes::put_byte;
 ghost use mathlib.Core.Path.{_≡_};
-ghost use Prim.Native.Nat.{_≤_, _<_};
-ghost use lib.ListN.{length};
+ghost use Prim.Native.Nat.{_<_};
 ghost use Rattle.card_text.specs.Number.{digit, numeral, NumeralAsked};
 ghost use Rattle.card_text.specs.Text.{InFront};
 

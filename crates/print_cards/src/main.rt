@@ -44,7 +44,10 @@ fn main() {
     match read_input(&mut input) {
         Input::Bytes(n) => print(&input[..n]),
         Input::Failed => {
-            io::write_all(STDERR_FILENO, b"print_cards: standard input cannot be read\n");
+            io::write_all(
+                STDERR_FILENO,
+                b"print_cards: standard input cannot be read\n",
+            );
         }
     }
 }

@@ -1,3 +1,5 @@
+-- `print_cards::main` meets its contract: what was read is a part of the input area.
+-- Assumes nothing.
 use borrow.Author.Needs.{needs}
 use mathlib.Core.Path.{sym, subst}
 use lib.ListN.{length}

@@ -1,6 +1,7 @@
+-- `print_cards::read_input` meets its contract: each turn reads at least one byte more.
+-- Assumes nothing.
 use borrow.Author.Needs.{needs}
 use Prim.Native.Nat.{_≤_, _-_}
-use native.Mathlib.Omega.{arith}
 use mathlib.Core.Path.{_≡_}
 use lib.ListN.{length}
 use Rattle.print_cards.proofs.read_input.Statement.{statement}

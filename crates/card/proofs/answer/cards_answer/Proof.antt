@@ -1,3 +1,5 @@
+-- `card::answer::cards_answer` meets its contract, by that of the refusal's number.
+-- Assumes nothing.
 use borrow.Author.Needs.{needs}
 use mathlib.Core.Path.{sym, ap, _∙_}
 use Rattle.card.specs.Answer.{cardsAnswer}

@@ -2,7 +2,6 @@
 -- Assumes nothing.
 use borrow.Author.Needs.{needs}
 use native.Mathlib.Omega.{arith}
-use lib.ListN.{drop}
 use Rattle.card.proofs.Filled.{call-short, call-rows, call-filled}
 use Rattle.card.proofs.call.fill.Statement.{statement}
 use Rattle.card.proofs.call.fill.Tie as tie

@@ -1,3 +1,5 @@
+-- `card::write::always` meets its contract: a run exists, without the two rival outcomes.
+-- Assumes nothing.
 use borrow.Author.Needs.{needs}
 use Rattle.card.proofs.write.always.Statement.{statement}
 use Rattle.card.proofs.write.always.Tie as tie

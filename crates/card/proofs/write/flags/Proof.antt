@@ -1,3 +1,5 @@
+-- `card::write::flags` meets its contract: the count is that of the union.
+-- Assumes nothing.
 use borrow.Author.Needs.{needs}
 use Rattle.card.proofs.write.flags.Statement.{statement}
 use Rattle.card.proofs.write.flags.Tie as tie

@@ -1,3 +1,5 @@
+-- `card::write::write_card` meets its contract: seven stores into a part of seven words.
+-- Assumes nothing.
 use borrow.Author.Needs.{needs}
 use native.Mathlib.Omega.{arith}
 use lib.ListN.{length-set}

@@ -1,3 +1,5 @@
+-- `card::write::write_cards` meets its contract: each turn writes the next card into its own part.
+-- Assumes nothing.
 use borrow.Author.Needs.{needs}
 use Prim.Native.Nat.{_+_, _*_, _-_}
 use native.Mathlib.Omega.{arith}

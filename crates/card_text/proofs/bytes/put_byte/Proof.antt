@@ -1,3 +1,5 @@
+-- `card_text::bytes::put_byte` meets its contract: one store in front.
+-- Assumes nothing.
 use borrow.Author.Needs.{needs}
 use Rattle.card_text.proofs.Text.{front-byte}
 use Rattle.card_text.proofs.bytes.put_byte.Statement.{statement}

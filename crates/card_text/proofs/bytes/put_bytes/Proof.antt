@@ -1,3 +1,5 @@
+-- `card_text::bytes::put_bytes` meets its contract: from the last byte to the first.
+-- Assumes nothing.
 use borrow.Author.Needs.{needs}
 use native.Mathlib.Omega.{arith}
 use Rattle.card_text.proofs.Text.{BytesAt, bytes-start, bytes-room, bytes-next, bytes-end}

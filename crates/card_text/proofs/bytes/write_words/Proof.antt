@@ -1,3 +1,5 @@
+-- `card_text::bytes::write_words` meets its contract: from the last word to the first.
+-- Assumes nothing.
 use borrow.Author.Needs.{needs}
 use native.Mathlib.Omega.{arith}
 use Rattle.card_text.proofs.Words.{WordsAt, words-start, words-next, words-end}

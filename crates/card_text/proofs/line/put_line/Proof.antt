@@ -1,3 +1,5 @@
+-- `card_text::line::put_line` meets its contract: the line's end, the words and the number, each in front of the one before.
+-- Assumes nothing.
 use borrow.Author.Needs.{needs}
 use native.Mathlib.Omega.{arith}
 use Rattle.card_text.proofs.Lines.{decimal-asked, line-put}

@@ -1,3 +1,5 @@
+-- `card_text::line::put_lines` meets its contract: from the last sequence to the first.
+-- Assumes nothing.
 use borrow.Author.Needs.{needs}
 use Prim.Native.Nat.{_+_, _*_, _-_}
 use native.Mathlib.Omega.{arith}

@@ -1,3 +1,5 @@
+-- `card_text::line::put_refusal` meets its contract: five pieces, each in front of the one before.
+-- Assumes nothing.
 use borrow.Author.Needs.{needs}
 use native.Mathlib.Omega.{arith}
 use Rattle.card_text.proofs.Lines.{long-length, long-asked, refusal-put}

@@ -1,3 +1,5 @@
+-- `card_text::line::put_word` meets its contract: a numeral of at most 16 digits, and a space in front.
+-- Assumes nothing.
 use borrow.Author.Needs.{needs}
 use native.Mathlib.Omega.{arith}
 use Rattle.card_text.proofs.Lines.{hex-length, hex-asked, word-put}

@@ -1,3 +1,5 @@
+-- `card_text::line::put_words` meets its contract: from the last word to the first.
+-- Assumes nothing.
 use borrow.Author.Needs.{needs}
 use native.Mathlib.Omega.{arith}
 use Rattle.card_text.proofs.Lines.{CardAt, card-start, card-room, card-next, card-end}

@@ -1,3 +1,5 @@
+-- `card_text::number::digit_of` meets its contract, on either side of 10.
+-- Assumes nothing.
 use borrow.Author.Needs.{needs}
 use borrow.Author.Tests.{lt-ltb, le-ltb}
 use Rattle.card_text.proofs.number.digit_of.Statement.{statement}

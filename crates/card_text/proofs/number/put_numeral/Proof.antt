@@ -1,3 +1,5 @@
+-- `card_text::number::put_numeral` meets its contract: from the last digit to the first, while the rest has more than one.
+-- Assumes nothing.
 use borrow.Author.Needs.{needs}
 use native.Mathlib.Omega.{arith}
 use native.Mathlib.Nat.{mod-lt, div-lt-self}

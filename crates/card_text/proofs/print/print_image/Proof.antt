@@ -1,3 +1,5 @@
+-- `card_text::print::print_image` meets its contract: too long, no whole words, or an image.
+-- Assumes nothing.
 use borrow.Author.Needs.{needs}
 use native.Mathlib.Omega.{arith}
 use mathlib.Core.Path.{subst}

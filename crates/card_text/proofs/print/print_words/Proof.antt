@@ -1,3 +1,5 @@
+-- `card_text::print::print_words` meets its contract: the words of the bytes, the card call on them, and the text of its answer.
+-- Assumes nothing.
 use borrow.Author.Needs.{needs}
 use Prim.Native.Nat.{ℕ, _/_}
 use native.Mathlib.Omega.{arith}

@@ -1,3 +1,5 @@
+-- `card_text::print::put_answer` meets its contract, case by case.
+-- Assumes nothing.
 use borrow.Author.Needs.{needs}
 use native.Mathlib.Omega.{arith}
 use mathlib.Core.Path.{sym, ap, ap₂, _∙_, subst}
