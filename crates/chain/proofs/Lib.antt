@@ -1,1 +1,3 @@
+pub mod Scan
+pub mod Ranks
 pub mod Sample

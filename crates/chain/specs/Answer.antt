@@ -11,6 +11,7 @@ use Rattle.chain.specs.Scan.{firstIndex}
 use Rattle.chain.specs.Link.{Link, touchLink, untouchedLink, Chain}
 use Rattle.chain.specs.Stands.{entryAt}
 use Rattle.chain.specs.Ranks.{Ranks, Look, ranks, unranked, candidate, asked, aheadOf, behindOf, untouchedLook, touchLook}
+use Rattle.chain.specs.Ranks.{depthLook, linkLook}
 
 pub data Answer : Type 0 where
   none : Answer
@@ -81,5 +82,5 @@ answerFor L q c f untouched = untouchedShown L q c f (ranks (L .sequences) (unto
 
 -- the answer to question q of sequence c for fact f
 unfoldable pub answer : Library → Question → ℕ → ℕ → Answer
-unfolding answerFor
+unfolding answerFor depthLook linkLook
 answer L q c f = answerFor L q c f (q .mark)

@@ -10,7 +10,7 @@ use Rattle.outcome.specs.Run.{Item, RunOf, alternativesOf, alternativeOf}
 use Rattle.outcome.specs.Touch.{Side, last, first, Mark, untouched, itemTouch, Question, untouchedOn, HasOutcome}
 use Rattle.outcome.specs.Algebra.{sameMark}
 use Rattle.outcome.specs.Possible.{hasRun, possibleOutcome}
-use Rattle.chain.specs.Scan.{every, leastBelow, greatest, listFrom, total}
+use Rattle.chain.specs.Scan.{every, leastBelow, greatest, listBelow, total}
 use Rattle.chain.specs.Link.{Chain}
 use Rattle.chain.specs.Stands.{About, entryAt, StandsFor}
 use Rattle.chain.specs.Depth.{depthOf}
@@ -36,8 +36,8 @@ module _ (S : List Sequence) (look : Look) where
   module _ (none : ℕ) where
     -- one round: every rank lowered by the ranks as they stand, as a list that is computed once
     unfoldable pub round : List ℕ → List ℕ
-    unfolding lowered listFrom
-    round T = listFrom (lowered (λ d. getD T d none)) 0 (length S)
+    unfolding lowered listBelow
+    round T = listBelow (lowered (λ d. getD T d none)) (length S)
 
     -- rounds, at most n of them, as long as a rank is lowered
     unfoldable pub rounds : ℕ → List ℕ → List ℕ
@@ -50,7 +50,7 @@ module _ (S : List Sequence) (look : Look) where
     -- the ranks, from no rank for any sequence
     unfoldable pub ranks : List ℕ
     unfolding rounds
-    ranks = rounds (total (listFrom (λ c. none) 0 (length S))) (listFrom (λ c. none) 0 (length S))
+    ranks = rounds (length S * none) (listBelow (λ c. none) (length S))
 
 -- "no rank": a rank is at most the number of sequences
 abbrev pub unranked : List Sequence → ℕ

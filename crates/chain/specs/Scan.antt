@@ -23,10 +23,10 @@ unfoldable pub firstIndex : (ℕ → Bool) → ℕ → ℕ
 firstIndex p zero = 0
 firstIndex p (suc n) = let later : ℕ = suc (firstIndex (λ i. p (suc i)) n) in cond (p 0) 0 later
 
--- the values at n indices from i on
-unfoldable pub listFrom : (ℕ → ℕ) → ℕ → ℕ → List ℕ
-listFrom v i zero = []
-listFrom v i (suc n) = v i ∷ listFrom v (suc i) n
+-- the values at the indices below n
+unfoldable pub listBelow : (ℕ → ℕ) → ℕ → List ℕ
+listBelow v zero = []
+listBelow v (suc n) = v 0 ∷ listBelow (λ i. v (suc i)) n
 
 -- the sum of the numbers
 unfoldable pub total : List ℕ → ℕ

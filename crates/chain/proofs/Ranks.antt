@@ -1,0 +1,115 @@
+-- Ranks by rounds: the table that the rounds end in is closed, and whatever one look at an alternative preserves holds of every rank.
+-- Both halves are about any look; what is said of one alternative serves a table that is lowered in place as well.
+use Prim.Native.Nat.{ℕ, zero, suc, _*_, _≤_, _<_, min}
+use mathlib.Core.Path.{_≡_, refl, sym, _∙_, ap, subst}
+use mathlib.Core.Logic.{_⊎_, inl, inr, ⊎-elim}
+use mathlib.Core.Bool.{Bool, true, false}
+use mathlib.Core.List.{List, [], _∷_}
+use native.Mathlib.Omega.{arith}
+use native.Mathlib.Decide.{decLt}
+use lib.ListN.{length, getD, List·getD-eq-default}
+use lib.Dec.{ltb}
+use borrow.Author.Tests.{ltb-true, ltb-false}
+use Rattle.image.specs.Library.{Sequence}
+use Rattle.outcome.specs.Run.{alternativesOf, alternativeOf}
+use Rattle.outcome.proofs.Tests.{passes-or-not}
+use Rattle.chain.specs.Scan.{listBelow, total}
+use Rattle.chain.specs.Ranks.{Ranks, Look, lowered, Closed, round, rounds, ranks, Reached}
+use Rattle.chain.proofs.Scan.{least-start, least-le, least-cases, length-listBelow, getD-listBelow, total-constant, total-same}
+
+-- only the number of a sequence has an alternative
+pub alternative-below : (S : List Sequence) (c i : ℕ) → i < length (alternativesOf S c) → c < length S
+alternative-below S c i lt = go (decLt c (length S))
+  where
+    go : Dec (c < length S) → c < length S
+    go (yes h) = h
+    go (no h) =
+        let e = ap length (List·getD-eq-default S [] {n = c} (omega arith)) in
+        absurd (omega arith)
+
+module _ (S : List Sequence) (look : Look) where
+  lowered-le : (T : Ranks) (c : ℕ) → lowered S look T c ≤ T c
+  unfolding lowered
+  lowered-le T c = least-start (λ i. suc (look T (alternativeOf S c i))) (T c) (length (alternativesOf S c))
+
+  lowered-look : (T : Ranks) (c i : ℕ) → i < length (alternativesOf S c) → lowered S look T c ≤ suc (look T (alternativeOf S c i))
+  unfolding lowered
+  lowered-look T c i lt = least-le (λ i. suc (look T (alternativeOf S c i))) (T c) (length (alternativesOf S c)) i lt
+
+  module _ (none : ℕ) where
+    -- the ranks in a list
+    abbrev inList : List ℕ → Ranks
+    inList T d = getD T d none
+
+    round-length : (T : List ℕ) → length (round S look none T) ≡ length S
+    unfolding round
+    round-length T = length-listBelow (lowered S look (inList T)) (length S)
+
+    -- a round that lowers nothing leaves a closed table
+    closed-last : (T : List ℕ) → length T ≡ length S → total T ≤ total (round S look none T) → Closed S look (inList T)
+    unfolding round
+    closed-last T e le c i lt =
+        let below : c < length T = rw e (alternative-below S c i lt) in
+        let same =
+        total-same (lowered S look (inList T)) none T (λ j l. lowered-le (inList T) j) (rw e le) c below in
+        subst (λ n. n ≤ suc (look (inList T) (alternativeOf S c i))) same (lowered-look (inList T) c i lt)
+
+    -- a round that lowers something is followed by the rounds after it, and one that lowers nothing is the last
+    rounds-step : (n : ℕ) (T : List ℕ)
+        → ((rounds S look none (suc n) T ≡ rounds S look none n (round S look none T)) × (total (round S look none T) < total T))
+        ⊎ ((rounds S look none (suc n) T ≡ T) × (total T ≤ total (round S look none T)))
+    unfolding rounds
+    rounds-step n T =
+        ⊎-elim
+        (λ (e : ltb (total (round S look none T)) (total T) ≡ true). inl (rw (e, rounds), ltb-true (total (round S look none T)) (total T) e))
+        (λ (e : ltb (total (round S look none T)) (total T) ≡ false). inr (rw (e, rounds), ltb-false (total (round S look none T)) (total T) e))
+        (passes-or-not (ltb (total (round S look none T)) (total T)))
+
+    rounds-closed : (n : ℕ) (T : List ℕ) → length T ≡ length S → total T ≤ n → Closed S look (inList (rounds S look none n T))
+    rounds-closed zero T e le = unfold rounds in closed-last T e (omega arith)
+    rounds-closed (suc n) T e le =
+        ⊎-elim (λ (s, fewer). rw s (rounds-closed n (round S look none T) (round-length T) (omega arith)))
+        (λ (s, same). rw s (closed-last T e same)) (rounds-step n T)
+
+    -- no look lowers a rank
+    pub ranks-closed : Closed S look (inList (ranks S look none))
+    unfolding ranks
+    ranks-closed =
+        rounds-closed (length S * none) (listBelow (λ c. none) (length S)) (length-listBelow (λ c. none) (length S))
+        (omega (arith, total-constant none (length S)))
+
+    -- what one look at an alternative preserves holds of every rank
+    module _ (P : ℕ → ℕ → Type 0)
+        (keeps : (T : Ranks) → Reached P none T → (c i : ℕ) → i < length (alternativesOf S c) → suc (look T (alternativeOf S c i)) < none
+          → P c (suc (look T (alternativeOf S c i)))) where
+      lowered-reached : (T : Ranks) → Reached P none T → Reached P none (lowered S look T)
+      unfolding lowered
+      lowered-reached T reached c lt =
+          ⊎-elim (λ e. subst (P c) (sym e) (reached c (omega arith)))
+          (λ (i, l, e). subst (P c) (sym e) (keeps T reached c i l (omega arith)))
+          (least-cases (λ i. suc (look T (alternativeOf S c i))) (T c) (length (alternativesOf S c)))
+
+      list-reached : (v : Ranks) → Reached P none v → Reached P none (inList (listBelow v (length S)))
+      list-reached v reached c lt = go (decLt c (length S))
+        where
+          go : Dec (c < length S) → P c (inList (listBelow v (length S)) c)
+          go (yes h) =
+              let e = getD-listBelow v (length S) c none h in
+              subst (P c) (sym e) (reached c (omega arith))
+          go (no h) =
+              let l = length-listBelow v (length S) in
+              let e = List·getD-eq-default (listBelow v (length S)) none {n = c} (omega arith) in
+              absurd (omega arith)
+
+      rounds-reached : (n : ℕ) (T : List ℕ) → Reached P none (inList T) → Reached P none (inList (rounds S look none n T))
+      rounds-reached zero T reached = unfold rounds in reached
+      rounds-reached (suc n) T reached =
+          ⊎-elim
+          (λ (s, fewer). rw s (rounds-reached n (round S look none T) (unfold round in list-reached (lowered S look (inList T)) (lowered-reached (inList T) reached))))
+          (λ (s, same). rw s reached) (rounds-step n T)
+
+      pub ranks-reached : Reached P none (inList (ranks S look none))
+      unfolding ranks
+      ranks-reached =
+          rounds-reached (length S * none) (listBelow (λ c. none) (length S))
+          (list-reached (λ c. none) (λ c lt. absurd (omega arith)))
