@@ -1,3 +1,4 @@
 pub mod Scan
 pub mod Ranks
+pub mod Depth
 pub mod Sample
