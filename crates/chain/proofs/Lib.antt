@@ -1,4 +1,6 @@
 pub mod Scan
 pub mod Ranks
 pub mod Depth
+pub mod Passes
+pub mod Stands
 pub mod Sample
