@@ -3,4 +3,5 @@ pub mod Ranks
 pub mod Depth
 pub mod Passes
 pub mod Stands
+pub mod Links
 pub mod Sample

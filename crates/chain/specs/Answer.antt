@@ -75,12 +75,11 @@ unfolding untouchedAnswer
 untouchedShown L q c f T = untouchedAnswer L q f (ranksIn (L .sequences) T) c
 
 abbrev pub answerFor : Library → Question → ℕ → ℕ → Mark → Answer
-unfolding touchShown untouchedShown ranks
 answerFor L q c f present = touchShown L q c f (ranks (L .sequences) (touchLook L q f) (unranked (L .sequences)))
 answerFor L q c f absent = touchShown L q c f (ranks (L .sequences) (touchLook L q f) (unranked (L .sequences)))
 answerFor L q c f untouched = untouchedShown L q c f (ranks (L .sequences) (untouchedLook L q f) (unranked (L .sequences)))
 
 -- the answer to question q of sequence c for fact f
 unfoldable pub answer : Library → Question → ℕ → ℕ → Answer
-unfolding answerFor depthLook linkLook
+unfolding touchShown untouchedShown ranks depthLook linkLook
 answer L q c f = answerFor L q c f (q .mark)

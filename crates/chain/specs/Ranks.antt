@@ -74,7 +74,6 @@ depthLook none test T es = greatest (entryRank none test T) es
 -- The number of links after this one, for position p of an alternative: none for a step with the touch, the sequence's for a call;
 -- where the entries before the position and those after it pass their tests
 abbrev pub candidate : ℕ → (Item → Bool) → (Entry → Bool) → (Entry → Bool) → Ranks → Alternative → ℕ → ℕ
-unfolding every
 candidate none test ahead behind T es p =
     cond (every ahead (take p es) && every behind (drop (suc p) es)) (entryRank none test T (entryAt es p)) none
 
