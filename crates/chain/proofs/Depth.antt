@@ -14,7 +14,7 @@ use Rattle.outcome.specs.Run.{Item, RunOf, Gives, nothing, by-step, by-call, al
 use Rattle.outcome.proofs.Tests.{and-both, passes-or-not}
 use Rattle.chain.specs.Scan.{every, greatest}
 use Rattle.chain.specs.Depth.{deepest, depthOf}
-use Rattle.chain.specs.Ranks.{Ranks, Closed, Reached, entryRank, depthLook, entryPasses}
+use Rattle.chain.specs.Ranks.{Ranks, Closed, Reached, entryRank, depthLook, Passing}
 use Rattle.chain.proofs.Scan.{every-append, every-cons, greatest-reached, Gapless, gapless-bound}
 use Rattle.chain.proofs.Ranks.{alternative-below}
 
@@ -35,19 +35,17 @@ pub passes-append : {A : Type 0} (p : A → Bool) (u v : List A) → every p u �
 passes-append p u v h k = every-append p u v ∙ and-both (every p u) (every p v) h k
 
 module _ (S : List Sequence) (none : ℕ) (test : Item → Bool) where
-  -- a run of sequence c whose items all pass, by a derivation no deeper than n
-  pub record Passing (c n : ℕ) : Type 0 where
-    pub run : List Item
-    pub derivation : RunOf S c run
-    pub passes : every test run ≡ true
-    pub depth : depthOf S derivation ≤ n
-
-  -- so of the entries of an alternative
+  -- a list that entries give, whose items all pass, by a derivation no deeper than n
   pub record Given (es : List Entry) (n : ℕ) : Type 0 where
     pub list : List Item
     pub derivation : Gives S es list
     pub passes : every test list ≡ true
     pub depth : deepest S derivation ≤ n
+
+  pub given-more : {es : List Entry} {n k : ℕ} → Given es n → n ≤ k → Given es k
+  given-more g le =
+      let d = g .depth in
+      record { list = g .list; derivation = g .derivation; passes = g .passes; depth = omega arith }
 
   -- a closed table has no rank above the depth of a derivation
   pub depth-least : (T : Ranks) → Closed S (depthLook none test) T → {es : List Entry} {w : List Item} (g : Gives S es w) → every test w ≡ true
@@ -67,7 +65,7 @@ module _ (S : List Sequence) (none : ℕ) (test : Item → Bool) where
       omega arith
 
   -- one look at entries finds only a depth that a derivation has
-  pub depth-given : (T : Ranks) → Reached Passing none T → (es : List Entry) → depthLook none test T es < none
+  pub depth-given : (T : Ranks) → Reached (Passing S test) none T → (es : List Entry) → depthLook none test T es < none
       → Given es (depthLook none test T es)
   unfolding depthLook deepest every
   depth-given T reached [] lt = record { list = []; derivation = nothing; passes = refl; depth = omega arith }
@@ -93,8 +91,8 @@ module _ (S : List Sequence) (none : ℕ) (test : Item → Bool) where
       }
 
   -- and so at a sequence
-  pub depth-reached : (T : Ranks) → Reached Passing none T → (c i : ℕ) → i < length (alternativesOf S c)
-      → suc (depthLook none test T (alternativeOf S c i)) < none → Passing c (suc (depthLook none test T (alternativeOf S c i)))
+  pub depth-reached : (T : Ranks) → Reached (Passing S test) none T → (c i : ℕ) → i < length (alternativesOf S c)
+      → suc (depthLook none test T (alternativeOf S c i)) < none → Passing S test c (suc (depthLook none test T (alternativeOf S c i)))
   depth-reached T reached c i lt low =
       let r = depth-given T reached (alternativeOf S c i) (omega arith) in
       let d = r .depth in
@@ -106,7 +104,7 @@ module _ (S : List Sequence) (none : ℕ) (test : Item → Bool) where
       }
 
   -- Below: a table all of whose ranks are reached and that no look lowers.
-  module _ (T : Ranks) (reached : Reached Passing none T) (closed : Closed S (depthLook none test) T) where
+  module _ (T : Ranks) (reached : Reached (Passing S test) none T) (closed : Closed S (depthLook none test) T) where
     -- a rank is the least depth
     pub depth-exact : (c : ℕ) (lt : T c < none) → (T c ≡ depthOf S (reached c lt .derivation))
         × (T c ≡ suc (depthLook none test T (alternativeOf S c (reached c lt .derivation .alternative))))

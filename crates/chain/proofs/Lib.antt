@@ -4,4 +4,5 @@ pub mod Depth
 pub mod Passes
 pub mod Stands
 pub mod Links
+pub mod Answer
 pub mod Sample

@@ -23,7 +23,7 @@ use Rattle.chain.specs.Stands.{About, EntryTouches, entryAt, Choices, St
 use Rattle.chain.specs.Ranks.{Ranks, Look, Closed, Reached, Linked, entryRank, candidate, linkLook, asked, aheadOf, behindOf}
 use Rattle.chain.specs.Answer.{chosenAlternative, chosenPosition}
 use Rattle.chain.proofs.Scan.{least-le, least-cases, first-found, Gapless, gapless-bound}
-use Rattle.chain.proofs.Ranks.{alternative-below}
+use Rattle.chain.proofs.Ranks.{alternative-below, Lowest, alternative-lowest}
 use Rattle.chain.proofs.Depth.{step-rank, step-passes}
 use Rattle.chain.proofs.Passes.{beside-given, given-beside}
 use Rattle.chain.proofs.Stands.{stands-outcome}
@@ -51,7 +51,7 @@ module _ (L : Library) (q : Question) (f none : ℕ) where
   abbrev pub Touching : Chain → Entry → List Item → Type 0
   Touching ls = EntryTouches L q f ls (λ u. StandsFor L q f ls u)
 
-  look-le : (T : Ranks) (es : Alternative) (p : ℕ) → p < length es → look T es ≤ after T es p
+  pub look-le : (T : Ranks) (es : Alternative) (p : ℕ) → p < length es → look T es ≤ after T es p
   unfolding linkLook
   look-le T es p lt = least-le (after T es) none (length es) p lt
 
@@ -68,7 +68,7 @@ module _ (L : Library) (q : Question) (f none : ℕ) where
   touching-rank T n ls low (call d) u (about, stands, outcome) = low d u about stands outcome
 
   -- the entries beside the position of a kind 11 link pass, so the links after it are those of its entry
-  choices-rank : (T : Ranks) (n : ℕ) (ls : Chain) → ((d : ℕ) (u : List Item) → About d ls → StandsFor L q f ls u → HasOutcome L q f u → T d ≤ n)
+  pub choices-rank : (T : Ranks) (n : ℕ) (ls : Chain) → ((d : ℕ) (u : List Item) → About d ls → StandsFor L q f ls u → HasOutcome L q f u → T d ≤ n)
       → (es : Alternative) (p : ℕ) (w : List Item) → Choices L q f es p (Touching ls) w → after T es p ≤ n
   choices-rank T n ls low es p w k =
       let b = given-beside L q f (q .side) (take p es) (drop (suc p) es) (k .earlier) (k .later) (k .quiet) in
@@ -110,9 +110,40 @@ module _ (L : Library) (q : Question) (f none : ℕ) where
       let r = reached d lt in
       record { links = r .chain; given = r .run; touching = (r .about, r .stands, r .outcome); fewer = r .links }
 
+  -- the choice of a link: it keeps the number of links fewest, and none lower does
+  pub record Chosen (T : Ranks) (c k i p : ℕ) : Type 0 where
+    pub alternative : Lowest (L .sequences) look T c k i
+    pub inside : p < length (entriesOf c i)
+    pub keeps : after T (entriesOf c i) p ≤ k
+    pub first : (r : ℕ) → r < length (entriesOf c i) → after T (entriesOf c i) r ≤ k → p ≤ r
+
+  abbrev pub chosenAt : Ranks → ℕ → ℕ → ℕ
+  chosenAt T c k = chosenAlternative (L .sequences) look T k c
+
+  abbrev pub positionAt : Ranks → ℕ → ℕ → ℕ
+  positionAt T c k = chosenPosition (after T (entriesOf c (chosenAt T c k))) k (entriesOf c (chosenAt T c k))
+
+  position-chosen : (T : Ranks) (c k i : ℕ) → k < none → Lowest (L .sequences) look T c k i
+      → Chosen T c k i (chosenPosition (after T (entriesOf c i)) k (entriesOf c i))
+  unfolding chosenPosition
+  position-chosen T c k i lt a =
+      let low = a .keeps in
+      let m = look-reached T (entriesOf c i) (omega arith) in
+      let inside = m .1 in
+      let same = m .2 in
+      let least = first-found (λ p. leb (after T (entriesOf c i) p) k) (length (entriesOf c i)) in
+      let r = least (m .0) inside (le-leb (after T (entriesOf c i) (m .0)) k (omega arith)) in
+      let le = r .0 in
+      record {
+        alternative = a;
+        inside = omega arith;
+        keeps = leb-true (after T (entriesOf c i) (chosenPosition (after T (entriesOf c i)) k (entriesOf c i))) k (r .1);
+        first = λ p l h. least p l (le-leb (after T (entriesOf c i) p) k h) .0;
+      }
+
   module _ (touch : q .mark ≢ untouched) where
     -- a position whose entries beside it pass, and an entry that touches, make a link
-    linked : (c i p : ℕ) → i < length (alternativesOf (L .sequences) c) → p < length (entriesOf c i)
+    pub linked : (c i p : ℕ) → i < length (alternativesOf (L .sequences) c) → p < length (entriesOf c i)
         → every (aheadOf L q f (q .side)) (take p (entriesOf c i)) ≡ true → every (behindOf L q f (q .side)) (drop (suc p) (entriesOf c i)) ≡ true
         → (ls : Chain) (g : List Item) → Touching ls (entryAt (entriesOf c i) p) g → (w : List Item) × StandsFor L q f (touchLink c i p ∷ ls) w
     linked c i p lt at a b ls g touching =
@@ -137,7 +168,7 @@ module _ (L : Library) (q : Question) (f none : ℕ) where
         )
 
     -- what stands at a position with a rank: the tests pass, and the rank is the entry's
-    position-low : (T : Ranks) (es : Alternative) (p : ℕ) → after T es p < none
+    pub position-low : (T : Ranks) (es : Alternative) (p : ℕ) → after T es p < none
         → (every (aheadOf L q f (q .side)) (take p es) ≡ true) × (every (behindOf L q f (q .side)) (drop (suc p) es) ≡ true)
         × (after T es p ≡ entryRank none (asked L q f) T (entryAt es p))
     position-low T es p lt =
@@ -189,51 +220,18 @@ module _ (L : Library) (q : Question) (f none : ℕ) where
               found d i listed low = (i, listed, low)
           go (untouchedLink d i ∷ ls) w about (listed, ends, g, quiet) outcome le = absurd (touch (sym outcome ∙ quiet))
 
-      -- the choice of a link: it keeps the number of links fewest, and none lower does
-      pub record Chosen (c k i p : ℕ) : Type 0 where
-        pub listed : i < length (alternativesOf (L .sequences) c)
-        pub inside : p < length (entriesOf c i)
-        pub keeps : after T (entriesOf c i) p ≤ k
-        pub lowest : (j : ℕ) → j < length (alternativesOf (L .sequences) c) → look T (entriesOf c j) ≤ k → i ≤ j
-        pub first : (r : ℕ) → r < length (entriesOf c i) → after T (entriesOf c i) r ≤ k → p ≤ r
-
-      abbrev pub chosenAt : ℕ → ℕ → ℕ
-      chosenAt c k = chosenAlternative (L .sequences) look T k c
-
-      abbrev pub positionAt : ℕ → ℕ → ℕ
-      positionAt c k = chosenPosition (after T (entriesOf c (chosenAt c k))) k (entriesOf c (chosenAt c k))
-
-      pub chosen : (c k : ℕ) → T c ≡ suc k → suc k < none → Chosen c k (chosenAt c k) (positionAt c k)
-      unfolding chosenAlternative chosenPosition
+      pub chosen : (c k : ℕ) → T c ≡ suc k → suc k < none → Chosen T c k (chosenAt T c k) (positionAt T c k)
       chosen c k e lt =
           let a = rank-alternative c k e lt in
-          let least = first-found (λ i. leb (look T (entriesOf c i)) k) (length (alternativesOf (L .sequences) c)) in
-          let f1 = least (a .0) (a .1) (le-leb (look T (entriesOf c (a .0))) k (a .2)) in
-          let i = chosenAt c k in
-          let i-low : look T (entriesOf c i) ≤ k = leb-true (look T (entriesOf c i)) k (f1 .1) in
-          let m = look-reached T (entriesOf c i) (omega arith) in
-          let least′ = first-found (λ p. leb (after T (entriesOf c i) p) k) (length (entriesOf c i)) in
-          let same = m .2 in
-          let f2 = least′ (m .0) (m .1) (le-leb (after T (entriesOf c i) (m .0)) k (omega arith)) in
-          let a1 = a .1 in
-          let m1 = m .1 in
-          let l1 = f1 .0 in
-          let l2 = f2 .0 in
-          record {
-            listed = omega arith;
-            inside = omega arith;
-            keeps = leb-true (after T (entriesOf c i) (positionAt c k)) k (f2 .1);
-            lowest = λ j lj h. least j lj (le-leb (look T (entriesOf c j)) k h) .0;
-            first = λ r lr h. least′ r lr (le-leb (after T (entriesOf c i) r) k h) .0;
-          }
+          position-chosen T c k (chosenAt T c k) (omega arith) (alternative-lowest (L .sequences) look T c k (a .0) (a .1) (a .2))
 
       -- the entry of the choice has the rank below
-      chosen-rank : (c k i p : ℕ) → T c ≡ suc k → suc k < none → Chosen c k i p → entryRank none (asked L q f) T (entryAt (entriesOf c i) p) ≡ k
+      pub chosen-rank : (c k i p : ℕ) → T c ≡ suc k → suc k < none → Chosen T c k i p → entryRank none (asked L q f) T (entryAt (entriesOf c i) p) ≡ k
       chosen-rank c k i p e lt ch =
           let keeps = ch .keeps in
           let value = position-low T (entriesOf c i) p (omega arith) .2 in
           let l = look-le T (entriesOf c i) p (ch .inside) in
-          let s = closed c i (ch .listed) in
+          let s = closed c i (ch .alternative .listed) in
           omega arith
 
       links-gapless : Gapless T none (length (L .sequences))
@@ -254,8 +252,8 @@ module _ (L : Library) (q : Question) (f none : ℕ) where
           next : (c k : ℕ) → T c < none → T c ≡ suc (suc k) → (d : ℕ) × (T d ≡ suc k)
           next c k lt e =
               let ch = chosen c (suc k) e (omega arith) in
-              entry k (omega arith) (entryAt (entriesOf c (chosenAt c (suc k))) (positionAt c (suc k)))
-              (chosen-rank c (suc k) (chosenAt c (suc k)) (positionAt c (suc k)) e (omega arith) ch)
+              entry k (omega arith) (entryAt (entriesOf c (chosenAt T c (suc k))) (positionAt T c (suc k)))
+              (chosen-rank c (suc k) (chosenAt T c (suc k)) (positionAt T c (suc k)) e (omega arith) ch)
 
       -- a rank is at most the number of sequences
       pub links-bound : (c : ℕ) → T c < none → T c ≤ length (L .sequences)

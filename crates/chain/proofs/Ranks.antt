@@ -8,14 +8,15 @@ use mathlib.Core.List.{List, [], _∷_}
 use native.Mathlib.Omega.{arith}
 use native.Mathlib.Decide.{decLt}
 use lib.ListN.{length, getD, List·getD-eq-default}
-use lib.Dec.{ltb}
-use borrow.Author.Tests.{ltb-true, ltb-false}
+use lib.Dec.{leb, ltb}
+use borrow.Author.Tests.{leb-true, le-leb, ltb-true, ltb-false}
 use Rattle.image.specs.Library.{Sequence}
 use Rattle.outcome.specs.Run.{alternativesOf, alternativeOf}
 use Rattle.outcome.proofs.Tests.{passes-or-not}
 use Rattle.chain.specs.Scan.{listBelow, total}
 use Rattle.chain.specs.Ranks.{Ranks, Look, lowered, Closed, round, rounds, ranks, Reached}
-use Rattle.chain.proofs.Scan.{least-start, least-le, least-cases, length-listBelow, getD-listBelow, total-constant, total-same}
+use Rattle.chain.specs.Answer.{chosenAlternative}
+use Rattle.chain.proofs.Scan.{first-found, least-start, least-le, least-cases, length-listBelow, getD-listBelow, total-constant, total-same}
 
 -- only the number of a sequence has an alternative
 pub alternative-below : (S : List Sequence) (c i : ℕ) → i < length (alternativesOf S c) → c < length S
@@ -26,6 +27,25 @@ alternative-below S c i lt = go (decLt c (length S))
     go (no h) =
         let e = ap length (List·getD-eq-default S [] {n = c} (omega arith)) in
         absurd (omega arith)
+
+-- the alternative that is chosen comes to no more than k, and no lower one does
+pub record Lowest (S : List Sequence) (look : Look) (T : Ranks) (c k i : ℕ) : Type 0 where
+  pub listed : i < length (alternativesOf S c)
+  pub keeps : look T (alternativeOf S c i) ≤ k
+  pub lowest : (j : ℕ) → j < length (alternativesOf S c) → look T (alternativeOf S c j) ≤ k → i ≤ j
+
+pub alternative-lowest : (S : List Sequence) (look : Look) (T : Ranks) (c k j : ℕ) → j < length (alternativesOf S c)
+    → look T (alternativeOf S c j) ≤ k → Lowest S look T c k (chosenAlternative S look T k c)
+unfolding chosenAlternative
+alternative-lowest S look T c k j lt low =
+    let least = first-found (λ i. leb (look T (alternativeOf S c i)) k) (length (alternativesOf S c)) in
+    let r = least j lt (le-leb (look T (alternativeOf S c j)) k low) in
+    let le = r .0 in
+    record {
+      listed = omega arith;
+      keeps = leb-true (look T (alternativeOf S c (chosenAlternative S look T k c))) k (r .1);
+      lowest = λ i l h. least i l (le-leb (look T (alternativeOf S c i)) k h) .0;
+    }
 
 module _ (S : List Sequence) (look : Look) where
   lowered-le : (T : Ranks) (c : ℕ) → lowered S look T c ≤ T c

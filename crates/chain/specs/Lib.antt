@@ -4,5 +4,5 @@ pub mod Stands
 pub mod Depth
 pub mod Ranks
 pub mod Answer
-pub mod Order
+pub mod Shows
 pub mod Call

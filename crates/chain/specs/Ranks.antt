@@ -1,6 +1,7 @@
 -- Ranks: for each sequence a number, the least nesting depth of an untouched derivation or the fewest links of a chain. They are
 -- worked out by rounds, each from the one before, and `none` stands for "no rank". What ranks mean is said of any table.
 use Prim.Native.Nat.{ℕ, zero, suc, _+_, _*_, _≤_, _<_}
+use mathlib.Core.Path.{_≡_}
 use mathlib.Core.Bool.{Bool, true, false, cond, _&&_}
 use mathlib.Core.List.{List, [], _∷_}
 use lib.ListN.{length, getD, take, drop}
@@ -112,14 +113,14 @@ untouchedLook L q f = depthLook (unranked (L .sequences)) (asked L q f)
 abbrev pub touchLook : Library → Question → ℕ → Look
 touchLook L q f = linkLook (unranked (L .sequences)) (asked L q f) (aheadOf L q f (q .side)) (behindOf L q f (q .side))
 
--- a run of sequence c that leaves the fact untouched, by a derivation no deeper than n
-pub record Derived (L : Library) (q : Question) (f c n : ℕ) : Type 0 where
+-- a run of sequence c whose items all pass a test, by a derivation no deeper than n
+pub record Passing (S : List Sequence) (test : Item → Bool) (c n : ℕ) : Type 0 where
   pub run : List Item
-  pub derivation : RunOf (L .sequences) c run
-  pub leaves : HasOutcome L (untouchedOn q) f run
-  pub depth : depthOf (L .sequences) derivation ≤ n
+  pub derivation : RunOf S c run
+  pub passes : every test run ≡ true
+  pub depth : depthOf S derivation ≤ n
 
--- a chain about sequence c that stands for a run, with no more than n links of kind 11
+-- a chain about sequence c that stands for a run with the outcome, of no more than n links
 pub record Linked (L : Library) (q : Question) (f c n : ℕ) : Type 0 where
   pub chain : Chain
   pub about : About c chain

@@ -1,0 +1,323 @@
+-- The answer to a question: a chain that is answered keeps every promise of `Shows`, and "none" is answered exactly when no run has
+-- the outcome.
+use Prim.Native.Nat.{ℕ, zero, suc, pred, _+_, _≤_, _<_}
+use mathlib.Core.Path.{_≡_, refl, sym, _∙_, ap, subst}
+use mathlib.Core.Logic.{_≢_, _⊎_, inl, inr, ⊎-elim, _↔_}
+use mathlib.Core.Bool.{Bool, true, false, false≢true, true≢false}
+use mathlib.Core.List.{List, [], _∷_, _++_}
+use native.Mathlib.Omega.{arith}
+use native.Mathlib.Nat.{eq-or-lt-of-le}
+use lib.ListN.{length, getD, take, drop}
+use lib.Dec.{leb, ltb}
+use borrow.Author.Tests.{leb-true, le-leb, ltb-true, ltb-false}
+use Rattle.image.specs.Library.{Library, Alternative, Entry, step, call}
+use Rattle.outcome.specs.Run.{Item, Run, RunOf, Gives, alternativesOf, alternativeOf}
+use Rattle.outcome.specs.Touch.{Side, Mark, present, absent, untouched, itemTouch, Question, untouchedOn, HasOutcome}
+use Rattle.outcome.specs.Algebra.{sameMark, sameMark-eq}
+use Rattle.outcome.specs.Possible.{possibleOutcome}
+use Rattle.outcome.proofs.Tests.{passes-or-not}
+use Rattle.outcome.proofs.Outcome.{present≢untouched, absent≢untouched}
+use Rattle.outcome.proofs.Columns.{question-iff}
+use Rattle.chain.specs.Link.{Link, touchLink, untouchedLink, Chain}
+use Rattle.chain.specs.Stands.{About, EntryTouches, entryAt, Choices, StandsFor}
+use Rattle.chain.specs.Depth.{deepest}
+use Rattle.chain.specs.Ranks.{Ranks, Closed, Reached, Linked, Passing, unranked, entryRank, ranks, asked, untouchedLook, touchLook}
+use Rattle.chain.specs.Answer.{Answer, none, shown, chosenAlternative, followed, linksFrom, touchAnswer, untouchedAnswer, ranksIn}
+use Rattle.chain.specs.Answer.{touchShown, untouchedShown, answerFor, answer}
+use Rattle.chain.specs.Shows.{NoHigher, LeastDepth, Shows}
+use Rattle.chain.proofs.Ranks.{alternative-below, Lowest, alternative-lowest, ranks-closed, ranks-reached}
+use Rattle.chain.proofs.Depth.{step-passes, step-rank, Given, given-more, depth-least, depth-given, depth-reached, depth-exact, depth-bound, run-ranked}
+use Rattle.chain.proofs.Passes.{passes-untouched}
+use Rattle.chain.proofs.Stands.{stands-run, stands-outcome, run-chain}
+use Rattle.chain.proofs.Links.{entriesOf, Touching, after, position-low, linked, links-least, links-reached, Chosen, chosenAt, positionAt, chosen, chosen-rank, links-bound, chain-ranked}
+use Rattle.chain.proofs.Links.{choices-rank, look-le}
+
+-- a chain about a sequence has a link
+about-one : (ls : Chain) (c : ℕ) → About c ls → 1 ≤ length ls
+about-one [] c about = absurd about
+about-one (l ∷ ls) c about = omega arith
+
+-- Questions that ask for a touch, by any table all of whose ranks are reached and that no look lowers.
+module _ (L : Library) (q : Question) (f : ℕ) (touch : q .mark ≢ untouched) (T : Ranks)
+    (reached : Reached (Linked L q f) (unranked (L .sequences)) T) (closed : Closed (L .sequences) (touchLook L q f) T) where
+  abbrev no-rank : ℕ
+  no-rank = unranked (L .sequences)
+
+  -- the links after this one
+  abbrev next : ℕ → ℕ → Chain
+  next k d = linksFrom L q f T k d
+
+  -- the links stand for a run, and are as many as the rank says
+  pub record Standing (c k : ℕ) : Type 0 where
+    pub about : About c (linksFrom L q f T k c)
+    pub count : length (linksFrom L q f T k c) ≡ k
+    pub run : List Item
+    pub stands : StandsFor L q f (linksFrom L q f T k c) run
+    pub outcome : HasOutcome L q f run
+
+  -- the entry that is chosen touches, by the links after it
+  entry-stands : (k : ℕ) → k < no-rank → ((d : ℕ) → T d ≡ k → Standing d k) → (e : Entry) → entryRank no-rank (asked L q f) T e ≡ k
+      → (length (followed e (next k)) ≡ k) × ((g : List Item) × Touching L q f no-rank (followed e (next k)) e g)
+  entry-stands k lt rest (step a) e =
+      let passes = step-passes no-rank (asked L q f a) (omega arith) in
+      let z = step-rank no-rank (asked L q f a) passes in
+      (omega arith, (a ∷ [], (refl, refl, sameMark-eq (itemTouch L (q .side) f a) (q .mark) passes)))
+  entry-stands k lt rest (call d) e = let r = rest d e in (r .count, (r .run, (r .about, r .stands, r .outcome)))
+
+  pub links-stand : (k c : ℕ) → T c ≡ k → k < no-rank → Standing c k
+  unfolding linksFrom
+  links-stand zero c e lt = let r = reached c (omega arith) in let o = about-one (r .chain) c (r .about) in let l = r .links in absurd (omega arith)
+  links-stand (suc k) c e lt =
+      let ch = chosen L q f no-rank touch T reached closed c k e lt in
+      let i = chosenAt L q f no-rank T c k in
+      let p = positionAt L q f no-rank T c k in
+      let keeps = ch .keeps in
+      let beside = position-low L q f no-rank touch T (entriesOf L q f no-rank c i) p (omega arith) in
+      let entry =
+      entry-stands k (omega arith) (λ d e′. links-stand k d e′ (omega arith)) (entryAt (entriesOf L q f no-rank c i) p)
+      (chosen-rank L q f no-rank touch T reached closed c k i p e lt ch) in
+      let s = linked L q f no-rank touch c i p (ch .alternative .listed) (ch .inside) (beside .0) (beside .1) (followed (entryAt (entriesOf L q f no-rank c i) p) (next k)) (entry .1 .0) (entry .1 .1) in
+      record {
+        about = refl;
+        count = ap suc (entry .0);
+        run = s .0;
+        stands = s .1;
+        outcome = stands-outcome L q f c i p (followed (entryAt (entriesOf L q f no-rank c i) p) (next k)) (s .0) (s .1);
+      }
+
+  -- every run that the links stand for has the outcome
+  links-outcome : (k c : ℕ) (w : List Item) → StandsFor L q f (linksFrom L q f T k c) w → HasOutcome L q f w
+  unfolding linksFrom
+  links-outcome zero c w stands = absurd stands
+  links-outcome (suc k) c w stands =
+      stands-outcome L q f c (chosenAt L q f no-rank T c k) (positionAt L q f no-rank T c k)
+      (followed (entryAt (entriesOf L q f no-rank c (chosenAt L q f no-rank T c k)) (positionAt L q f no-rank T c k)) (next k)) w stands
+
+  -- no chain with as many links makes a lower choice
+  entry-lowest : (k : ℕ) (ms : Chain) (g : List Item)
+      → ((d : ℕ) → T d ≡ k → About d ms → StandsFor L q f ms g → HasOutcome L q f g → NoHigher (next k d) ms) → (e : Entry)
+      → entryRank no-rank (asked L q f) T e ≡ k → Touching L q f no-rank ms e g → NoHigher (followed e (next k)) ms
+  entry-lowest k ms g rest (step a) e touching = tt
+  entry-lowest k ms g rest (call d) e (about, stands, outcome) = rest d e about stands outcome
+
+  first-lowest : (k c j r : ℕ) (ms : Chain) (w : List Item) → T c ≡ suc k → suc k < no-rank → j < length (alternativesOf (L .sequences) c)
+      → (s : Choices L q f (entriesOf L q f no-rank c j) r (Touching L q f no-rank ms) w) → length ms ≡ k
+      → ((d : ℕ) → T d ≡ k → About d ms → StandsFor L q f ms (s .given) → HasOutcome L q f (s .given) → NoHigher (next k d) ms)
+      → NoHigher (linksFrom L q f T (suc k) c) (touchLink c j r ∷ ms)
+  unfolding linksFrom
+  first-lowest k c j r ms w e lt listed s count rest =
+      let ch = chosen L q f no-rank touch T reached closed c k e lt in
+      let i = chosenAt L q f no-rank T c k in
+      let p = positionAt L q f no-rank T c k in
+      let es = entriesOf L q f no-rank c in
+      let low : after L q f no-rank T (es j) r ≤ k =
+      rw count at (choices-rank L q f no-rank T (length ms) ms (links-least L q f no-rank touch T closed ms) (es j) r w s) in
+      let l = look-le L q f no-rank T (es j) r (s .listed) in
+      (
+        refl,
+        ⊎-elim
+        (λ (same : i ≡ j). inr (
+          same,
+          ⊎-elim
+          (λ (at : p ≡ r). inr (
+            at,
+            entry-lowest k ms (s .given) rest (entryAt (es i) p) (chosen-rank L q f no-rank touch T reached closed c k i p e lt ch)
+            (rw (at, same) (s .touching)),
+          ))
+          inl
+          (eq-or-lt-of-le (ch .first r (rw same (s .listed)) (rw same low))),
+        ))
+        inl
+        (eq-or-lt-of-le (ch .alternative .lowest j listed (omega arith))),
+      )
+
+  pub links-lowest : (k c : ℕ) → T c ≡ k → k < no-rank → (ms : Chain) (w : List Item) → About c ms → StandsFor L q f ms w → HasOutcome L q f w
+      → length ms ≡ k → NoHigher (linksFrom L q f T k c) ms
+  unfolding linksFrom
+  links-lowest zero c e lt ms w about stands outcome count = tt
+  links-lowest (suc k) c e lt [] w about stands outcome count = absurd about
+  links-lowest (suc k) c e lt (touchLink d j r ∷ ms) w about (listed, s) outcome count =
+      subst (λ x. NoHigher (linksFrom L q f T (suc k) x) (touchLink d j r ∷ ms)) about
+      (first-lowest k d j r ms w (ap T about ∙ e) lt listed s (omega arith)
+      (λ b e′ about′ stands′ outcome′. links-lowest k b e′ (omega arith) ms (s .given) about′ stands′ outcome′ (omega arith)))
+  links-lowest (suc k) c e lt (untouchedLink d j ∷ ms) w about (listed, ends, g, quiet) outcome count = absurd (touch (sym outcome ∙ quiet))
+
+  -- the answer by the table: a chain where the sequence has a rank, none elsewhere
+  touch-cases : (c : ℕ)
+      → ((T c < no-rank) × (touchAnswer L q f T c ≡ shown (linksFrom L q f T (T c) c))) ⊎ ((no-rank ≤ T c) × (touchAnswer L q f T c ≡ none))
+  unfolding touchAnswer
+  touch-cases c =
+      ⊎-elim (λ (e : ltb (T c) no-rank ≡ true). inl (ltb-true (T c) no-rank e, rw (e, touchAnswer)))
+      (λ (e : ltb (T c) no-rank ≡ false). inr (ltb-false (T c) no-rank e, rw (e, touchAnswer))) (passes-or-not (ltb (T c) no-rank))
+
+  pub touch-shows : (c : ℕ) (ls : Chain) → touchAnswer L q f T c ≡ shown ls → Shows L q c f ls
+  touch-shows c ls e =
+      ⊎-elim (λ (lt, s). subst (Shows L q c f) (same s) (all lt)) (λ (le, s). let z : _≡_ {A = ℕ} 0 1 = cc in absurd (omega arith)) (touch-cases c)
+    where
+      same : touchAnswer L q f T c ≡ shown (linksFrom L q f T (T c) c) → linksFrom L q f T (T c) c ≡ ls
+      same s = cc
+
+      all : T c < no-rank → Shows L q c f (linksFrom L q f T (T c) c)
+      all lt =
+          let r = links-stand (T c) c refl lt in
+          let count = r .count in
+          record {
+            about = r .about;
+            run = r .run;
+            stands = r .stands;
+            runs = λ w stands. (stands-run L q f (linksFrom L q f T (T c) c) c w (r .about) stands, links-outcome (T c) c w stands);
+            fewest = λ ms w about stands outcome. let le = links-least L q f no-rank touch T closed ms c w about stands outcome in omega arith;
+            lowest = λ t ms w about stands outcome same-count. links-lowest (T c) c refl lt ms w about stands outcome (omega arith);
+            one = λ no. absurd (touch no);
+            few = let le = links-bound L q f no-rank touch T reached closed c lt in omega arith;
+          }
+
+  pub touch-none : (c : ℕ) → (touchAnswer L q f T c ≡ none) ↔ ((w : List Item) → Run L c w → ¬ HasOutcome L q f w)
+  touch-none c = (there, back)
+    where
+      there : touchAnswer L q f T c ≡ none → (w : List Item) → Run L c w → ¬ HasOutcome L q f w
+      there e w run outcome =
+          let k = run-chain L q f touch c w run outcome in
+          let le = chain-ranked L q f no-rank touch T reached closed (omega arith) (k .0) c w (k .1) (k .2) outcome in
+          ⊎-elim (λ (lt, s). let z : _≡_ {A = ℕ} 0 1 = cc in omega arith) (λ (no-lt, s). omega arith) (touch-cases c)
+
+      back : ((w : List Item) → Run L c w → ¬ HasOutcome L q f w) → touchAnswer L q f T c ≡ none
+      back no-run =
+          ⊎-elim
+          (λ (lt, s). let r = reached c lt in absurd (no-run (r .run) (stands-run L q f (r .chain) c (r .run) (r .about) (r .stands)) (r .outcome)))
+          (λ (le, s). s) (touch-cases c)
+
+-- Questions that ask for no touch, likewise.
+module _ (L : Library) (s : Side) (f : ℕ) where
+  abbrev quiet : Question
+  quiet = record { side = s; mark = untouched }
+
+  abbrev leaves : Item → Bool
+  leaves = asked L quiet f
+
+  module _ (T : Ranks) (reached : Reached (Passing (L .sequences) leaves) (unranked (L .sequences)) T)
+      (closed : Closed (L .sequences) (untouchedLook L quiet f) T) where
+    -- an alternative that comes to the least depth, with a derivation no deeper
+    least-depth : (c k i : ℕ) → T c ≡ suc k → Lowest (L .sequences) (untouchedLook L quiet f) T c k i
+        → Given (L .sequences) (unranked (L .sequences)) leaves (alternativeOf (L .sequences) c i) k → LeastDepth L quiet f c i
+    least-depth c k i e a g =
+        record {
+          listed = a .listed;
+          run = g .list;
+          derivation = g .derivation;
+          leaves = passes-untouched s (itemTouch L s f) (g .list) .0 (g .passes);
+          least = least;
+        }
+      where
+        least : (j : ℕ) → j < length (alternativesOf (L .sequences) c) → (w : List Item)
+            (h : Gives (L .sequences) (alternativeOf (L .sequences) c j) w) → HasOutcome L quiet f w
+            → (deepest (L .sequences) (g .derivation) < deepest (L .sequences) h)
+            ⊎ ((deepest (L .sequences) (g .derivation) ≡ deepest (L .sequences) h) × (i ≤ j))
+        least j lt w h o =
+            let up = depth-least (L .sequences) (unranked (L .sequences)) leaves T closed h (passes-untouched s (itemTouch L s f) w .1 o) in
+            let low = closed c j lt in
+            let d = g .depth in
+            ⊎-elim (λ (same : deepest (L .sequences) (g .derivation) ≡ deepest (L .sequences) h). inr (same, a .lowest j lt (omega arith))) inl
+            (eq-or-lt-of-le (omega arith))
+
+    -- the alternative of least depth
+    abbrev shallowest : ℕ → ℕ
+    shallowest c = chosenAlternative (L .sequences) (untouchedLook L quiet f) T (pred (T c)) c
+
+    shallowest-least : (c : ℕ) → T c < unranked (L .sequences) → LeastDepth L quiet f c (shallowest c)
+    shallowest-least c lt =
+        let r = reached c lt in
+        let exact = depth-exact (L .sequences) (unranked (L .sequences)) leaves T reached closed c lt .1 in
+        let a =
+        alternative-lowest (L .sequences) (untouchedLook L quiet f) T c (pred (T c)) (r .derivation .alternative) (r .derivation .listed) (omega arith) in
+        let low = a .keeps in
+        let g = depth-given (L .sequences) (unranked (L .sequences)) leaves T reached (alternativeOf (L .sequences) c (shallowest c)) (omega arith) in
+        least-depth c (pred (T c)) (shallowest c) (omega arith) a (given-more (L .sequences) (unranked (L .sequences)) leaves g low)
+
+    -- the answer by the table
+    untouched-cases : (c : ℕ)
+        → ((T c < unranked (L .sequences)) × (untouchedAnswer L quiet f T c ≡ shown (untouchedLink c (shallowest c) ∷ [])))
+        ⊎ ((unranked (L .sequences) ≤ T c) × (untouchedAnswer L quiet f T c ≡ none))
+    unfolding untouchedAnswer
+    untouched-cases c =
+        ⊎-elim (λ (e : ltb (T c) (unranked (L .sequences)) ≡ true). inl (ltb-true (T c) (unranked (L .sequences)) e, rw (e, untouchedAnswer)))
+        (λ (e : ltb (T c) (unranked (L .sequences)) ≡ false). inr (ltb-false (T c) (unranked (L .sequences)) e, rw (e, untouchedAnswer)))
+        (passes-or-not (ltb (T c) (unranked (L .sequences))))
+
+    pub untouched-shows : (c : ℕ) (ls : Chain) → untouchedAnswer L quiet f T c ≡ shown ls → Shows L quiet c f ls
+    untouched-shows c ls e =
+        ⊎-elim (λ (lt, h). subst (Shows L quiet c f) (same h) (all lt)) (λ (le, h). let z : _≡_ {A = ℕ} 0 1 = cc in absurd (omega arith))
+        (untouched-cases c)
+      where
+        same : untouchedAnswer L quiet f T c ≡ shown (untouchedLink c (shallowest c) ∷ []) → untouchedLink c (shallowest c) ∷ [] ≡ ls
+        same h = cc
+
+        all : T c < unranked (L .sequences) → Shows L quiet c f (untouchedLink c (shallowest c) ∷ [])
+        all lt =
+            let d = shallowest-least c lt in
+            record {
+              about = refl;
+              run = d .run;
+              stands = (d .listed, refl, d .derivation, d .leaves);
+              runs = λ w stands. (stands-run L quiet f (untouchedLink c (shallowest c) ∷ []) c w refl stands, stands .3);
+              fewest = λ ms w about stands outcome. about-one ms c about;
+              lowest = λ t ms w about stands outcome count. absurd (t refl);
+              one = λ e. (shallowest c, refl, d);
+              few = let below = alternative-below (L .sequences) c (shallowest c) (d .listed) in omega arith;
+            }
+
+    pub untouched-none : (c : ℕ) → (untouchedAnswer L quiet f T c ≡ none) ↔ ((w : List Item) → Run L c w → ¬ HasOutcome L quiet f w)
+    untouched-none c = (there, back)
+      where
+        there : untouchedAnswer L quiet f T c ≡ none → (w : List Item) → Run L c w → ¬ HasOutcome L quiet f w
+        there e w run outcome =
+            let lt =
+            run-ranked (L .sequences) (unranked (L .sequences)) leaves T reached closed (omega arith) c run
+            (passes-untouched s (itemTouch L s f) w .1 outcome) in
+            ⊎-elim (λ (l, h). let z : _≡_ {A = ℕ} 0 1 = cc in omega arith) (λ (le, h). omega arith) (untouched-cases c)
+
+        back : ((w : List Item) → Run L c w → ¬ HasOutcome L quiet f w) → untouchedAnswer L quiet f T c ≡ none
+        back no-run =
+            ⊎-elim
+            (λ (lt, h). let r = reached c lt in
+              absurd (no-run (r .run) (r .derivation) (passes-untouched s (itemTouch L s f) (r .run) .0 (r .passes))))
+            (λ (le, h). h) (untouched-cases c)
+
+-- what holds of the answers that ask for a touch and of those that ask for none
+module _ (L : Library) (c f : ℕ) (P : Question → Answer → Type 0)
+    (touching : (q : Question) → q .mark ≢ untouched → (T : Ranks) → Reached (Linked L q f) (unranked (L .sequences)) T
+      → Closed (L .sequences) (touchLook L q f) T → P q (touchAnswer L q f T c))
+    (leaving : (s : Side) (T : Ranks) → Reached (Passing (L .sequences) (leaves L s f)) (unranked (L .sequences)) T
+      → Closed (L .sequences) (untouchedLook L (quiet L s f) f) T → P (quiet L s f) (untouchedAnswer L (quiet L s f) f T c)) where
+  by-touch : (q : Question) → q .mark ≢ untouched → P q (touchShown L q c f (ranks (L .sequences) (touchLook L q f) (unranked (L .sequences))))
+  unfolding touchShown
+  by-touch q touch =
+      touching q touch (ranksIn (L .sequences) (ranks (L .sequences) (touchLook L q f) (unranked (L .sequences))))
+      (ranks-reached (L .sequences) (touchLook L q f) (unranked (L .sequences)) (Linked L q f) (links-reached L q f (unranked (L .sequences)) touch))
+      (ranks-closed (L .sequences) (touchLook L q f) (unranked (L .sequences)))
+
+  by-mark : (s : Side) (m : Mark) → P (record { side = s; mark = m }) (answerFor L (record { side = s; mark = m }) c f m)
+  unfolding untouchedShown
+  by-mark s present = by-touch (record { side = s; mark = present }) present≢untouched
+  by-mark s absent = by-touch (record { side = s; mark = absent }) absent≢untouched
+  by-mark s untouched =
+      leaving s (ranksIn (L .sequences) (ranks (L .sequences) (untouchedLook L (quiet L s f) f) (unranked (L .sequences))))
+      (ranks-reached (L .sequences) (untouchedLook L (quiet L s f) f) (unranked (L .sequences)) (Passing (L .sequences) (leaves L s f))
+      (depth-reached (L .sequences) (unranked (L .sequences)) (leaves L s f)))
+      (ranks-closed (L .sequences) (untouchedLook L (quiet L s f) f) (unranked (L .sequences)))
+
+  by-answer : (q : Question) → P q (answer L q c f)
+  unfolding answer
+  by-answer q = by-mark (q .side) (q .mark)
+
+-- a chain that is answered keeps every promise
+pub answer-shows : (L : Library) (q : Question) (c f : ℕ) (ls : Chain) → answer L q c f ≡ shown ls → Shows L q c f ls
+answer-shows L q c f =
+    by-answer L c f (λ r a. (ls : Chain) → a ≡ shown ls → Shows L r c f ls)
+    (λ r touch T reached closed. touch-shows L r f touch T reached closed c) (λ s T reached closed. untouched-shows L s f T reached closed c) q
+
+-- ""none", exactly when no run has that outcome"
+pub answer-none : (L : Library) (q : Question) (c f : ℕ) → (answer L q c f ≡ none) ↔ ((w : List Item) → Run L c w → ¬ HasOutcome L q f w)
+answer-none L q c f =
+    by-answer L c f (λ r a. (a ≡ none) ↔ ((w : List Item) → Run L c w → ¬ HasOutcome L r f w))
+    (λ r touch T reached closed. touch-none L r f touch T reached closed c) (λ s T reached closed. untouched-none L s f T reached closed c) q
