@@ -1,13 +1,14 @@
 -- Ranks by rounds: the table that the rounds end in is closed, and whatever one look at an alternative preserves holds of every rank.
 -- Both halves are about any look; what is said of one alternative serves a table that is lowered in place as well.
-use Prim.Native.Nat.{ℕ, zero, suc, _*_, _≤_, _<_, min}
+use Prim.Native.Nat.{ℕ, zero, suc, _+_, _*_, _≤_, _<_, min}
 use mathlib.Core.Path.{_≡_, refl, sym, _∙_, ap, subst}
 use mathlib.Core.Logic.{_⊎_, inl, inr, ⊎-elim}
 use mathlib.Core.Bool.{Bool, true, false}
 use mathlib.Core.List.{List, [], _∷_}
 use native.Mathlib.Omega.{arith}
-use native.Mathlib.Decide.{decLt}
-use lib.ListN.{length, getD, List·getD-eq-default}
+use native.Mathlib.Decide.{decLt, ℕ-discrete}
+use lib.ListN.{length, getD, set, List·getD-eq-default}
+use lib.Seq.{getD-set-same, getD-set-other}
 use lib.Dec.{leb, ltb}
 use borrow.Author.Tests.{leb-true, le-leb, ltb-true, ltb-false}
 use Rattle.image.specs.Library.{Sequence}
@@ -46,6 +47,16 @@ alternative-lowest S look T c k j lt low =
       keeps = leb-true (look T (alternativeOf S c (chosenAlternative S look T k c))) k (r .1);
       lowest = λ i l h. least i l (le-leb (look T (alternativeOf S c i)) k h) .0;
     }
+
+-- Ranks that are reached, and that are no higher than what anything reaches, are the least ones: no table whose ranks are reached has a
+-- lower one.
+pub ranks-least : (P : ℕ → ℕ → Type 0) (none : ℕ) (T U : Ranks) → ((c n : ℕ) → P c n → T c ≤ n) → ((c : ℕ) → T c ≤ none) → Reached P none U
+    → (c : ℕ) → T c ≤ U c
+ranks-least P none T U low capped reached c = go (decLt (U c) none)
+  where
+    go : Dec (U c < none) → T c ≤ U c
+    go (yes h) = low c (U c) (reached c h)
+    go (no h) = let le = capped c in omega arith
 
 module _ (S : List Sequence) (look : Look) where
   lowered-le : (T : Ranks) (c : ℕ) → lowered S look T c ≤ T c
@@ -98,6 +109,58 @@ module _ (S : List Sequence) (look : Look) where
         rounds-closed (length S * none) (listBelow (λ c. none) (length S)) (length-listBelow (λ c. none) (length S))
         (omega (arith, total-constant none (length S)))
 
+    -- no rank is above `none`
+    list-capped : (v : Ranks) → ((c : ℕ) → v c ≤ none) → (n c : ℕ) → getD (listBelow v n) c none ≤ none
+    unfolding listBelow
+    list-capped v le zero c = omega arith
+    list-capped v le (suc n) zero = le 0
+    list-capped v le (suc n) (suc c) = list-capped (λ i. v (suc i)) (λ i. le (suc i)) n c
+
+    rounds-capped : (n : ℕ) (T : List ℕ) → ((c : ℕ) → inList T c ≤ none) → (c : ℕ) → inList (rounds S look none n T) c ≤ none
+    rounds-capped zero T le = unfold rounds in le
+    rounds-capped (suc n) T le =
+        ⊎-elim
+        (λ (s, fewer). rw s (rounds-capped n (round S look none T)
+          (unfold round in list-capped (lowered S look (inList T)) (λ d. let h = lowered-le (inList T) d in let h′ = le d in omega arith) (length S))))
+        (λ (s, same). rw s le) (rounds-step n T)
+
+    pub ranks-capped : (c : ℕ) → inList (ranks S look none) c ≤ none
+    unfolding ranks
+    ranks-capped = rounds-capped (length S * none) (listBelow (λ c. none) (length S)) (list-capped (λ c. none) (λ c. omega arith) (length S))
+
+    -- A visit lowers the rank of one sequence in place. Visits in any order keep what is reached, lower the sum where they lower a rank,
+    -- and a table that no visit lowers is closed.
+    abbrev pub visited : List ℕ → ℕ → List ℕ
+    visited T c = set T c (lowered S look (inList T) c)
+
+    pub visits-closed : (T : List ℕ) → length T ≡ length S → ((c : ℕ) → c < length S → inList T c ≤ lowered S look (inList T) c)
+        → Closed S look (inList T)
+    visits-closed T e same c i lt =
+        let h = same c (alternative-below S c i lt) in
+        let h′ = lowered-look (inList T) c i lt in
+        omega arith
+
+    set-total : (T : List ℕ) (c v : ℕ) → c < length T → total (set T c v) + inList T c ≡ total T + v
+    unfolding total
+    set-total [] c v lt = absurd (omega arith)
+    set-total (x ∷ T) zero v lt = omega arith
+    set-total (x ∷ T) (suc c) v lt = let h = set-total T c v (omega arith) in omega arith
+
+    pub visited-total : (T : List ℕ) (c : ℕ) → c < length T
+        → (total (visited T c) ≤ total T) × (lowered S look (inList T) c < inList T c → total (visited T c) < total T)
+    visited-total T c lt =
+        let h = set-total T c (lowered S look (inList T) c) lt in
+        let le = lowered-le (inList T) c in
+        (omega arith, λ fewer. omega arith)
+
+    pub visited-capped : (T : List ℕ) (c : ℕ) → c < length T → ((d : ℕ) → inList T d ≤ none) → (d : ℕ) → inList (visited T c) d ≤ none
+    visited-capped T c lt le d = go (ℕ-discrete d c)
+      where
+        go : Dec (d ≡ c) → inList (visited T c) d ≤ none
+        go (yes e) =
+            rw (e, getD-set-same T c (lowered S look (inList T) c) none lt) (let h = lowered-le (inList T) c in let h′ = le c in omega arith)
+        go (no e) = rw (getD-set-other T c d (lowered S look (inList T) c) none e) (le d)
+
     -- what one look at an alternative preserves holds of every rank
     module _ (P : ℕ → ℕ → Type 0)
         (keeps : (T : Ranks) → Reached P none T → (c i : ℕ) → i < length (alternativesOf S c) → suc (look T (alternativeOf S c i)) < none
@@ -108,6 +171,14 @@ module _ (S : List Sequence) (look : Look) where
           ⊎-elim (λ e. subst (P c) (sym e) (reached c (omega arith)))
           (λ (i, l, e). subst (P c) (sym e) (keeps T reached c i l (omega arith)))
           (least-cases (λ i. suc (look T (alternativeOf S c i))) (T c) (length (alternativesOf S c)))
+
+      pub visited-reached : (T : List ℕ) (c : ℕ) → c < length T → Reached P none (inList T) → Reached P none (inList (visited T c))
+      visited-reached T c below reached d = go (ℕ-discrete d c)
+        where
+          go : Dec (d ≡ c) → inList (visited T c) d < none → P d (inList (visited T c) d)
+          go (yes e) =
+              rw (e, getD-set-same T c (lowered S look (inList T) c) none below) (lowered-reached (inList T) reached c)
+          go (no e) = rw (getD-set-other T c d (lowered S look (inList T) c) none e) (reached d)
 
       list-reached : (v : Ranks) → Reached P none v → Reached P none (inList (listBelow v (length S)))
       list-reached v reached c lt = go (decLt c (length S))
