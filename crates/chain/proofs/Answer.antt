@@ -1,7 +1,7 @@
 -- The answer to a question: a chain that is answered keeps every promise of `Shows`, and "none" is answered exactly when no run has
 -- the outcome.
 use Prim.Native.Nat.{ℕ, zero, suc, pred, _+_, _≤_, _<_}
-use mathlib.Core.Path.{_≡_, refl, sym, _∙_, ap, subst}
+use mathlib.Core.Path.{_≡_, refl, sym, _∙_, ap, subst, fun-ext}
 use mathlib.Core.Logic.{_≢_, _⊎_, inl, inr, ⊎-elim, _↔_}
 use mathlib.Core.Bool.{Bool, true, false, false≢true, true≢false}
 use mathlib.Core.List.{List, [], _∷_, _++_}
@@ -25,11 +25,11 @@ use Rattle.chain.specs.Ranks.{Ranks, Closed, Reached, Linked, Passing, u
 use Rattle.chain.specs.Answer.{Answer, none, shown, chosenAlternative, followed, linksFrom, touchAnswer, untouchedAnswer, ranksIn}
 use Rattle.chain.specs.Answer.{touchShown, untouchedShown, answerFor, answer}
 use Rattle.chain.specs.Shows.{NoHigher, LeastDepth, Shows}
-use Rattle.chain.proofs.Ranks.{alternative-below, Lowest, alternative-lowest, ranks-closed, ranks-reached}
-use Rattle.chain.proofs.Depth.{step-passes, step-rank, Given, given-more, depth-least, depth-given, depth-reached, depth-exact, depth-bound, run-ranked}
+use Rattle.chain.proofs.Ranks.{alternative-below, Lowest, alternative-lowest, ranks-least, ranks-closed, ranks-capped, ranks-reached}
+use Rattle.chain.proofs.Depth.{step-passes, step-rank, Given, given-more, depth-least, depth-given, depth-reached, depth-exact, depth-bound, depth-below, run-ranked}
 use Rattle.chain.proofs.Passes.{passes-untouched}
 use Rattle.chain.proofs.Stands.{stands-run, stands-outcome, run-chain}
-use Rattle.chain.proofs.Links.{entriesOf, Touching, after, position-low, linked, links-least, links-reached, Chosen, chosenAt, positionAt, chosen, chosen-rank, links-bound, chain-ranked}
+use Rattle.chain.proofs.Links.{entriesOf, Touching, after, position-low, linked, links-least, links-reached, Chosen, chosenAt, positionAt, chosen, chosen-rank, links-bound, chain-ranked, links-below}
 use Rattle.chain.proofs.Links.{choices-rank, look-le}
 
 -- a chain about a sequence has a link
@@ -286,15 +286,17 @@ module _ (L : Library) (s : Side) (f : ℕ) where
 -- what holds of the answers that ask for a touch and of those that ask for none
 module _ (L : Library) (c f : ℕ) (P : Question → Answer → Type 0)
     (touching : (q : Question) → q .mark ≢ untouched → (T : Ranks) → Reached (Linked L q f) (unranked (L .sequences)) T
-      → Closed (L .sequences) (touchLook L q f) T → P q (touchAnswer L q f T c))
+      → Closed (L .sequences) (touchLook L q f) T → ((d : ℕ) → T d ≤ unranked (L .sequences)) → P q (touchAnswer L q f T c))
     (leaving : (s : Side) (T : Ranks) → Reached (Passing (L .sequences) (leaves L s f)) (unranked (L .sequences)) T
-      → Closed (L .sequences) (untouchedLook L (quiet L s f) f) T → P (quiet L s f) (untouchedAnswer L (quiet L s f) f T c)) where
+      → Closed (L .sequences) (untouchedLook L (quiet L s f) f) T → ((d : ℕ) → T d ≤ unranked (L .sequences))
+      → P (quiet L s f) (untouchedAnswer L (quiet L s f) f T c)) where
   by-touch : (q : Question) → q .mark ≢ untouched → P q (touchShown L q c f (ranks (L .sequences) (touchLook L q f) (unranked (L .sequences))))
   unfolding touchShown
   by-touch q touch =
       touching q touch (ranksIn (L .sequences) (ranks (L .sequences) (touchLook L q f) (unranked (L .sequences))))
       (ranks-reached (L .sequences) (touchLook L q f) (unranked (L .sequences)) (Linked L q f) (links-reached L q f (unranked (L .sequences)) touch))
       (ranks-closed (L .sequences) (touchLook L q f) (unranked (L .sequences)))
+      (ranks-capped (L .sequences) (touchLook L q f) (unranked (L .sequences)))
 
   by-mark : (s : Side) (m : Mark) → P (record { side = s; mark = m }) (answerFor L (record { side = s; mark = m }) c f m)
   unfolding untouchedShown
@@ -305,6 +307,7 @@ module _ (L : Library) (c f : ℕ) (P : Question → Answer → Type 0)
       (ranks-reached (L .sequences) (untouchedLook L (quiet L s f) f) (unranked (L .sequences)) (Passing (L .sequences) (leaves L s f))
       (depth-reached (L .sequences) (unranked (L .sequences)) (leaves L s f)))
       (ranks-closed (L .sequences) (untouchedLook L (quiet L s f) f) (unranked (L .sequences)))
+      (ranks-capped (L .sequences) (untouchedLook L (quiet L s f) f) (unranked (L .sequences)))
 
   by-answer : (q : Question) → P q (answer L q c f)
   unfolding answer
@@ -314,10 +317,49 @@ module _ (L : Library) (c f : ℕ) (P : Question → Answer → Type 0)
 pub answer-shows : (L : Library) (q : Question) (c f : ℕ) (ls : Chain) → answer L q c f ≡ shown ls → Shows L q c f ls
 answer-shows L q c f =
     by-answer L c f (λ r a. (ls : Chain) → a ≡ shown ls → Shows L r c f ls)
-    (λ r touch T reached closed. touch-shows L r f touch T reached closed c) (λ s T reached closed. untouched-shows L s f T reached closed c) q
+    (λ r touch T reached closed capped. touch-shows L r f touch T reached closed c) (λ s T reached closed capped. untouched-shows L s f T reached closed c) q
 
 -- ""none", exactly when no run has that outcome"
 pub answer-none : (L : Library) (q : Question) (c f : ℕ) → (answer L q c f ≡ none) ↔ ((w : List Item) → Run L c w → ¬ HasOutcome L q f w)
 answer-none L q c f =
     by-answer L c f (λ r a. (a ≡ none) ↔ ((w : List Item) → Run L c w → ¬ HasOutcome L r f w))
-    (λ r touch T reached closed. touch-none L r f touch T reached closed c) (λ s T reached closed. untouched-none L s f T reached closed c) q
+    (λ r touch T reached closed capped. touch-none L r f touch T reached closed c) (λ s T reached closed capped. untouched-none L s f T reached closed c) q
+
+pub answer-possible : (L : Library) (q : Question) (c f : ℕ) → (answer L q c f ≡ none) ↔ (possibleOutcome L q c f ≡ false)
+answer-possible L q c f = (
+  (λ e. ⊎-elim
+      (λ p. let r = question-iff L q c f .0 p in absurd (answer-none L q c f .0 e (r .0) (r .1) (r .2)))
+      (λ p. p) (passes-or-not (possibleOutcome L q c f))),
+  λ e. answer-none L q c f .1 (λ w run outcome. true≢false (sym (question-iff L q c f .1 (w, run, outcome)) ∙ e)),
+)
+
+-- Any table of ranks that are reached, that no look lowers and none of which is above `unranked` gives the answer.
+pub touch-table : (L : Library) (q : Question) (f : ℕ) → q .mark ≢ untouched → (T : Ranks) → Reached (Linked L q f) (unranked (L .sequences)) T
+    → Closed (L .sequences) (touchLook L q f) T → ((d : ℕ) → T d ≤ unranked (L .sequences)) → (c : ℕ) → touchAnswer L q f T c ≡ answer L q c f
+touch-table L q f touch T reached closed capped c =
+    by-answer L c f
+    (λ r a. r .mark ≢ untouched → (T : Ranks) → Reached (Linked L r f) (unranked (L .sequences)) T → Closed (L .sequences) (touchLook L r f) T
+      → ((d : ℕ) → T d ≤ unranked (L .sequences)) → touchAnswer L r f T c ≡ a)
+    (λ r t U reached′ closed′ capped′ t′ T reached closed capped. ap (λ (W : Ranks). touchAnswer L r f W c) (fun-ext (λ d.
+      let low = ranks-least (Linked L r f) (unranked (L .sequences)) T U (links-below L r f (unranked (L .sequences)) t T closed) capped reached′ d in
+      let up = ranks-least (Linked L r f) (unranked (L .sequences)) U T (links-below L r f (unranked (L .sequences)) t U closed′) capped′ reached d in
+      let same : T d ≡ U d = omega arith in
+      same)))
+    (λ s U reached′ closed′ capped′ t′. absurd (t′ refl))
+    q touch T reached closed capped
+
+pub untouched-table : (L : Library) (q : Question) (f : ℕ) → q .mark ≡ untouched → (T : Ranks)
+    → Reached (Passing (L .sequences) (asked L q f)) (unranked (L .sequences)) T → Closed (L .sequences) (untouchedLook L q f) T
+    → ((d : ℕ) → T d ≤ unranked (L .sequences)) → (c : ℕ) → untouchedAnswer L q f T c ≡ answer L q c f
+untouched-table L q f leaving T reached closed capped c =
+    by-answer L c f
+    (λ r a. r .mark ≡ untouched → (T : Ranks) → Reached (Passing (L .sequences) (asked L r f)) (unranked (L .sequences)) T
+      → Closed (L .sequences) (untouchedLook L r f) T → ((d : ℕ) → T d ≤ unranked (L .sequences)) → untouchedAnswer L r f T c ≡ a)
+    (λ r t U reached′ closed′ capped′ t′. absurd (t t′))
+    (λ s U reached′ closed′ capped′ t′ T reached closed capped. ap (λ (W : Ranks). untouchedAnswer L (quiet L s f) f W c) (fun-ext (λ d.
+      let P = Passing (L .sequences) (leaves L s f) in
+      let low = ranks-least P (unranked (L .sequences)) T U (depth-below (L .sequences) (unranked (L .sequences)) (leaves L s f) T closed) capped reached′ d in
+      let up = ranks-least P (unranked (L .sequences)) U T (depth-below (L .sequences) (unranked (L .sequences)) (leaves L s f) U closed′) capped′ reached d in
+      let same : T d ≡ U d = omega arith in
+      same)))
+    q leaving T reached closed capped

@@ -64,6 +64,13 @@ module _ (S : List Sequence) (none : ℕ) (test : Item → Bool) where
       let c-le = closed c i lt in
       omega arith
 
+  pub depth-below : (T : Ranks) → Closed S (depthLook none test) T → (c n : ℕ) → Passing S test c n → T c ≤ n
+  depth-below T closed c n r =
+      let low = depth-least T closed (r .derivation .given) (r .passes) in
+      let up = closed c (r .derivation .alternative) (r .derivation .listed) in
+      let d = r .depth in
+      omega arith
+
   -- one look at entries finds only a depth that a derivation has
   pub depth-given : (T : Ranks) → Reached (Passing S test) none T → (es : List Entry) → depthLook none test T es < none
       → Given es (depthLook none test T es)

@@ -90,6 +90,12 @@ module _ (L : Library) (q : Question) (f none : ℕ) where
       rw about at le
   links-least touch T closed (untouchedLink d i ∷ ls) c w about (lt, ends, g, quiet) outcome = absurd (touch (sym outcome ∙ quiet))
 
+  pub links-below : q .mark ≢ untouched → (T : Ranks) → Closed (L .sequences) look T → (c n : ℕ) → Linked L q f c n → T c ≤ n
+  links-below touch T closed c n r =
+      let le = links-least touch T closed (r .chain) c (r .run) (r .about) (r .stands) (r .outcome) in
+      let le′ = r .links in
+      omega arith
+
   -- the entry that has a rank touches, by itself or by a run that a chain stands for
   pub record Entered (e : Entry) (n : ℕ) : Type 0 where
     pub links : Chain
