@@ -5,4 +5,6 @@ pub mod Passes
 pub mod Stands
 pub mod Links
 pub mod Answer
+pub mod Words
+pub mod Call
 pub mod Sample
