@@ -7,4 +7,5 @@ pub mod Links
 pub mod Answer
 pub mod Words
 pub mod Call
+pub mod Walk
 pub mod Sample

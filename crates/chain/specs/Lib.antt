@@ -6,3 +6,4 @@ pub mod Ranks
 pub mod Answer
 pub mod Shows
 pub mod Call
+pub mod Walk
