@@ -75,6 +75,18 @@ first-found p (suc n) i lt h = go (p 0) refl i lt h (first-found (λ j. p (suc j
     go false e zero l g rest = absurd (false≢true (sym e ∙ g))
     go false e (suc j) l g rest = let r = rest j (omega arith) g in let le = r .0 in (omega arith, r .1)
 
+-- an index below n that is found passes
+pub first-passes : (p : ℕ → Bool) (n : ℕ) → firstIndex p n < n → p (firstIndex p n) ≡ true
+unfolding firstIndex
+first-passes p zero lt = absurd (omega arith)
+first-passes p (suc n) lt = go (p 0) refl lt (first-passes (λ j. p (suc j)) n)
+  where
+    go : (b : Bool) → p 0 ≡ b → cond b 0 (suc (firstIndex (λ j. p (suc j)) n)) < suc n
+        → (firstIndex (λ j. p (suc j)) n < n → p (suc (firstIndex (λ j. p (suc j)) n)) ≡ true)
+        → p (cond b 0 (suc (firstIndex (λ j. p (suc j)) n))) ≡ true
+    go true e l rest = e
+    go false e l rest = rest (omega arith)
+
 -- tests that agree below n have the same first index
 pub first-same : (p q : ℕ → Bool) (n : ℕ) → ((i : ℕ) → i < n → p i ≡ q i) → firstIndex p n ≡ firstIndex q n
 unfolding firstIndex

@@ -3,7 +3,7 @@
 use Prim.Native.Nat.{ℕ, zero, suc, _+_, _≤_, _<_, min, max}
 use mathlib.Core.Path.{_≡_, refl, sym, _∙_, ap, ap₂, subst}
 use mathlib.Core.Logic.{_⊎_, inl, inr, ⊎-elim}
-use mathlib.Core.Bool.{Bool, true, false, cond, _&&_, _||_, false≢true}
+use mathlib.Core.Bool.{Bool, true, false, cond, _&&_, true≢false}
 use mathlib.Core.List.{List, [], _∷_, _++_}
 use native.Mathlib.Omega.{arith}
 use lib.ListN.{length, getD, take, drop}
@@ -11,13 +11,15 @@ use lib.Dec.{leb, ltb}
 use borrow.Author.Tests.{leb-true, leb-false, le-leb, lt-leb, ltb-true, ltb-false, lt-ltb, le-ltb}
 use Rattle.image.specs.Library.{Alternative, Sequence, Entry, step}
 use Rattle.outcome.specs.Run.{Item, alternativesOf, alternativeOf}
-use Rattle.outcome.proofs.Tests.{passes-or-not}
+use Rattle.outcome.specs.Tests.{and-parts}
+use Rattle.outcome.proofs.Tests.{both-ways}
 use Rattle.chain.specs.Scan.{every, leastBelow, greatest, firstIndex}
 use Rattle.chain.specs.Stands.{entryAt}
 use Rattle.chain.specs.Ranks.{Ranks, Look, lowered, entryRank, depthLook, candidate, linkLook}
 use Rattle.chain.specs.Answer.{chosenAlternative, chosenPosition}
 use Rattle.chain.specs.Walk.{loweredFrom, depthFrom, fewestFrom, positionFrom, linkFrom, tailFrom}
-use Rattle.chain.proofs.Scan.{least-start, first-same}
+use Rattle.chain.specs.Link.{touchLink}
+use Rattle.chain.proofs.Scan.{least-start, least-le, least-cases, first-found, first-passes, first-same}
 
 -- the least value by its first index
 least-cons : (v : ℕ → ℕ) (r n : ℕ) → leastBelow v r (suc n) ≡ min (v 0) (leastBelow (λ i. v (suc i)) r n)
@@ -169,3 +171,95 @@ module _ (none : ℕ) (test : Item → Bool) (ahead behind : Entry → Bool) (T 
     pub position-from : (es : List Entry) → chosenPosition (value es) k es ≡ positionFrom none rank ahead behind k true 0 es
     unfolding chosenPosition
     position-from es = let h = position-index true 0 es in omega arith
+
+    -- an alternative has such a position exactly where it comes to no more than k
+    position-inside : (es : List Entry) → ltb (positionFrom none rank ahead behind k true 0 es) (length es) ≡ leb (linkLook none test ahead behind T es) k
+    unfolding linkLook chosenPosition
+    position-inside es =
+        rw (← position-from es)
+        (both-ways (ltb (firstIndex passes (length es)) (length es)) (leb (leastBelow (value es) none (length es)) k) there back)
+      where
+        passes : ℕ → Bool
+        passes p = leb (value es p) k
+
+        there : ltb (firstIndex passes (length es)) (length es) ≡ true → leb (leastBelow (value es) none (length es)) k ≡ true
+        there e =
+            let lt = ltb-true (firstIndex passes (length es)) (length es) e in
+            let le = leb-true (value es (firstIndex passes (length es))) k (first-passes passes (length es) lt) in
+            let least = least-le (value es) none (length es) (firstIndex passes (length es)) lt in
+            le-leb (leastBelow (value es) none (length es)) k (omega arith)
+
+        back : leb (leastBelow (value es) none (length es)) k ≡ true → ltb (firstIndex passes (length es)) (length es) ≡ true
+        back e =
+            let le = leb-true (leastBelow (value es) none (length es)) k e in
+            ⊎-elim (λ h. absurd (omega arith))
+            (λ (p, lt, h).
+              let found = first-found passes (length es) p lt (le-leb (value es p) k (omega arith)) .0 in
+              lt-ltb (firstIndex passes (length es)) (length es) (omega arith))
+            (least-cases (value es) none (length es))
+
+    -- the link that is chosen, by nested scans over alternatives and entries
+    abbrev firstLow : List Alternative → ℕ
+    firstLow alts = firstIndex (λ j. leb (linkLook none test ahead behind T (getD alts j [])) k) (length alts)
+
+    abbrev place : Alternative → ℕ
+    place es = chosenPosition (value es) k es
+
+    link-index : (c i : ℕ) (alts : List Alternative)
+        → linkFrom none rank ahead behind c k i alts ≡ touchLink c (i + firstLow alts) (place (getD alts (firstLow alts) []))
+    unfolding linkFrom firstIndex
+    link-index c i [] = unfold chosenPosition in ap₂ (touchLink c) (omega arith) refl
+    link-index c i (es ∷ alts) =
+        rw (position-inside es) (go (leb (linkLook none test ahead behind T es) k) (link-index c (suc i) alts))
+      where
+        go : (b : Bool) → linkFrom none rank ahead behind c k (suc i) alts ≡ touchLink c (suc i + firstLow alts) (place (getD alts (firstLow alts) []))
+            → cond b (touchLink c i (positionFrom none rank ahead behind k true 0 es)) (linkFrom none rank ahead behind c k (suc i) alts)
+            ≡ touchLink c (i + cond b 0 (suc (firstLow alts))) (place (getD (es ∷ alts) (cond b 0 (suc (firstLow alts))) []))
+        go true rest = ap₂ (touchLink c) (omega arith) (sym (position-from es))
+        go false rest = rest ∙ ap₂ (touchLink c) (omega arith) refl
+
+-- the link of sequence c that is chosen by ranks
+pub link-from : (S : List Sequence) (none : ℕ) (test : Item → Bool) (ahead behind : Entry → Bool) (T : Ranks) (k : ℕ) → k < none → (c : ℕ)
+    → touchLink c (chosenAlternative S (linkLook none test ahead behind) T k c)
+    (chosenPosition (candidate none test ahead behind T (alternativeOf S c (chosenAlternative S (linkLook none test ahead behind) T k c))) k
+    (alternativeOf S c (chosenAlternative S (linkLook none test ahead behind) T k c)))
+    ≡ linkFrom none (entryRank none test T) ahead behind c k 0 (alternativesOf S c)
+unfolding chosenAlternative
+link-from S none test ahead behind T k low c =
+    ap₂ (touchLink c) (omega arith) refl ∙ sym (link-index none test ahead behind T k low c 0 (alternativesOf S c))
+
+-- The entries from an index on pass exactly from the index on that one walk gives.
+tail-all : (test : Entry → Bool) (i start : ℕ) (es : List Entry) → every test es ≡ true → tailFrom test i start es ≡ start
+unfolding tailFrom every
+tail-all test i start [] h = refl
+tail-all test i start (e ∷ es) h =
+    let p = and-parts (test e) (every test es) h in
+    rw (p .0) (tail-all test (suc i) start es (p .1))
+
+tail-some : (test : Entry → Bool) (i start : ℕ) (es : List Entry) → every test es ≡ false → i < tailFrom test i start es
+unfolding tailFrom every
+tail-some test i start [] h = absurd (true≢false h)
+tail-some test i start (e ∷ es) h = go (test e) (every test es) refl h (tail-all test (suc i) (suc i) es) (λ x. tail-some test (suc i) x es)
+  where
+    go : (b bs : Bool) → every test es ≡ bs → (b && bs) ≡ false → (every test es ≡ true → tailFrom test (suc i) (suc i) es ≡ suc i)
+        → ((x : ℕ) → every test es ≡ false → suc i < tailFrom test (suc i) x es) → i < tailFrom test (suc i) (cond b start (suc i)) es
+    go true true s f all some = absurd (true≢false f)
+    go true false s f all some = let h = some start s in omega arith
+    go false true s f all some = let h = all s in omega arith
+    go false false s f all some = let h = some (suc i) s in omega arith
+
+pub tail-from : (test : Entry → Bool) (i start n : ℕ) (es : List Entry) → start ≤ i → leb (tailFrom test i start es) (i + n) ≡ every test (drop n es)
+unfolding tailFrom every
+tail-from test i start zero es le = go (every test es) refl
+  where
+    go : (b : Bool) → every test es ≡ b → leb (tailFrom test i start es) (i + 0) ≡ every test es
+    go true e = let h = tail-all test i start es e in rw e (le-leb (tailFrom test i start es) (i + 0) (omega arith))
+    go false e = let h = tail-some test i start es e in rw e (lt-leb (tailFrom test i start es) (i + 0) (omega arith))
+tail-from test i start (suc n) [] le = le-leb start (i + suc n) (omega arith)
+tail-from test i start (suc n) (e ∷ es) le =
+    let h : suc i + n ≡ i + suc n = omega arith in
+    rw h at (tail-from test (suc i) (cond (test e) start (suc i)) n es (start-le (test e)))
+  where
+    start-le : (b : Bool) → cond b start (suc i) ≤ suc i
+    start-le true = omega arith
+    start-le false = omega arith
