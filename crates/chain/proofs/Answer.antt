@@ -21,7 +21,7 @@ use Rattle.outcome.proofs.Columns.{question-iff}
 use Rattle.chain.specs.Link.{Link, touchLink, untouchedLink, Chain}
 use Rattle.chain.specs.Stands.{About, EntryTouches, entryAt, Choices, StandsFor}
 use Rattle.chain.specs.Depth.{deepest}
-use Rattle.chain.specs.Ranks.{Ranks, Closed, Reached, Linked, Passing, unranked, entryRank, ranks, asked, untouchedLook, touchLook}
+use Rattle.chain.specs.Ranks.{Ranks, Closed, Reached, Linked, Passing, unranked, entryRank, ranks, hasMark, untouchedLook, touchLook}
 use Rattle.chain.specs.Answer.{Answer, none, shown, chosenAlternative, followed, linksFrom, touchAnswer, untouchedAnswer, ranksIn}
 use Rattle.chain.specs.Answer.{touchShown, untouchedShown, answerFor, answer}
 use Rattle.chain.specs.Shows.{NoHigher, LeastDepth, Shows}
@@ -39,10 +39,7 @@ about-one (l ∷ ls) c about = omega arith
 
 -- Questions that ask for a touch, by any table all of whose ranks are reached and that no look lowers.
 module _ (L : Library) (q : Question) (f : ℕ) (touch : q .mark ≢ untouched) (T : Ranks)
-    (reached : Reached (Linked L q f) (unranked (L .sequences)) T) (closed : Closed (L .sequences) (touchLook L q f) T) where
-  abbrev no-rank : ℕ
-  no-rank = unranked (L .sequences)
-
+    (reached : Reached (Linked L q f) (unranked L) T) (closed : Closed (L .sequences) (touchLook L q f) T) where
   -- the links after this one
   abbrev next : ℕ → ℕ → Chain
   next k d = linksFrom L q f T k d
@@ -56,33 +53,33 @@ module _ (L : Library) (q : Question) (f : ℕ) (touch : q .mark ≢ untouched) 
     pub outcome : HasOutcome L q f run
 
   -- the entry that is chosen touches, by the links after it
-  entry-stands : (k : ℕ) → k < no-rank → ((d : ℕ) → T d ≡ k → Standing d k) → (e : Entry) → entryRank no-rank (asked L q f) T e ≡ k
-      → (length (followed e (next k)) ≡ k) × ((g : List Item) × Touching L q f no-rank (followed e (next k)) e g)
+  entry-stands : (k : ℕ) → k < unranked L → ((d : ℕ) → T d ≡ k → Standing d k) → (e : Entry) → entryRank (unranked L) (hasMark L q f) T e ≡ k
+      → (length (followed e (next k)) ≡ k) × ((g : List Item) × Touching L q f (followed e (next k)) e g)
   entry-stands k lt rest (step a) e =
-      let passes = step-passes no-rank (asked L q f a) (omega arith) in
-      let z = step-rank no-rank (asked L q f a) passes in
+      let passes = step-passes (unranked L) (hasMark L q f a) (omega arith) in
+      let z = step-rank (unranked L) (hasMark L q f a) passes in
       (omega arith, (a ∷ [], (refl, refl, sameMark-eq (itemTouch L (q .side) f a) (q .mark) passes)))
   entry-stands k lt rest (call d) e = let r = rest d e in (r .count, (r .run, (r .about, r .stands, r .outcome)))
 
-  pub links-stand : (k c : ℕ) → T c ≡ k → k < no-rank → Standing c k
+  pub links-stand : (k c : ℕ) → T c ≡ k → k < unranked L → Standing c k
   unfolding linksFrom
   links-stand zero c e lt = let r = reached c (omega arith) in let o = about-one (r .chain) c (r .about) in let l = r .links in absurd (omega arith)
   links-stand (suc k) c e lt =
-      let ch = chosen L q f no-rank touch T reached closed c k e lt in
-      let i = chosenAt L q f no-rank T c k in
-      let p = positionAt L q f no-rank T c k in
+      let ch = chosen L q f (unranked L) touch T reached closed c k e lt in
+      let i = chosenAt L q f (unranked L) T c k in
+      let p = positionAt L q f (unranked L) T c k in
       let keeps = ch .keeps in
-      let beside = position-low L q f no-rank touch T (entriesOf L q f no-rank c i) p (omega arith) in
+      let beside = position-low L q f (unranked L) touch T (entriesOf L c i) p (omega arith) in
       let entry =
-      entry-stands k (omega arith) (λ d e′. links-stand k d e′ (omega arith)) (entryAt (entriesOf L q f no-rank c i) p)
-      (chosen-rank L q f no-rank touch T reached closed c k i p e lt ch) in
-      let s = linked L q f no-rank touch c i p (ch .alternative .listed) (ch .inside) (beside .0) (beside .1) (followed (entryAt (entriesOf L q f no-rank c i) p) (next k)) (entry .1 .0) (entry .1 .1) in
+      entry-stands k (omega arith) (λ d e′. links-stand k d e′ (omega arith)) (entryAt (entriesOf L c i) p)
+      (chosen-rank L q f (unranked L) touch T reached closed c k i p e lt ch) in
+      let s = linked L q f (unranked L) touch c i p (ch .alternative .listed) (ch .inside) (beside .0) (beside .1) (followed (entryAt (entriesOf L c i) p) (next k)) (entry .1 .0) (entry .1 .1) in
       record {
         about = refl;
         count = ap suc (entry .0);
         run = s .0;
         stands = s .1;
-        outcome = stands-outcome L q f c i p (followed (entryAt (entriesOf L q f no-rank c i) p) (next k)) (s .0) (s .1);
+        outcome = stands-outcome L q f c i p (followed (entryAt (entriesOf L c i) p) (next k)) (s .0) (s .1);
       }
 
   -- every run that the links stand for has the outcome
@@ -90,29 +87,29 @@ module _ (L : Library) (q : Question) (f : ℕ) (touch : q .mark ≢ untouched) 
   unfolding linksFrom
   links-outcome zero c w stands = absurd stands
   links-outcome (suc k) c w stands =
-      stands-outcome L q f c (chosenAt L q f no-rank T c k) (positionAt L q f no-rank T c k)
-      (followed (entryAt (entriesOf L q f no-rank c (chosenAt L q f no-rank T c k)) (positionAt L q f no-rank T c k)) (next k)) w stands
+      stands-outcome L q f c (chosenAt L q f (unranked L) T c k) (positionAt L q f (unranked L) T c k)
+      (followed (entryAt (entriesOf L c (chosenAt L q f (unranked L) T c k)) (positionAt L q f (unranked L) T c k)) (next k)) w stands
 
   -- no chain with as many links makes a lower choice
   entry-lowest : (k : ℕ) (ms : Chain) (g : List Item)
       → ((d : ℕ) → T d ≡ k → About d ms → StandsFor L q f ms g → HasOutcome L q f g → NoHigher (next k d) ms) → (e : Entry)
-      → entryRank no-rank (asked L q f) T e ≡ k → Touching L q f no-rank ms e g → NoHigher (followed e (next k)) ms
+      → entryRank (unranked L) (hasMark L q f) T e ≡ k → Touching L q f ms e g → NoHigher (followed e (next k)) ms
   entry-lowest k ms g rest (step a) e touching = tt
   entry-lowest k ms g rest (call d) e (about, stands, outcome) = rest d e about stands outcome
 
-  first-lowest : (k c j r : ℕ) (ms : Chain) (w : List Item) → T c ≡ suc k → suc k < no-rank → j < length (alternativesOf (L .sequences) c)
-      → (s : Choices L q f (entriesOf L q f no-rank c j) r (Touching L q f no-rank ms) w) → length ms ≡ k
+  first-lowest : (k c j r : ℕ) (ms : Chain) (w : List Item) → T c ≡ suc k → suc k < unranked L → j < length (alternativesOf (L .sequences) c)
+      → (s : Choices L q f (entriesOf L c j) r (Touching L q f ms) w) → length ms ≡ k
       → ((d : ℕ) → T d ≡ k → About d ms → StandsFor L q f ms (s .given) → HasOutcome L q f (s .given) → NoHigher (next k d) ms)
       → NoHigher (linksFrom L q f T (suc k) c) (touchLink c j r ∷ ms)
   unfolding linksFrom
   first-lowest k c j r ms w e lt listed s count rest =
-      let ch = chosen L q f no-rank touch T reached closed c k e lt in
-      let i = chosenAt L q f no-rank T c k in
-      let p = positionAt L q f no-rank T c k in
-      let es = entriesOf L q f no-rank c in
-      let low : after L q f no-rank T (es j) r ≤ k =
-      rw count at (choices-rank L q f no-rank T (length ms) ms (links-least L q f no-rank touch T closed ms) (es j) r w s) in
-      let l = look-le L q f no-rank T (es j) r (s .listed) in
+      let ch = chosen L q f (unranked L) touch T reached closed c k e lt in
+      let i = chosenAt L q f (unranked L) T c k in
+      let p = positionAt L q f (unranked L) T c k in
+      let es = entriesOf L c in
+      let low : after L q f (unranked L) T (es j) r ≤ k =
+      rw count at (choices-rank L q f (unranked L) T (length ms) ms (links-least L q f (unranked L) touch T closed ms) (es j) r w s) in
+      let l = look-le L q f (unranked L) T (es j) r (s .listed) in
       (
         refl,
         ⊎-elim
@@ -121,7 +118,7 @@ module _ (L : Library) (q : Question) (f : ℕ) (touch : q .mark ≢ untouched) 
           ⊎-elim
           (λ (at : p ≡ r). inr (
             at,
-            entry-lowest k ms (s .given) rest (entryAt (es i) p) (chosen-rank L q f no-rank touch T reached closed c k i p e lt ch)
+            entry-lowest k ms (s .given) rest (entryAt (es i) p) (chosen-rank L q f (unranked L) touch T reached closed c k i p e lt ch)
             (rw (at, same) (s .touching)),
           ))
           inl
@@ -131,7 +128,7 @@ module _ (L : Library) (q : Question) (f : ℕ) (touch : q .mark ≢ untouched) 
         (eq-or-lt-of-le (ch .alternative .lowest j listed (omega arith))),
       )
 
-  pub links-lowest : (k c : ℕ) → T c ≡ k → k < no-rank → (ms : Chain) (w : List Item) → About c ms → StandsFor L q f ms w → HasOutcome L q f w
+  pub links-lowest : (k c : ℕ) → T c ≡ k → k < unranked L → (ms : Chain) (w : List Item) → About c ms → StandsFor L q f ms w → HasOutcome L q f w
       → length ms ≡ k → NoHigher (linksFrom L q f T k c) ms
   unfolding linksFrom
   links-lowest zero c e lt ms w about stands outcome count = tt
@@ -144,11 +141,11 @@ module _ (L : Library) (q : Question) (f : ℕ) (touch : q .mark ≢ untouched) 
 
   -- the answer by the table: a chain where the sequence has a rank, none elsewhere
   touch-cases : (c : ℕ)
-      → ((T c < no-rank) × (touchAnswer L q f T c ≡ shown (linksFrom L q f T (T c) c))) ⊎ ((no-rank ≤ T c) × (touchAnswer L q f T c ≡ none))
+      → ((T c < unranked L) × (touchAnswer L q f T c ≡ shown (linksFrom L q f T (T c) c))) ⊎ ((unranked L ≤ T c) × (touchAnswer L q f T c ≡ none))
   unfolding touchAnswer
   touch-cases c =
-      ⊎-elim (λ (e : ltb (T c) no-rank ≡ true). inl (ltb-true (T c) no-rank e, rw (e, touchAnswer)))
-      (λ (e : ltb (T c) no-rank ≡ false). inr (ltb-false (T c) no-rank e, rw (e, touchAnswer))) (passes-or-not (ltb (T c) no-rank))
+      ⊎-elim (λ (e : ltb (T c) (unranked L) ≡ true). inl (ltb-true (T c) (unranked L) e, rw (e, touchAnswer)))
+      (λ (e : ltb (T c) (unranked L) ≡ false). inr (ltb-false (T c) (unranked L) e, rw (e, touchAnswer))) (passes-or-not (ltb (T c) (unranked L)))
 
   pub touch-shows : (c : ℕ) (ls : Chain) → touchAnswer L q f T c ≡ shown ls → Shows L q c f ls
   touch-shows c ls e =
@@ -157,7 +154,7 @@ module _ (L : Library) (q : Question) (f : ℕ) (touch : q .mark ≢ untouched) 
       same : touchAnswer L q f T c ≡ shown (linksFrom L q f T (T c) c) → linksFrom L q f T (T c) c ≡ ls
       same s = cc
 
-      all : T c < no-rank → Shows L q c f (linksFrom L q f T (T c) c)
+      all : T c < unranked L → Shows L q c f (linksFrom L q f T (T c) c)
       all lt =
           let r = links-stand (T c) c refl lt in
           let count = r .count in
@@ -166,10 +163,10 @@ module _ (L : Library) (q : Question) (f : ℕ) (touch : q .mark ≢ untouched) 
             run = r .run;
             stands = r .stands;
             runs = λ w stands. (stands-run L q f (linksFrom L q f T (T c) c) c w (r .about) stands, links-outcome (T c) c w stands);
-            fewest = λ ms w about stands outcome. let le = links-least L q f no-rank touch T closed ms c w about stands outcome in omega arith;
+            fewest = λ ms w about stands outcome. let le = links-least L q f (unranked L) touch T closed ms c w about stands outcome in omega arith;
             lowest = λ t ms w about stands outcome same-count. links-lowest (T c) c refl lt ms w about stands outcome (omega arith);
             one = λ no. absurd (touch no);
-            few = let le = links-bound L q f no-rank touch T reached closed c lt in omega arith;
+            few = let le = links-bound L q f (unranked L) touch T reached closed c lt in omega arith;
           }
 
   pub touch-none : (c : ℕ) → (touchAnswer L q f T c ≡ none) ↔ ((w : List Item) → Run L c w → ¬ HasOutcome L q f w)
@@ -178,7 +175,7 @@ module _ (L : Library) (q : Question) (f : ℕ) (touch : q .mark ≢ untouched) 
       there : touchAnswer L q f T c ≡ none → (w : List Item) → Run L c w → ¬ HasOutcome L q f w
       there e w run outcome =
           let k = run-chain L q f touch c w run outcome in
-          let le = chain-ranked L q f no-rank touch T reached closed (omega arith) (k .0) c w (k .1) (k .2) outcome in
+          let le = chain-ranked L q f (unranked L) touch T reached closed (omega arith) (k .0) c w (k .1) (k .2) outcome in
           ⊎-elim (λ (lt, s). let z : _≡_ {A = ℕ} 0 1 = cc in omega arith) (λ (no-lt, s). omega arith) (touch-cases c)
 
       back : ((w : List Item) → Run L c w → ¬ HasOutcome L q f w) → touchAnswer L q f T c ≡ none
@@ -193,13 +190,13 @@ module _ (L : Library) (s : Side) (f : ℕ) where
   quiet = record { side = s; mark = untouched }
 
   abbrev leaves : Item → Bool
-  leaves = asked L quiet f
+  leaves = hasMark L quiet f
 
-  module _ (T : Ranks) (reached : Reached (Passing (L .sequences) leaves) (unranked (L .sequences)) T)
+  module _ (T : Ranks) (reached : Reached (Passing (L .sequences) leaves) (unranked L) T)
       (closed : Closed (L .sequences) (untouchedLook L quiet f) T) where
     -- an alternative that comes to the least depth, with a derivation no deeper
     least-depth : (c k i : ℕ) → T c ≡ suc k → Lowest (L .sequences) (untouchedLook L quiet f) T c k i
-        → Given (L .sequences) (unranked (L .sequences)) leaves (alternativeOf (L .sequences) c i) k → LeastDepth L quiet f c i
+        → Given (L .sequences) (unranked L) leaves (alternativeOf (L .sequences) c i) k → LeastDepth L quiet f c i
     least-depth c k i e a g =
         record {
           listed = a .listed;
@@ -214,7 +211,7 @@ module _ (L : Library) (s : Side) (f : ℕ) where
             → (deepest (L .sequences) (g .derivation) < deepest (L .sequences) h)
             ⊎ ((deepest (L .sequences) (g .derivation) ≡ deepest (L .sequences) h) × (i ≤ j))
         least j lt w h o =
-            let up = depth-least (L .sequences) (unranked (L .sequences)) leaves T closed h (passes-untouched s (itemTouch L s f) w .1 o) in
+            let up = depth-least (L .sequences) (unranked L) leaves T closed h (passes-untouched s (itemTouch L s f) w .1 o) in
             let low = closed c j lt in
             let d = g .depth in
             ⊎-elim (λ (same : deepest (L .sequences) (g .derivation) ≡ deepest (L .sequences) h). inr (same, a .lowest j lt (omega arith))) inl
@@ -224,25 +221,25 @@ module _ (L : Library) (s : Side) (f : ℕ) where
     abbrev shallowest : ℕ → ℕ
     shallowest c = chosenAlternative (L .sequences) (untouchedLook L quiet f) T (pred (T c)) c
 
-    shallowest-least : (c : ℕ) → T c < unranked (L .sequences) → LeastDepth L quiet f c (shallowest c)
+    shallowest-least : (c : ℕ) → T c < unranked L → LeastDepth L quiet f c (shallowest c)
     shallowest-least c lt =
         let r = reached c lt in
-        let exact = depth-exact (L .sequences) (unranked (L .sequences)) leaves T reached closed c lt .1 in
+        let exact = depth-exact (L .sequences) (unranked L) leaves T reached closed c lt .1 in
         let a =
         alternative-lowest (L .sequences) (untouchedLook L quiet f) T c (pred (T c)) (r .derivation .alternative) (r .derivation .listed) (omega arith) in
         let low = a .keeps in
-        let g = depth-given (L .sequences) (unranked (L .sequences)) leaves T reached (alternativeOf (L .sequences) c (shallowest c)) (omega arith) in
-        least-depth c (pred (T c)) (shallowest c) (omega arith) a (given-more (L .sequences) (unranked (L .sequences)) leaves g low)
+        let g = depth-given (L .sequences) (unranked L) leaves T reached (alternativeOf (L .sequences) c (shallowest c)) (omega arith) in
+        least-depth c (pred (T c)) (shallowest c) (omega arith) a (given-more (L .sequences) (unranked L) leaves g low)
 
     -- the answer by the table
     untouched-cases : (c : ℕ)
-        → ((T c < unranked (L .sequences)) × (untouchedAnswer L quiet f T c ≡ shown (untouchedLink c (shallowest c) ∷ [])))
-        ⊎ ((unranked (L .sequences) ≤ T c) × (untouchedAnswer L quiet f T c ≡ none))
+        → ((T c < unranked L) × (untouchedAnswer L quiet f T c ≡ shown (untouchedLink c (shallowest c) ∷ [])))
+        ⊎ ((unranked L ≤ T c) × (untouchedAnswer L quiet f T c ≡ none))
     unfolding untouchedAnswer
     untouched-cases c =
-        ⊎-elim (λ (e : ltb (T c) (unranked (L .sequences)) ≡ true). inl (ltb-true (T c) (unranked (L .sequences)) e, rw (e, untouchedAnswer)))
-        (λ (e : ltb (T c) (unranked (L .sequences)) ≡ false). inr (ltb-false (T c) (unranked (L .sequences)) e, rw (e, untouchedAnswer)))
-        (passes-or-not (ltb (T c) (unranked (L .sequences))))
+        ⊎-elim (λ (e : ltb (T c) (unranked L) ≡ true). inl (ltb-true (T c) (unranked L) e, rw (e, untouchedAnswer)))
+        (λ (e : ltb (T c) (unranked L) ≡ false). inr (ltb-false (T c) (unranked L) e, rw (e, untouchedAnswer)))
+        (passes-or-not (ltb (T c) (unranked L)))
 
     pub untouched-shows : (c : ℕ) (ls : Chain) → untouchedAnswer L quiet f T c ≡ shown ls → Shows L quiet c f ls
     untouched-shows c ls e =
@@ -252,7 +249,7 @@ module _ (L : Library) (s : Side) (f : ℕ) where
         same : untouchedAnswer L quiet f T c ≡ shown (untouchedLink c (shallowest c) ∷ []) → untouchedLink c (shallowest c) ∷ [] ≡ ls
         same h = cc
 
-        all : T c < unranked (L .sequences) → Shows L quiet c f (untouchedLink c (shallowest c) ∷ [])
+        all : T c < unranked L → Shows L quiet c f (untouchedLink c (shallowest c) ∷ [])
         all lt =
             let d = shallowest-least c lt in
             record {
@@ -272,7 +269,7 @@ module _ (L : Library) (s : Side) (f : ℕ) where
         there : untouchedAnswer L quiet f T c ≡ none → (w : List Item) → Run L c w → ¬ HasOutcome L quiet f w
         there e w run outcome =
             let lt =
-            run-ranked (L .sequences) (unranked (L .sequences)) leaves T reached closed (omega arith) c run
+            run-ranked (L .sequences) (unranked L) leaves T reached closed (omega arith) c run
             (passes-untouched s (itemTouch L s f) w .1 outcome) in
             ⊎-elim (λ (l, h). let z : _≡_ {A = ℕ} 0 1 = cc in omega arith) (λ (le, h). omega arith) (untouched-cases c)
 
@@ -285,29 +282,29 @@ module _ (L : Library) (s : Side) (f : ℕ) where
 
 -- what holds of the answers that ask for a touch and of those that ask for none
 module _ (L : Library) (c f : ℕ) (P : Question → Answer → Type 0)
-    (touching : (q : Question) → q .mark ≢ untouched → (T : Ranks) → Reached (Linked L q f) (unranked (L .sequences)) T
-      → Closed (L .sequences) (touchLook L q f) T → ((d : ℕ) → T d ≤ unranked (L .sequences)) → P q (touchAnswer L q f T c))
-    (leaving : (s : Side) (T : Ranks) → Reached (Passing (L .sequences) (leaves L s f)) (unranked (L .sequences)) T
-      → Closed (L .sequences) (untouchedLook L (quiet L s f) f) T → ((d : ℕ) → T d ≤ unranked (L .sequences))
+    (touching : (q : Question) → q .mark ≢ untouched → (T : Ranks) → Reached (Linked L q f) (unranked L) T
+      → Closed (L .sequences) (touchLook L q f) T → ((d : ℕ) → T d ≤ unranked L) → P q (touchAnswer L q f T c))
+    (leaving : (s : Side) (T : Ranks) → Reached (Passing (L .sequences) (leaves L s f)) (unranked L) T
+      → Closed (L .sequences) (untouchedLook L (quiet L s f) f) T → ((d : ℕ) → T d ≤ unranked L)
       → P (quiet L s f) (untouchedAnswer L (quiet L s f) f T c)) where
-  by-touch : (q : Question) → q .mark ≢ untouched → P q (touchShown L q c f (ranks (L .sequences) (touchLook L q f) (unranked (L .sequences))))
+  by-touch : (q : Question) → q .mark ≢ untouched → P q (touchShown L q c f (ranks (L .sequences) (touchLook L q f) (unranked L)))
   unfolding touchShown
   by-touch q touch =
-      touching q touch (ranksIn (L .sequences) (ranks (L .sequences) (touchLook L q f) (unranked (L .sequences))))
-      (ranks-reached (L .sequences) (touchLook L q f) (unranked (L .sequences)) (Linked L q f) (links-reached L q f (unranked (L .sequences)) touch))
-      (ranks-closed (L .sequences) (touchLook L q f) (unranked (L .sequences)))
-      (ranks-capped (L .sequences) (touchLook L q f) (unranked (L .sequences)))
+      touching q touch (ranksIn L (ranks (L .sequences) (touchLook L q f) (unranked L)))
+      (ranks-reached (L .sequences) (touchLook L q f) (unranked L) (Linked L q f) (links-reached L q f (unranked L) touch))
+      (ranks-closed (L .sequences) (touchLook L q f) (unranked L))
+      (ranks-capped (L .sequences) (touchLook L q f) (unranked L))
 
   by-mark : (s : Side) (m : Mark) → P (record { side = s; mark = m }) (answerFor L (record { side = s; mark = m }) c f m)
   unfolding untouchedShown
   by-mark s present = by-touch (record { side = s; mark = present }) present≢untouched
   by-mark s absent = by-touch (record { side = s; mark = absent }) absent≢untouched
   by-mark s untouched =
-      leaving s (ranksIn (L .sequences) (ranks (L .sequences) (untouchedLook L (quiet L s f) f) (unranked (L .sequences))))
-      (ranks-reached (L .sequences) (untouchedLook L (quiet L s f) f) (unranked (L .sequences)) (Passing (L .sequences) (leaves L s f))
-      (depth-reached (L .sequences) (unranked (L .sequences)) (leaves L s f)))
-      (ranks-closed (L .sequences) (untouchedLook L (quiet L s f) f) (unranked (L .sequences)))
-      (ranks-capped (L .sequences) (untouchedLook L (quiet L s f) f) (unranked (L .sequences)))
+      leaving s (ranksIn L (ranks (L .sequences) (untouchedLook L (quiet L s f) f) (unranked L)))
+      (ranks-reached (L .sequences) (untouchedLook L (quiet L s f) f) (unranked L) (Passing (L .sequences) (leaves L s f))
+      (depth-reached (L .sequences) (unranked L) (leaves L s f)))
+      (ranks-closed (L .sequences) (untouchedLook L (quiet L s f) f) (unranked L))
+      (ranks-capped (L .sequences) (untouchedLook L (quiet L s f) f) (unranked L))
 
   by-answer : (q : Question) → P q (answer L q c f)
   unfolding answer
@@ -334,32 +331,32 @@ answer-possible L q c f = (
 )
 
 -- Any table of ranks that are reached, that no look lowers and none of which is above `unranked` gives the answer.
-pub touch-table : (L : Library) (q : Question) (f : ℕ) → q .mark ≢ untouched → (T : Ranks) → Reached (Linked L q f) (unranked (L .sequences)) T
-    → Closed (L .sequences) (touchLook L q f) T → ((d : ℕ) → T d ≤ unranked (L .sequences)) → (c : ℕ) → touchAnswer L q f T c ≡ answer L q c f
+pub touch-table : (L : Library) (q : Question) (f : ℕ) → q .mark ≢ untouched → (T : Ranks) → Reached (Linked L q f) (unranked L) T
+    → Closed (L .sequences) (touchLook L q f) T → ((d : ℕ) → T d ≤ unranked L) → (c : ℕ) → touchAnswer L q f T c ≡ answer L q c f
 touch-table L q f touch T reached closed capped c =
     by-answer L c f
-    (λ r a. r .mark ≢ untouched → (T : Ranks) → Reached (Linked L r f) (unranked (L .sequences)) T → Closed (L .sequences) (touchLook L r f) T
-      → ((d : ℕ) → T d ≤ unranked (L .sequences)) → touchAnswer L r f T c ≡ a)
+    (λ r a. r .mark ≢ untouched → (T : Ranks) → Reached (Linked L r f) (unranked L) T → Closed (L .sequences) (touchLook L r f) T
+      → ((d : ℕ) → T d ≤ unranked L) → touchAnswer L r f T c ≡ a)
     (λ r t U reached′ closed′ capped′ t′ T reached closed capped. ap (λ (W : Ranks). touchAnswer L r f W c) (fun-ext (λ d.
-      let low = ranks-least (Linked L r f) (unranked (L .sequences)) T U (links-below L r f (unranked (L .sequences)) t T closed) capped reached′ d in
-      let up = ranks-least (Linked L r f) (unranked (L .sequences)) U T (links-below L r f (unranked (L .sequences)) t U closed′) capped′ reached d in
+      let low = ranks-least (Linked L r f) (unranked L) T U (links-below L r f (unranked L) t T closed) capped reached′ d in
+      let up = ranks-least (Linked L r f) (unranked L) U T (links-below L r f (unranked L) t U closed′) capped′ reached d in
       let same : T d ≡ U d = omega arith in
       same)))
     (λ s U reached′ closed′ capped′ t′. absurd (t′ refl))
     q touch T reached closed capped
 
 pub untouched-table : (L : Library) (q : Question) (f : ℕ) → q .mark ≡ untouched → (T : Ranks)
-    → Reached (Passing (L .sequences) (asked L q f)) (unranked (L .sequences)) T → Closed (L .sequences) (untouchedLook L q f) T
-    → ((d : ℕ) → T d ≤ unranked (L .sequences)) → (c : ℕ) → untouchedAnswer L q f T c ≡ answer L q c f
+    → Reached (Passing (L .sequences) (hasMark L q f)) (unranked L) T → Closed (L .sequences) (untouchedLook L q f) T
+    → ((d : ℕ) → T d ≤ unranked L) → (c : ℕ) → untouchedAnswer L q f T c ≡ answer L q c f
 untouched-table L q f leaving T reached closed capped c =
     by-answer L c f
-    (λ r a. r .mark ≡ untouched → (T : Ranks) → Reached (Passing (L .sequences) (asked L r f)) (unranked (L .sequences)) T
-      → Closed (L .sequences) (untouchedLook L r f) T → ((d : ℕ) → T d ≤ unranked (L .sequences)) → untouchedAnswer L r f T c ≡ a)
+    (λ r a. r .mark ≡ untouched → (T : Ranks) → Reached (Passing (L .sequences) (hasMark L r f)) (unranked L) T
+      → Closed (L .sequences) (untouchedLook L r f) T → ((d : ℕ) → T d ≤ unranked L) → untouchedAnswer L r f T c ≡ a)
     (λ r t U reached′ closed′ capped′ t′. absurd (t t′))
     (λ s U reached′ closed′ capped′ t′ T reached closed capped. ap (λ (W : Ranks). untouchedAnswer L (quiet L s f) f W c) (fun-ext (λ d.
       let P = Passing (L .sequences) (leaves L s f) in
-      let low = ranks-least P (unranked (L .sequences)) T U (depth-below (L .sequences) (unranked (L .sequences)) (leaves L s f) T closed) capped reached′ d in
-      let up = ranks-least P (unranked (L .sequences)) U T (depth-below (L .sequences) (unranked (L .sequences)) (leaves L s f) U closed′) capped′ reached d in
+      let low = ranks-least P (unranked L) T U (depth-below (L .sequences) (unranked L) (leaves L s f) T closed) capped reached′ d in
+      let up = ranks-least P (unranked L) U T (depth-below (L .sequences) (unranked L) (leaves L s f) U closed′) capped′ reached d in
       let same : T d ≡ U d = omega arith in
       same)))
     q leaving T reached closed capped

@@ -76,7 +76,7 @@ module _ (L : Library) (q : Question) (f : ℕ) where
   stands-outcome c i p ls w (lt, k) =
       let e = entry-given ls (λ u. StandsFor L q f ls u) (stands-run ls) (entryAt (alternativeOf (L .sequences) c i) p) (k .given) (k .touching) in
       rw (k .split)
-      (middle-decides (q .side) (itemTouch L (q .side) f) (q .mark) (k .before) (k .given) (k .after) (k .asked) (e .1) (k .quiet))
+      (middle-decides (q .side) (itemTouch L (q .side) f) (q .mark) (k .before) (k .given) (k .after) (k .touch) (e .1) (k .quiet))
 
   -- the choices for a position, with one more entry before
   choices-after : (e : Entry) (es : Alternative) (p : ℕ) (touches : Entry → List Item → Type 0) (u w : List Item) → Gives (L .sequences) (e ∷ []) u
@@ -84,7 +84,7 @@ module _ (L : Library) (q : Question) (f : ℕ) where
   choices-after e es p touches u w g quiet k =
       let lt = k .listed in
       record {
-        asked = k .asked;
+        touch = k .touch;
         listed = omega arith;
         before = u ++ k .before;
         given = k .given;
@@ -116,7 +116,7 @@ module _ (L : Library) (q : Question) (f : ℕ) where
           position = 0;
           links = [];
           choices = record {
-            asked = touch;
+            touch = touch;
             listed = omega arith;
             before = [];
             given = a ∷ [];
@@ -140,7 +140,7 @@ module _ (L : Library) (q : Question) (f : ℕ) where
           position = 0;
           links = touchLink c i (r .position) ∷ r .links;
           choices = record {
-            asked = touch;
+            touch = touch;
             listed = omega arith;
             before = [];
             given = u;

@@ -10,7 +10,7 @@ use Rattle.outcome.specs.Touch.{Side, Mark, present, absent, untouched, Questio
 use Rattle.chain.specs.Scan.{firstIndex}
 use Rattle.chain.specs.Link.{Link, touchLink, untouchedLink, Chain}
 use Rattle.chain.specs.Stands.{entryAt}
-use Rattle.chain.specs.Ranks.{Ranks, Look, ranks, unranked, candidate, asked, aheadOf, behindOf, untouchedLook, touchLook}
+use Rattle.chain.specs.Ranks.{Ranks, Look, ranks, unranked, candidate, hasMark, aheadOf, behindOf, untouchedLook, touchLook}
 use Rattle.chain.specs.Ranks.{depthLook, linkLook}
 
 pub data Answer : Type 0 where
@@ -35,7 +35,7 @@ followed (call d) next = next d
 module _ (L : Library) (q : Question) (f : ℕ) where
   -- the number of links after this one, by the position
   abbrev pub linksAfter : Ranks → Alternative → ℕ → ℕ
-  linksAfter = candidate (unranked (L .sequences)) (asked L q f) (aheadOf L q f (q .side)) (behindOf L q f (q .side))
+  linksAfter = candidate (unranked L) (hasMark L q f) (aheadOf L q f (q .side)) (behindOf L q f (q .side))
 
   -- the n links of a chain about sequence c, where c has rank n: "at each link the choice is the lowest alternative, then the lowest
   -- position, that keeps it fewest"
@@ -51,33 +51,33 @@ module _ (L : Library) (q : Question) (f : ℕ) where
   -- "Questions 0, 1, 3, 4": "The chain has the fewest links"
   unfoldable pub touchAnswer : Ranks → ℕ → Answer
   unfolding linksFrom
-  touchAnswer T c = elim (ltb (T c) (unranked (L .sequences))) [ true ↦ shown (linksFrom T (T c) c) | false ↦ none ]
+  touchAnswer T c = elim (ltb (T c) (unranked L)) [ true ↦ shown (linksFrom T (T c) c) | false ↦ none ]
 
   -- "Questions 2 and 5: one link with kind 12. It names the alternative of the untouched derivation of least nesting depth, ties to
   -- the lowest."
   unfoldable pub untouchedAnswer : Ranks → ℕ → Answer
   unfolding chosenAlternative
   untouchedAnswer T c =
-      elim (ltb (T c) (unranked (L .sequences)))
+      elim (ltb (T c) (unranked L))
       [ true ↦ shown (untouchedLink c (chosenAlternative (L .sequences) (untouchedLook L q f) T (pred (T c)) c) ∷ []) | false ↦ none ]
 
 -- the ranks of a list
-abbrev pub ranksIn : List Sequence → List ℕ → Ranks
-ranksIn S T d = getD T d (unranked S)
+abbrev pub ranksIn : Library → List ℕ → Ranks
+ranksIn L T d = getD T d (unranked L)
 
 -- the answer for a question that asks for a touch, and for one that asks for none, by a list of ranks that is computed once
 unfoldable pub touchShown : Library → Question → ℕ → ℕ → List ℕ → Answer
 unfolding touchAnswer
-touchShown L q c f T = touchAnswer L q f (ranksIn (L .sequences) T) c
+touchShown L q c f T = touchAnswer L q f (ranksIn L T) c
 
 unfoldable pub untouchedShown : Library → Question → ℕ → ℕ → List ℕ → Answer
 unfolding untouchedAnswer
-untouchedShown L q c f T = untouchedAnswer L q f (ranksIn (L .sequences) T) c
+untouchedShown L q c f T = untouchedAnswer L q f (ranksIn L T) c
 
 abbrev pub answerFor : Library → Question → ℕ → ℕ → Mark → Answer
-answerFor L q c f present = touchShown L q c f (ranks (L .sequences) (touchLook L q f) (unranked (L .sequences)))
-answerFor L q c f absent = touchShown L q c f (ranks (L .sequences) (touchLook L q f) (unranked (L .sequences)))
-answerFor L q c f untouched = untouchedShown L q c f (ranks (L .sequences) (untouchedLook L q f) (unranked (L .sequences)))
+answerFor L q c f present = touchShown L q c f (ranks (L .sequences) (touchLook L q f) (unranked L))
+answerFor L q c f absent = touchShown L q c f (ranks (L .sequences) (touchLook L q f) (unranked L))
+answerFor L q c f untouched = untouchedShown L q c f (ranks (L .sequences) (untouchedLook L q f) (unranked L))
 
 -- the answer to question q of sequence c for fact f
 unfoldable pub answer : Library → Question → ℕ → ℕ → Answer

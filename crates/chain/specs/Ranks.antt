@@ -54,8 +54,8 @@ module _ (S : List Sequence) (look : Look) where
     ranks = rounds (length S * none) (listBelow (λ c. none) (length S))
 
 -- "no rank": a rank is at most the number of sequences
-abbrev pub unranked : List Sequence → ℕ
-unranked S = length S + 2
+abbrev pub unranked : Library → ℕ
+unranked L = length (L .sequences) + 2
 
 -- the rank of an entry: 0 for a step that passes the test, the sequence's for a call
 abbrev pub entryRank : ℕ → (Item → Bool) → Ranks → Entry → ℕ
@@ -85,8 +85,8 @@ linkLook none test ahead behind T es = leastBelow (candidate none test ahead beh
 
 module _ (L : Library) (q : Question) (f : ℕ) where
   -- the step has the mark asked for
-  abbrev pub asked : Item → Bool
-  asked a = sameMark (itemTouch L (q .side) f a) (q .mark)
+  abbrev pub hasMark : Item → Bool
+  hasMark a = sameMark (itemTouch L (q .side) f a) (q .mark)
 
   -- "can stay untouched"
   abbrev pub canStay : Entry → Bool
@@ -108,10 +108,10 @@ behindOf L q f first = canRun L q f
 
 -- the looks of a question that asks for no touch, and of one that asks for a touch
 abbrev pub untouchedLook : Library → Question → ℕ → Look
-untouchedLook L q f = depthLook (unranked (L .sequences)) (asked L q f)
+untouchedLook L q f = depthLook (unranked L) (hasMark L q f)
 
 abbrev pub touchLook : Library → Question → ℕ → Look
-touchLook L q f = linkLook (unranked (L .sequences)) (asked L q f) (aheadOf L q f (q .side)) (behindOf L q f (q .side))
+touchLook L q f = linkLook (unranked L) (hasMark L q f) (aheadOf L q f (q .side)) (behindOf L q f (q .side))
 
 -- a run of sequence c whose items all pass a test, by a derivation no deeper than n
 pub record Passing (S : List Sequence) (test : Item → Bool) (c n : ℕ) : Type 0 where

@@ -35,7 +35,7 @@ entryAt es p = getD es p (step 0)
 -- after it give, in order. "The remaining entries give any run of theirs."
 pub record Choices (L : Library) (q : Question) (f : ℕ) (es : Alternative) (p : ℕ) (touches : Entry → List Item → Type 0) (w : List Item)
     : Type 0 where
-  pub asked : q .mark ≢ untouched
+  pub touch : q .mark ≢ untouched
   pub listed : p < length es
   pub before : List Item
   pub given : List Item
