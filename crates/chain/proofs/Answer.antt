@@ -1,35 +1,35 @@
 -- The answer to a question: a chain that is answered keeps every promise of `Shows`, and "none" is answered exactly when no run has
 -- the outcome.
-use Prim.Native.Nat.{ℕ, zero, suc, pred, _+_, _≤_, _<_}
+use Prim.Native.Nat.{ℕ, zero, suc, pred, _≤_, _<_}
 use mathlib.Core.Path.{_≡_, refl, sym, _∙_, ap, subst, fun-ext}
 use mathlib.Core.Logic.{_≢_, _⊎_, inl, inr, ⊎-elim, _↔_}
-use mathlib.Core.Bool.{Bool, true, false, false≢true, true≢false}
-use mathlib.Core.List.{List, [], _∷_, _++_}
+use mathlib.Core.Bool.{Bool, true, false, true≢false}
+use mathlib.Core.List.{List, [], _∷_}
 use native.Mathlib.Omega.{arith}
 use native.Mathlib.Nat.{eq-or-lt-of-le}
-use lib.ListN.{length, getD, take, drop}
-use lib.Dec.{leb, ltb}
-use borrow.Author.Tests.{leb-true, le-leb, ltb-true, ltb-false}
-use Rattle.image.specs.Library.{Library, Alternative, Entry, step, call}
-use Rattle.outcome.specs.Run.{Item, Run, RunOf, Gives, alternativesOf, alternativeOf}
-use Rattle.outcome.specs.Touch.{Side, Mark, present, absent, untouched, itemTouch, Question, untouchedOn, HasOutcome}
-use Rattle.outcome.specs.Algebra.{sameMark, sameMark-eq}
+use lib.ListN.{length}
+use lib.Dec.{ltb}
+use borrow.Author.Tests.{ltb-true, ltb-false}
+use Rattle.image.specs.Library.{Library, Entry, step, call}
+use Rattle.outcome.specs.Run.{Item, Run, Gives, alternativesOf, alternativeOf}
+use Rattle.outcome.specs.Touch.{Side, Mark, present, absent, untouched, itemTouch, Question, HasOutcome}
+use Rattle.outcome.specs.Algebra.{sameMark-eq}
 use Rattle.outcome.specs.Possible.{possibleOutcome}
 use Rattle.outcome.proofs.Tests.{passes-or-not}
 use Rattle.outcome.proofs.Outcome.{present≢untouched, absent≢untouched}
 use Rattle.outcome.proofs.Columns.{question-iff}
-use Rattle.chain.specs.Link.{Link, touchLink, untouchedLink, Chain}
-use Rattle.chain.specs.Stands.{About, EntryTouches, entryAt, Choices, StandsFor}
+use Rattle.chain.specs.Link.{touchLink, untouchedLink, Chain}
+use Rattle.chain.specs.Stands.{About, entryAt, Choices, StandsFor}
 use Rattle.chain.specs.Depth.{deepest}
 use Rattle.chain.specs.Ranks.{Ranks, Closed, Reached, Linked, Passing, unranked, entryRank, ranks, hasMark, untouchedLook, touchLook}
 use Rattle.chain.specs.Answer.{Answer, none, shown, chosenAlternative, followed, linksFrom, touchAnswer, untouchedAnswer, ranksIn}
 use Rattle.chain.specs.Answer.{touchShown, untouchedShown, answerFor, answer}
 use Rattle.chain.specs.Shows.{NoHigher, LeastDepth, Shows}
 use Rattle.chain.proofs.Ranks.{alternative-below, Lowest, alternative-lowest, ranks-least, ranks-closed, ranks-capped, ranks-reached}
-use Rattle.chain.proofs.Depth.{step-passes, step-rank, Given, given-more, depth-least, depth-given, depth-reached, depth-exact, depth-bound, depth-below, run-ranked}
+use Rattle.chain.proofs.Depth.{step-passes, step-rank, Given, given-more, depth-least, depth-given, depth-reached, depth-exact, depth-below, run-ranked}
 use Rattle.chain.proofs.Passes.{passes-untouched}
 use Rattle.chain.proofs.Stands.{stands-run, stands-outcome, run-chain}
-use Rattle.chain.proofs.Links.{entriesOf, Touching, after, position-low, linked, links-least, links-reached, Chosen, chosenAt, positionAt, chosen, chosen-rank, links-bound, chain-ranked, links-below}
+use Rattle.chain.proofs.Links.{entriesOf, Touching, after, position-low, linked, links-least, links-reached, chosenAt, positionAt, chosen, chosen-rank, links-bound, chain-ranked, links-below}
 use Rattle.chain.proofs.Links.{choices-rank, look-le}
 
 -- a chain about a sequence has a link

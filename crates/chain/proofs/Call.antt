@@ -1,17 +1,15 @@
 -- Laws of the chain call: what an accepted image and numbers in range get; that an area of two words a sequence is never too small; and
 -- the area after the call.
-use Prim.Native.Nat.{ℕ, suc, _+_, _*_, _≤_, _<_}
-use mathlib.Core.Path.{_≡_, refl, sym, _∙_, ap, subst}
-use mathlib.Core.Logic.{_↔_, _⊎_, inl, inr, ⊎-elim}
+use Prim.Native.Nat.{ℕ, _*_, _≤_, _<_}
+use mathlib.Core.Path.{_≡_, refl, _∙_, ap}
 use mathlib.Core.Bool.{Bool, true, false, cond}
-use mathlib.Core.List.{List, [], _∷_, _++_}
+use mathlib.Core.List.{List}
 use native.Mathlib.Omega.{arith}
-use lib.ListN.{length, drop, take, length-append, length-drop}
-use lib.Seq.{take-append-seam, drop-append-seam}
+use lib.ListN.{length, drop, length-append, length-drop}
 use lib.Dec.{leb, ltb}
 use borrow.Author.Tests.{le-leb, lt-ltb, leb-true}
 use Rattle.image.specs.Checked.{checked}
-use Rattle.image.specs.Library.{Library, libraryOf}
+use Rattle.image.specs.Library.{libraryOf}
 use Rattle.image.specs.declared.answer.Head.{Head}
 use Rattle.image.specs.declared.answer.Refusal.the-variants.{Sequence, Question, Fact, ChainArea}
 use Rattle.image.specs.declared.answer.Checked.{Checked}
@@ -19,11 +17,10 @@ use Rattle.image.specs.declared.answer.Checked.the-variants.{Accepted, Refused}
 use Rattle.image.proofs.Accepted.{counted}
 use Rattle.outcome.specs.Run.{Item, Run}
 use Rattle.outcome.specs.Touch.{questionOf, HasOutcome}
-use Rattle.outcome.proofs.Tests.{passes-or-not}
 use Rattle.chain.specs.Link.{Chain, chainWords}
 use Rattle.chain.specs.Answer.{Answer, none, shown, answer}
 use Rattle.chain.specs.Shows.{Shows}
-use Rattle.chain.specs.Call.{Reply, refused, answered, inArea, askedOf, afterCheck, chained, areaAfter}
+use Rattle.chain.specs.Call.{Reply, refused, answered, inArea, afterCheck, chained, areaAfter}
 use Rattle.chain.proofs.Words.{words-length}
 use Rattle.chain.proofs.Answer.{answer-shows, answer-none}
 

@@ -1,21 +1,20 @@
 -- Nesting depths: a closed table has no rank above the depth of a derivation, one look at an alternative finds only depths that a
 -- derivation has, and a rank is at most the number of sequences. The derivations are those of runs all of whose items pass a test:
 -- "does not touch the fact", or any item, where the ranked sequences are those with a run.
-use Prim.Native.Nat.{ℕ, zero, suc, _+_, _≤_, _<_, max}
-use mathlib.Core.Path.{_≡_, refl, sym, _∙_, ap, subst}
-use mathlib.Core.Logic.{_⊎_, inl, inr, ⊎-elim, _↔_}
-use mathlib.Core.Bool.{Bool, true, false, cond, _&&_, false≢true}
+use Prim.Native.Nat.{ℕ, suc, _+_, _≤_, _<_}
+use mathlib.Core.Path.{_≡_, refl, sym, _∙_}
+use mathlib.Core.Bool.{Bool, true, false, cond, false≢true}
 use mathlib.Core.List.{List, [], _∷_, _++_}
 use native.Mathlib.Omega.{arith}
-use lib.ListN.{length, getD}
+use lib.ListN.{length}
 use Rattle.image.specs.Library.{Sequence, Entry, step, call}
 use Rattle.outcome.specs.Tests.{and-parts}
 use Rattle.outcome.specs.Run.{Item, RunOf, Gives, nothing, by-step, by-call, alternativesOf, alternativeOf}
-use Rattle.outcome.proofs.Tests.{and-both, passes-or-not}
-use Rattle.chain.specs.Scan.{every, greatest}
+use Rattle.outcome.proofs.Tests.{and-both}
+use Rattle.chain.specs.Scan.{every}
 use Rattle.chain.specs.Depth.{deepest, depthOf}
 use Rattle.chain.specs.Ranks.{Ranks, Closed, Reached, entryRank, depthLook, Passing}
-use Rattle.chain.proofs.Scan.{every-append, every-cons, greatest-reached, Gapless, gapless-bound}
+use Rattle.chain.proofs.Scan.{every-append, greatest-reached, Gapless, gapless-bound}
 use Rattle.chain.proofs.Ranks.{alternative-below}
 
 -- the rank of a step that passes is 0, and below `none` only a step that passes has one

@@ -1,24 +1,23 @@
 -- Numbers of links: a closed table has no rank above the number of links of a chain that stands for a run with the touch asked for, one
 -- look at an alternative finds only numbers that a chain has, and a rank is at most the number of sequences. Then the chain that is
 -- chosen by the ranks, link by link.
-use Prim.Native.Nat.{ℕ, zero, suc, _+_, _≤_, _<_}
-use mathlib.Core.Path.{_≡_, refl, sym, _∙_, ap, subst}
-use mathlib.Core.Logic.{_≢_, _⊎_, inl, inr, ⊎-elim}
+use Prim.Native.Nat.{ℕ, suc, _+_, _≤_, _<_}
+use mathlib.Core.Path.{_≡_, refl, sym, _∙_}
+use mathlib.Core.Logic.{_≢_, ⊎-elim}
 use mathlib.Core.Bool.{Bool, true, false, cond, _&&_}
 use mathlib.Core.List.{List, [], _∷_, _++_}
 use native.Mathlib.Omega.{arith}
-use native.Mathlib.Nat.{eq-or-lt-of-le}
-use lib.ListN.{length, getD, take, drop}
+use lib.ListN.{length, take, drop}
 use lib.Dec.{leb}
 use borrow.Author.Tests.{leb-true, le-leb}
 use Rattle.image.specs.Library.{Library, Alternative, Entry, step, call}
 use Rattle.outcome.specs.Tests.{and-parts}
 use Rattle.outcome.specs.Run.{Item, alternativesOf, alternativeOf}
-use Rattle.outcome.specs.Touch.{Mark, untouched, itemTouch, Question, HasOutcome}
-use Rattle.outcome.specs.Algebra.{sameMark, sameMark-refl, sameMark-eq}
+use Rattle.outcome.specs.Touch.{untouched, itemTouch, Question, HasOutcome}
+use Rattle.outcome.specs.Algebra.{sameMark-refl, sameMark-eq}
 use Rattle.outcome.proofs.Tests.{and-both}
-use Rattle.chain.specs.Scan.{every, leastBelow, firstIndex}
-use Rattle.chain.specs.Link.{Link, touchLink, untouchedLink, Chain}
+use Rattle.chain.specs.Scan.{every}
+use Rattle.chain.specs.Link.{touchLink, untouchedLink, Chain}
 use Rattle.chain.specs.Stands.{About, EntryTouches, entryAt, Choices, StandsFor}
 use Rattle.chain.specs.Ranks.{Ranks, Look, Closed, Reached, Linked, entryRank, candidate, linkLook, hasMark, aheadOf, behindOf}
 use Rattle.chain.specs.Answer.{chosenAlternative, chosenPosition}

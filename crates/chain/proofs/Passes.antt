@@ -1,18 +1,17 @@
 -- Entries that can stay untouched or have a run: the tests of a list of entries say so of the lists that it gives.
-use Prim.Native.Nat.{ℕ, _<_}
-use mathlib.Core.Path.{_≡_, refl, sym, _∙_, ap}
+use Prim.Native.Nat.{ℕ}
+use mathlib.Core.Path.{_≡_, refl, _∙_, ap}
 use mathlib.Core.Logic.{_↔_, ⊎-elim}
-use mathlib.Core.Bool.{Bool, true, false, _&&_}
+use mathlib.Core.Bool.{Bool, true}
 use mathlib.Core.List.{List, [], _∷_, _++_, List·Memᴰ, List·Memᴰ·head, List·Memᴰ·tail, List·Memᴰ·cases-cons, List·Memᴰ·not-nil}
-use lib.ListN.{length}
 use Rattle.image.specs.Library.{Library, Sequence, Entry, step, call}
 use Rattle.outcome.specs.Tests.{and-parts}
-use Rattle.outcome.specs.Run.{Item, RunOf, Gives, nothing, by-step, by-call, alternativesOf, alternativeOf}
-use Rattle.outcome.specs.Touch.{Side, last, first, Mark, untouched, itemTouch, outcomeOf, decided, Question, untouchedOn, HasOutcome}
-use Rattle.outcome.specs.Algebra.{sameMark, sameMark-refl, sameMark-eq}
+use Rattle.outcome.specs.Run.{Item, RunOf, Gives, nothing, by-step, by-call}
+use Rattle.outcome.specs.Touch.{Side, last, first, Mark, untouched, itemTouch, decided, Question, untouchedOn, HasOutcome}
+use Rattle.outcome.specs.Algebra.{sameMark, sameMark-eq}
 use Rattle.outcome.specs.Possible.{hasRun, possibleOutcome}
 use Rattle.outcome.proofs.Tests.{and-both}
-use Rattle.outcome.proofs.Outcome.{Untouched, untouched-iff}
+use Rattle.outcome.proofs.Outcome.{untouched-iff}
 use Rattle.outcome.proofs.Columns.{question-iff, hasRun-iff}
 use Rattle.chain.specs.Scan.{every}
 use Rattle.chain.specs.Ranks.{entryPasses, canStay, canRun, aheadOf, behindOf}

@@ -2,14 +2,10 @@
 use Prim.Native.Nat.{ℕ, _*_, _^_}
 use mathlib.Core.Path.{_≡_, refl}
 use mathlib.Core.List.{List, [], _∷_}
-use Rattle.image.specs.Library.{has, Library, step, call}
-use Rattle.image.specs.Checked.{scan, checked}
+use Rattle.image.specs.Library.{has}
 use Rattle.image.specs.Rules.{opened, lastOf}
 use Rattle.image.specs.Word.{total}
-use Rattle.outcome.specs.Touch.{questionOf}
 use Rattle.outcome.specs.Possible.{possible}
-use Rattle.chain.specs.Link.{touchLink, untouchedLink}
-use Rattle.chain.specs.Answer.{none, shown, answer}
 use Rattle.chain.specs.Call.{Reply, chained, areaAfter, replyNumber}
 use lib.ListN.{length}
 

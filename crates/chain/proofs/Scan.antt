@@ -1,6 +1,6 @@
 -- Laws of the scans: of every element, of the least and the greatest value, of the first index, of lists by their indices; and a
 -- count, by which numbers without a gap are bounded.
-use Prim.Native.Nat.{ℕ, zero, suc, _+_, _*_, _≤_, _<_, min, max}
+use Prim.Native.Nat.{ℕ, zero, suc, _+_, _*_, _≤_, _<_, min}
 use mathlib.Core.Path.{_≡_, refl, sym, _∙_, ap}
 use mathlib.Core.Logic.{_⊎_, inl, inr, ⊎-elim}
 use mathlib.Core.Bool.{Bool, true, false, cond, _&&_, false≢true, and-assoc}
@@ -8,9 +8,8 @@ use mathlib.Core.List.{List, [], _∷_, _++_}
 use native.Mathlib.Omega.{arith}
 use native.Mathlib.Nat.{eq-or-lt-of-le, le-of-suc-le-suc, suc-mul}
 use lib.ListN.{length, getD}
-use lib.Dec.{leb, ltb}
+use lib.Dec.{leb}
 use borrow.Author.Tests.{leb-true, le-leb, lt-leb, leb-false}
-use Rattle.outcome.specs.Tests.{and-parts}
 use Rattle.outcome.proofs.Tests.{and-both, passes-or-not}
 use Rattle.chain.specs.Scan.{every, leastBelow, greatest, firstIndex, listBelow, total}
 

@@ -1,19 +1,19 @@
 -- What a chain stands for: runs of its first link's sequence, with the outcome; and every run with a touch for its outcome has a chain
 -- that stands for it.
-use Prim.Native.Nat.{ℕ, zero, suc, _<_}
+use Prim.Native.Nat.{ℕ, suc, _<_}
 use mathlib.Core.Path.{_≡_, refl, sym, _∙_, ap}
-use mathlib.Core.Logic.{_↔_, _≢_, _⊎_, inl, inr, ⊎-elim}
+use mathlib.Core.Logic.{_≢_, _⊎_, inl, inr, ⊎-elim}
 use mathlib.Core.List.{List, [], _∷_, _++_, append-assoc}
 use native.Mathlib.Omega.{arith}
-use lib.ListN.{length, getD, take, drop}
+use lib.ListN.{length}
 use lib.Seq.{split-at}
 use Rattle.image.specs.Library.{Library, Alternative, Entry, step, call}
-use Rattle.outcome.specs.Run.{Item, Run, RunOf, Gives, nothing, by-step, by-call, alternativesOf, alternativeOf}
-use Rattle.outcome.specs.Touch.{Side, last, first, Mark, untouched, orElse, itemTouch, outcomeOf, decided, Question, untouchedOn, HasOutcome}
-use Rattle.outcome.specs.Algebra.{joinMarks, orElse-untouched}
+use Rattle.outcome.specs.Run.{Item, Run, Gives, nothing, by-step, by-call, alternativesOf, alternativeOf}
+use Rattle.outcome.specs.Touch.{Side, last, first, Mark, untouched, itemTouch, decided, Question, untouchedOn, HasOutcome}
+use Rattle.outcome.specs.Algebra.{orElse-untouched}
 use Rattle.outcome.proofs.Run.{gives-append, call-iff}
 use Rattle.outcome.proofs.Outcome.{decided-append, orElse-touch, orElse-cases}
-use Rattle.chain.specs.Link.{Link, touchLink, untouchedLink, Chain}
+use Rattle.chain.specs.Link.{touchLink, untouchedLink, Chain}
 use Rattle.chain.specs.Stands.{About, quietPart, EntryTouches, entryAt, Choices, StandsFor}
 
 -- the touch between two parts, of which the one that could overrule it leaves the fact untouched, decides

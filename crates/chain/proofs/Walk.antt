@@ -1,15 +1,15 @@
 -- The forms that a loop follows give what the definitions say: ranks lowered by one walk over a sequence's alternatives, an alternative
 -- read from left to right, and the choice of a link by nested scans.
 use Prim.Native.Nat.{ℕ, zero, suc, _+_, _≤_, _<_, min, max}
-use mathlib.Core.Path.{_≡_, refl, sym, _∙_, ap, ap₂, subst}
-use mathlib.Core.Logic.{_⊎_, inl, inr, ⊎-elim}
+use mathlib.Core.Path.{_≡_, refl, sym, _∙_, ap, ap₂}
+use mathlib.Core.Logic.{⊎-elim}
 use mathlib.Core.Bool.{Bool, true, false, cond, _&&_, true≢false}
-use mathlib.Core.List.{List, [], _∷_, _++_}
+use mathlib.Core.List.{List, [], _∷_}
 use native.Mathlib.Omega.{arith}
 use lib.ListN.{length, getD, take, drop}
 use lib.Dec.{leb, ltb}
-use borrow.Author.Tests.{leb-true, leb-false, le-leb, lt-leb, ltb-true, ltb-false, lt-ltb, le-ltb}
-use Rattle.image.specs.Library.{Alternative, Sequence, Entry, step}
+use borrow.Author.Tests.{leb-true, le-leb, lt-leb, ltb-true, lt-ltb}
+use Rattle.image.specs.Library.{Alternative, Sequence, Entry}
 use Rattle.outcome.specs.Run.{Item, alternativesOf, alternativeOf}
 use Rattle.outcome.specs.Tests.{and-parts}
 use Rattle.outcome.proofs.Tests.{both-ways}

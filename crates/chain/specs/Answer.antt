@@ -1,14 +1,14 @@
 -- The answer to a question, as a function: none, or a chain (document 01, "Chains").
 use Prim.Native.Nat.{ℕ, zero, suc, pred}
-use mathlib.Core.Bool.{Bool, true, false, cond}
+use mathlib.Core.Bool.{true, false}
 use mathlib.Core.List.{List, [], _∷_}
 use lib.ListN.{length, getD}
 use lib.Dec.{leb, ltb}
 use Rattle.image.specs.Library.{Library, Alternative, Sequence, Entry, step, call}
 use Rattle.outcome.specs.Run.{alternativesOf, alternativeOf}
-use Rattle.outcome.specs.Touch.{Side, Mark, present, absent, untouched, Question}
+use Rattle.outcome.specs.Touch.{Mark, present, absent, untouched, Question}
 use Rattle.chain.specs.Scan.{firstIndex}
-use Rattle.chain.specs.Link.{Link, touchLink, untouchedLink, Chain}
+use Rattle.chain.specs.Link.{touchLink, untouchedLink, Chain}
 use Rattle.chain.specs.Stands.{entryAt}
 use Rattle.chain.specs.Ranks.{Ranks, Look, ranks, unranked, candidate, hasMark, aheadOf, behindOf, untouchedLook, touchLook}
 use Rattle.chain.specs.Ranks.{depthLook, linkLook}

@@ -1,8 +1,8 @@
 -- The chain call over every input: its answer, the words in the area after it, and the number that the C side gets (document 01,
 -- "Turned down, in checking order", "Chains").
 use Prim.Native.Nat.{ℕ}
-use mathlib.Core.Bool.{Bool, cond}
-use mathlib.Core.List.{List, [], _∷_, _++_}
+use mathlib.Core.Bool.{cond}
+use mathlib.Core.List.{List, _++_}
 use lib.ListN.{length, drop}
 use lib.Dec.{leb, ltb}
 use Rattle.image.specs.Answer.{refusalAnswer}
@@ -14,7 +14,7 @@ use Rattle.image.specs.declared.answer.Refusal.the-variants.{Sequence, Question
 use Rattle.image.specs.declared.answer.Checked.{Checked}
 use Rattle.image.specs.declared.answer.Checked.the-variants.{Accepted, Refused}
 use Rattle.outcome.specs.Touch.{questionOf}
-use Rattle.chain.specs.Link.{Chain, chainWords}
+use Rattle.chain.specs.Link.{chainWords}
 use Rattle.chain.specs.Answer.{Answer, none, shown, answer}
 
 -- what the chain call comes to: a refusal, or the answer to the question

@@ -1,6 +1,6 @@
 -- The nesting depth of a derivation (document 01, "Chains").
-use Prim.Native.Nat.{ℕ, zero, suc, max}
-use mathlib.Core.List.{List, [], _∷_}
+use Prim.Native.Nat.{ℕ, suc, max}
+use mathlib.Core.List.{List}
 use Rattle.image.specs.Library.{Sequence, Entry}
 use Rattle.outcome.specs.Run.{Item, Gives, nothing, by-step, by-call, RunOf}
 

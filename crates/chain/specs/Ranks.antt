@@ -3,12 +3,12 @@
 use Prim.Native.Nat.{ℕ, zero, suc, _+_, _*_, _≤_, _<_}
 use mathlib.Core.Path.{_≡_}
 use mathlib.Core.Bool.{Bool, true, false, cond, _&&_}
-use mathlib.Core.List.{List, [], _∷_}
+use mathlib.Core.List.{List}
 use lib.ListN.{length, getD, take, drop}
 use lib.Dec.{ltb}
 use Rattle.image.specs.Library.{Library, Alternative, Sequence, Entry, step, call}
 use Rattle.outcome.specs.Run.{Item, RunOf, alternativesOf, alternativeOf}
-use Rattle.outcome.specs.Touch.{Side, last, first, Mark, untouched, itemTouch, Question, untouchedOn, HasOutcome}
+use Rattle.outcome.specs.Touch.{Side, last, first, untouched, itemTouch, Question, untouchedOn, HasOutcome}
 use Rattle.outcome.specs.Algebra.{sameMark}
 use Rattle.outcome.specs.Possible.{hasRun, possibleOutcome}
 use Rattle.chain.specs.Scan.{every, leastBelow, greatest, listBelow, total}

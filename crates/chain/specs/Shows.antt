@@ -1,5 +1,5 @@
 -- What is promised of a chain that answers a question (document 01, "Chains"; demand 3).
-use Prim.Native.Nat.{ℕ, suc, _≤_, _<_}
+use Prim.Native.Nat.{ℕ, _≤_, _<_}
 use mathlib.Core.Path.{_≡_}
 use mathlib.Core.Logic.{_⊎_, _≢_}
 use mathlib.Core.List.{List, [], _∷_}
@@ -7,7 +7,7 @@ use lib.ListN.{length}
 use Rattle.image.specs.Library.{Library}
 use Rattle.outcome.specs.Run.{Item, Run, Gives, alternativesOf, alternativeOf}
 use Rattle.outcome.specs.Touch.{untouched, Question, untouchedOn, HasOutcome}
-use Rattle.chain.specs.Link.{Link, touchLink, untouchedLink, Chain}
+use Rattle.chain.specs.Link.{touchLink, untouchedLink, Chain}
 use Rattle.chain.specs.Stands.{About, StandsFor}
 use Rattle.chain.specs.Depth.{deepest}
 

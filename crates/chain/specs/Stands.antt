@@ -6,8 +6,8 @@ use mathlib.Core.List.{List, [], _∷_, _++_}
 use lib.ListN.{length, getD, take, drop}
 use Rattle.image.specs.Library.{Library, Alternative, Entry, step, call}
 use Rattle.outcome.specs.Run.{Item, Gives, alternativesOf, alternativeOf}
-use Rattle.outcome.specs.Touch.{Side, last, first, Mark, untouched, itemTouch, Question, HasOutcome, untouchedOn}
-use Rattle.chain.specs.Link.{Link, touchLink, untouchedLink, Chain, sequenceOf}
+use Rattle.outcome.specs.Touch.{Side, last, first, untouched, itemTouch, Question, HasOutcome, untouchedOn}
+use Rattle.chain.specs.Link.{touchLink, untouchedLink, Chain, sequenceOf}
 
 -- "A chain stands for runs of its first link's sequence"; "The first link of an answer is about the sequence asked about."
 abbrev pub About : ℕ → Chain → Type 0
