@@ -109,23 +109,22 @@ module _ (L : Library) (q : Question) (f : ℕ) (touch : q .mark ≢ untouched) 
       let es = entriesOf L c in
       let low : after L q f (unranked L) T (es j) r ≤ k =
       rw count at (choices-rank L q f (unranked L) T (length ms) ms (links-least L q f (unranked L) touch T closed ms) (es j) r w s) in
-      let l = look-le L q f (unranked L) T (es j) r (s .listed) in
-      (
+      let l = look-le L q f (unranked L) T (es j) r (s .listed) in (
         refl,
         ⊎-elim
-        (λ (same : i ≡ j). inr (
-          same,
-          ⊎-elim
-          (λ (at : p ≡ r). inr (
-            at,
-            entry-lowest k ms (s .given) rest (entryAt (es i) p) (chosen-rank L q f (unranked L) touch T reached closed c k i p e lt ch)
-            (rw (at, same) (s .touching)),
-          ))
-          inl
-          (eq-or-lt-of-le (ch .first r (rw same (s .listed)) (rw same low))),
-        ))
-        inl
-        (eq-or-lt-of-le (ch .alternative .lowest j listed (omega arith))),
+            (λ (same : i ≡ j). inr (
+              same,
+              ⊎-elim
+                  (λ (at : p ≡ r). inr (
+                    at,
+                    entry-lowest k ms (s .given) rest (entryAt (es i) p) (chosen-rank L q f (unranked L) touch T reached closed c k i p e lt ch)
+                        (rw (at, same) (s .touching)),
+                  ))
+                  inl
+                  (eq-or-lt-of-le (ch .first r (rw same (s .listed)) (rw same low))),
+            ))
+            inl
+            (eq-or-lt-of-le (ch .alternative .lowest j listed (omega arith))),
       )
 
   pub links-lowest : (k c : ℕ) → T c ≡ k → k < unranked L → (ms : Chain) (w : List Item) → About c ms → StandsFor L q f ms w → HasOutcome L q f w
@@ -277,16 +276,16 @@ module _ (L : Library) (s : Side) (f : ℕ) where
         back no-run =
             ⊎-elim
             (λ (lt, h). let r = reached c lt in
-              absurd (no-run (r .run) (r .derivation) (passes-untouched s (itemTouch L s f) (r .run) .0 (r .passes))))
+            absurd (no-run (r .run) (r .derivation) (passes-untouched s (itemTouch L s f) (r .run) .0 (r .passes))))
             (λ (le, h). h) (untouched-cases c)
 
 -- what holds of the answers that ask for a touch and of those that ask for none
 module _ (L : Library) (c f : ℕ) (P : Question → Answer → Type 0)
     (touching : (q : Question) → q .mark ≢ untouched → (T : Ranks) → Reached (Linked L q f) (unranked L) T
-      → Closed (L .sequences) (touchLook L q f) T → ((d : ℕ) → T d ≤ unranked L) → P q (touchAnswer L q f T c))
+    → Closed (L .sequences) (touchLook L q f) T → ((d : ℕ) → T d ≤ unranked L) → P q (touchAnswer L q f T c))
     (leaving : (s : Side) (T : Ranks) → Reached (Passing (L .sequences) (leaves L s f)) (unranked L) T
-      → Closed (L .sequences) (untouchedLook L (quiet L s f) f) T → ((d : ℕ) → T d ≤ unranked L)
-      → P (quiet L s f) (untouchedAnswer L (quiet L s f) f T c)) where
+    → Closed (L .sequences) (untouchedLook L (quiet L s f) f) T → ((d : ℕ) → T d ≤ unranked L)
+    → P (quiet L s f) (untouchedAnswer L (quiet L s f) f T c)) where
   by-touch : (q : Question) → q .mark ≢ untouched → P q (touchShown L q c f (ranks (L .sequences) (touchLook L q f) (unranked L)))
   unfolding touchShown
   by-touch q touch =
@@ -336,12 +335,12 @@ pub touch-table : (L : Library) (q : Question) (f : ℕ) → q .mark ≢ untouch
 touch-table L q f touch T reached closed capped c =
     by-answer L c f
     (λ r a. r .mark ≢ untouched → (T : Ranks) → Reached (Linked L r f) (unranked L) T → Closed (L .sequences) (touchLook L r f) T
-      → ((d : ℕ) → T d ≤ unranked L) → touchAnswer L r f T c ≡ a)
+    → ((d : ℕ) → T d ≤ unranked L) → touchAnswer L r f T c ≡ a)
     (λ r t U reached′ closed′ capped′ t′ T reached closed capped. ap (λ (W : Ranks). touchAnswer L r f W c) (fun-ext (λ d.
-      let low = ranks-least (Linked L r f) (unranked L) T U (links-below L r f (unranked L) t T closed) capped reached′ d in
-      let up = ranks-least (Linked L r f) (unranked L) U T (links-below L r f (unranked L) t U closed′) capped′ reached d in
-      let same : T d ≡ U d = omega arith in
-      same)))
+    let low = ranks-least (Linked L r f) (unranked L) T U (links-below L r f (unranked L) t T closed) capped reached′ d in
+    let up = ranks-least (Linked L r f) (unranked L) U T (links-below L r f (unranked L) t U closed′) capped′ reached d in
+    let same : T d ≡ U d = omega arith in
+    same)))
     (λ s U reached′ closed′ capped′ t′. absurd (t′ refl))
     q touch T reached closed capped
 
@@ -351,12 +350,12 @@ pub untouched-table : (L : Library) (q : Question) (f : ℕ) → q .mark ≡ unt
 untouched-table L q f leaving T reached closed capped c =
     by-answer L c f
     (λ r a. r .mark ≡ untouched → (T : Ranks) → Reached (Passing (L .sequences) (hasMark L r f)) (unranked L) T
-      → Closed (L .sequences) (untouchedLook L r f) T → ((d : ℕ) → T d ≤ unranked L) → untouchedAnswer L r f T c ≡ a)
+    → Closed (L .sequences) (untouchedLook L r f) T → ((d : ℕ) → T d ≤ unranked L) → untouchedAnswer L r f T c ≡ a)
     (λ r t U reached′ closed′ capped′ t′. absurd (t t′))
     (λ s U reached′ closed′ capped′ t′ T reached closed capped. ap (λ (W : Ranks). untouchedAnswer L (quiet L s f) f W c) (fun-ext (λ d.
-      let P = Passing (L .sequences) (leaves L s f) in
-      let low = ranks-least P (unranked L) T U (depth-below (L .sequences) (unranked L) (leaves L s f) T closed) capped reached′ d in
-      let up = ranks-least P (unranked L) U T (depth-below (L .sequences) (unranked L) (leaves L s f) U closed′) capped′ reached d in
-      let same : T d ≡ U d = omega arith in
-      same)))
+    let P = Passing (L .sequences) (leaves L s f) in
+    let low = ranks-least P (unranked L) T U (depth-below (L .sequences) (unranked L) (leaves L s f) T closed) capped reached′ d in
+    let up = ranks-least P (unranked L) U T (depth-below (L .sequences) (unranked L) (leaves L s f) U closed′) capped′ reached d in
+    let same : T d ≡ U d = omega arith in
+    same)))
     q leaving T reached closed capped

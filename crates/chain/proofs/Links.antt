@@ -152,8 +152,7 @@ module _ (L : Library) (q : Question) (f none : ℕ) where
         → every (aheadOf L q f (q .side)) (take p (entriesOf L c i)) ≡ true → every (behindOf L q f (q .side)) (drop (suc p) (entriesOf L c i)) ≡ true
         → (ls : Chain) (g : List Item) → Touching L q f ls (entryAt (entriesOf L c i) p) g → (w : List Item) × StandsFor L q f (touchLink c i p ∷ ls) w
     linked c i p lt at a b ls g touching =
-        let r = beside-given L q f (q .side) (take p (entriesOf L c i)) (drop (suc p) (entriesOf L c i)) a b in
-        (
+        let r = beside-given L q f (q .side) (take p (entriesOf L c i)) (drop (suc p) (entriesOf L c i)) a b in (
           r .0 ++ (g ++ r .1),
           (
             lt,

@@ -54,8 +54,7 @@ module _ (S : List Sequence) (test : Item → Bool) (run : ℕ → Bool)
   passes-given (call d ∷ es) h =
       let p = and-parts (run d) (every (entryPasses test run) es) h in
       let r = passes-given es (p .1) in
-      let o = right d .0 (p .0) in
-      (
+      let o = right d .0 (p .0) in (
         o .0 ++ r .0,
         by-call (o .1 .alternative) (o .1 .listed) (o .1 .given) (r .1) refl,
         passes-append test (o .0) (r .0) (o .2) (r .2),

@@ -121,7 +121,7 @@ module _ (S : List Sequence) (look : Look) where
     rounds-capped (suc n) T le =
         ⊎-elim
         (λ (s, fewer). rw s (rounds-capped n (round S look none T)
-          (unfold round in list-capped (lowered S look (inList T)) (λ d. let h = lowered-le (inList T) d in let h′ = le d in omega arith) (length S))))
+        (unfold round in list-capped (lowered S look (inList T)) (λ d. let h = lowered-le (inList T) d in let h′ = le d in omega arith) (length S))))
         (λ (s, same). rw s le) (rounds-step n T)
 
     pub ranks-capped : (c : ℕ) → inList (ranks S look none) c ≤ none
@@ -164,7 +164,7 @@ module _ (S : List Sequence) (look : Look) where
     -- what one look at an alternative preserves holds of every rank
     module _ (P : ℕ → ℕ → Type 0)
         (keeps : (T : Ranks) → Reached P none T → (c i : ℕ) → i < length (alternativesOf S c) → suc (look T (alternativeOf S c i)) < none
-          → P c (suc (look T (alternativeOf S c i)))) where
+        → P c (suc (look T (alternativeOf S c i)))) where
       lowered-reached : (T : Ranks) → Reached P none T → Reached P none (lowered S look T)
       unfolding lowered
       lowered-reached T reached c lt =

@@ -10,17 +10,13 @@ use native.Mathlib.Nat.{eq-or-lt-of-le, le-of-suc-le-suc, suc-mul}
 use lib.ListN.{length, getD}
 use lib.Dec.{leb}
 use borrow.Author.Tests.{leb-true, le-leb, lt-leb, leb-false}
-use Rattle.outcome.proofs.Tests.{and-both, passes-or-not}
+use Rattle.outcome.proofs.Tests.{passes-or-not}
 use Rattle.chain.specs.Scan.{every, leastBelow, greatest, firstIndex, listBelow, total}
 
 pub every-append : {A : Type 0} (p : A → Bool) (xs ys : List A) → every p (xs ++ ys) ≡ (every p xs && every p ys)
 unfolding every
 every-append p [] ys = refl
 every-append p (x ∷ xs) ys = ap (λ b. p x && b) (every-append p xs ys) ∙ sym (and-assoc (p x) (every p xs) (every p ys))
-
-pub every-cons : {A : Type 0} (p : A → Bool) (x : A) (xs : List A) → p x ≡ true → every p xs ≡ true → every p (x ∷ xs) ≡ true
-unfolding every
-every-cons p x xs h hs = and-both (p x) (every p xs) h hs
 
 -- the least value is at most each, and is one of them
 pub least-start : (v : ℕ → ℕ) (r n : ℕ) → leastBelow v r n ≤ r
@@ -68,7 +64,7 @@ first-found p (suc n) i lt h = go (p 0) refl i lt h (first-found (λ j. p (suc j
   where
     go : (b : Bool) → p 0 ≡ b → (j : ℕ) → j < suc n → p j ≡ true
         → ((j : ℕ) → j < n → p (suc j) ≡ true
-          → (firstIndex (λ j. p (suc j)) n ≤ j) × (p (suc (firstIndex (λ j. p (suc j)) n)) ≡ true))
+        → (firstIndex (λ j. p (suc j)) n ≤ j) × (p (suc (firstIndex (λ j. p (suc j)) n)) ≡ true))
         → (cond b 0 (suc (firstIndex (λ j. p (suc j)) n)) ≤ j) × (p (cond b 0 (suc (firstIndex (λ j. p (suc j)) n))) ≡ true)
     go true e j l g rest = (omega arith, e)
     go false e zero l g rest = absurd (false≢true (sym e ∙ g))
@@ -164,7 +160,7 @@ count-more p q more (suc n) d lt no-p is-q =
     let h1 = one-le (p n) (q n) (more n) in
     ⊎-elim
     (λ (e : d ≡ n). let z : one (p n) ≡ 0 = ap one (rw e at no-p) in let o : one (q n) ≡ 1 = ap one (rw e at is-q) in
-      let h = count-le p q more n in omega arith)
+    let h = count-le p q more n in omega arith)
     (λ l. let h = count-more p q more n d l no-p is-q in omega arith)
     (eq-or-lt-of-le (le-of-suc-le-suc lt))
 

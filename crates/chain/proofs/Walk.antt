@@ -163,8 +163,8 @@ module _ (none : ℕ) (test : Item → Bool) (ahead behind : Entry → Bool) (T 
         let same =
         first-same (λ p. leb (cond ok (value (e ∷ es) (suc p)) none) k) (λ p. leb (cond (ok && ahead e) (value es p) none) k) (length es)
         (λ p l. ap (λ x. leb x k)
-          (ap (λ x. cond ok x none) (cond-and (ahead e) (every ahead (take p es)) (every behind (drop (suc p) es)) (rank (entryAt es p)) none)
-          ∙ cond-cond ok (ahead e) (value es p) none)) in
+        (ap (λ x. cond ok x none) (cond-and (ahead e) (every ahead (take p es)) (every behind (drop (suc p) es)) (rank (entryAt es p)) none)
+        ∙ cond-cond ok (ahead e) (value es p) none)) in
         let here = leb-cond ok (every behind es) (rank e) k none low in
         rw (here, same, rest) (cond-index ((ok && every behind es) && leb (rank e) k) i (firstIndex (λ p. leb (cond (ok && ahead e) (value es p) none) k) (length es)))
 
@@ -194,8 +194,8 @@ module _ (none : ℕ) (test : Item → Bool) (ahead behind : Entry → Bool) (T 
             let le = leb-true (leastBelow (value es) none (length es)) k e in
             ⊎-elim (λ h. absurd (omega arith))
             (λ (p, lt, h).
-              let found = first-found passes (length es) p lt (le-leb (value es p) k (omega arith)) .0 in
-              lt-ltb (firstIndex passes (length es)) (length es) (omega arith))
+            let found = first-found passes (length es) p lt (le-leb (value es p) k (omega arith)) .0 in
+            lt-ltb (firstIndex passes (length es)) (length es) (omega arith))
             (least-cases (value es) none (length es))
 
     -- the link that is chosen, by nested scans over alternatives and entries
