@@ -5,6 +5,7 @@ pub mod Passes
 pub mod Stands
 pub mod Links
 pub mod Answer
+pub mod Unique
 pub mod Words
 pub mod Call
 pub mod Walk

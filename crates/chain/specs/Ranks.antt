@@ -72,7 +72,7 @@ unfoldable pub depthLook : ℕ → (Item → Bool) → Look
 unfolding greatest
 depthLook none test T es = greatest (entryRank none test T) es
 
--- The number of links after this one, for position p of an alternative: none for a step with the touch, the sequence's for a call;
+-- the number of links after this one, for position p of an alternative: 0 for a step with the touch and the sequence's rank for a call,
 -- where the entries before the position and those after it pass their tests
 abbrev pub candidate : ℕ → (Item → Bool) → (Entry → Bool) → (Entry → Bool) → Ranks → Alternative → ℕ → ℕ
 candidate none test ahead behind T es p =

@@ -35,6 +35,7 @@ entryAt es p = getD es p (step 0)
 -- after it give, in order. "The remaining entries give any run of theirs."
 pub record Choices (L : Library) (q : Question) (f : ℕ) (es : Alternative) (p : ℕ) (touches : Entry → List Item → Type 0) (w : List Item)
     : Type 0 where
+  -- a touch is asked for
   pub touch : q .mark ≢ untouched
   pub listed : p < length es
   pub before : List Item
@@ -42,8 +43,10 @@ pub record Choices (L : Library) (q : Question) (f : ℕ) (es : Alternative) (p 
   pub after : List Item
   pub split : w ≡ before ++ (given ++ after)
   pub earlier : Gives (L .sequences) (take p es) before
+  -- "the entry at the position gives the touch asked for"
   pub touching : touches (entryAt es p) given
   pub later : Gives (L .sequences) (drop (suc p) es) after
+  -- "on the last side, what every later entry gives leaves the fact untouched, on the first side what every earlier one gives"
   pub quiet : HasOutcome L (untouchedOn q) f (quietPart (q .side) before after)
 
 -- "A kind 12 link stands for the runs that its alternative gives and that leave the fact untouched on the question's side. A kind 11
