@@ -29,8 +29,8 @@ use Rattle.chain.proofs.Ranks.{alternative-below, Lowest, alternative-l
 use Rattle.chain.proofs.Depth.{step-passes, step-rank, Given, given-more, depth-least, depth-given, depth-reached, depth-exact, depth-below, run-ranked}
 use Rattle.chain.proofs.Passes.{passes-untouched}
 use Rattle.chain.proofs.Stands.{stands-run, stands-outcome, run-chain}
-use Rattle.chain.proofs.Links.{entriesOf, Touching, after, position-low, linked, links-least, links-reached, chosenAt, positionAt, chosen, chosen-rank, links-bound, chain-ranked, links-below}
-use Rattle.chain.proofs.Links.{choices-rank, look-le}
+use Rattle.chain.proofs.Links.{entriesOf, Touching, after, look-le, choices-rank, links-least, links-below, chosenAt, positionAt}
+use Rattle.chain.proofs.Links.{linked, position-low, links-reached, chosen, chosen-rank, links-bound, chain-ranked}
 
 -- a chain about a sequence has a link
 about-one : (ls : Chain) (c : ℕ) → About c ls → 1 ≤ length ls
@@ -73,7 +73,9 @@ module _ (L : Library) (q : Question) (f : ℕ) (touch : q .mark ≢ untouched) 
       let entry =
       entry-stands k (omega arith) (λ d e′. links-stand k d e′ (omega arith)) (entryAt (entriesOf L c i) p)
       (chosen-rank L q f (unranked L) touch T reached closed c k i p e lt ch) in
-      let s = linked L q f (unranked L) touch c i p (ch .alternative .listed) (ch .inside) (beside .0) (beside .1) (followed (entryAt (entriesOf L c i) p) (next k)) (entry .1 .0) (entry .1 .1) in
+      let s =
+      linked L q f (unranked L) touch c i p (ch .alternative .listed) (ch .inside) (beside .0) (beside .1)
+      (followed (entryAt (entriesOf L c i) p) (next k)) (entry .1 .0) (entry .1 .1) in
       record {
         about = refl;
         count = ap suc (entry .0);

@@ -2,12 +2,27 @@
 use Prim.Native.Nat.{ℕ, _*_, _^_}
 use mathlib.Core.Path.{_≡_, refl}
 use mathlib.Core.List.{List, [], _∷_}
-use Rattle.image.specs.Library.{has}
+use lib.ListN.{length}
+use Rattle.image.specs.Library.{has, call}
 use Rattle.image.specs.Rules.{opened, lastOf}
 use Rattle.image.specs.Word.{total}
+use Rattle.outcome.specs.Touch.{lastSet, lastCleared, lastUntouched}
 use Rattle.outcome.specs.Possible.{possible}
+use Rattle.outcome.proofs.Sample.{libraryL}
+use Rattle.chain.specs.Link.{touchLink, untouchedLink}
+use Rattle.chain.specs.Answer.{none, shown, answer}
 use Rattle.chain.specs.Call.{Reply, chained, areaAfter, replyNumber}
-use lib.ListN.{length}
+
+-- the questions of the starred samples, over library L itself
+answers-L : answer libraryL lastUntouched 1 0 ∷ answer libraryL lastSet 1 0 ∷ answer libraryL lastCleared 1 1 ∷ answer libraryL lastUntouched 2 0 ∷ []
+    ≡ shown (untouchedLink 1 0 ∷ []) ∷ shown (touchLink 1 0 0 ∷ touchLink 0 0 0 ∷ []) ∷ none ∷ none ∷ []
+unfolding answer possible has
+answers-L = refl
+
+-- "Alternatives <itself> and <>"
+answer-itself : answer (record { facts = 1; steps = []; sequences = ((call 0 ∷ []) ∷ [] ∷ []) ∷ [] }) lastUntouched 0 0 ≡ shown (untouchedLink 0 1 ∷ [])
+unfolding answer possible has
+answer-itself = refl
 
 -- "Library L, 20 words in hexadecimal, F = A = C = 3"
 abbrev L : List ℕ

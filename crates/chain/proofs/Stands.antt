@@ -131,7 +131,9 @@ module _ (L : Library) (q : Question) (f : ℕ) where
         (λ (there, quiet). let r = found g there in record {
           position = suc (r .position);
           links = r .links;
-          choices = choices-after (step a) es (r .position) (EntryTouches L q f (r .links) (λ u. StandsFor L q f (r .links) u)) (a ∷ []) w (by-step nothing) quiet (r .choices);
+          choices =
+              choices-after (step a) es (r .position) (EntryTouches L q f (r .links) (λ u. StandsFor L q f (r .links) u)) (a ∷ []) w
+              (by-step nothing) quiet (r .choices);
         })
         (touch-cases (q .side) (itemTouch L (q .side) f) (q .mark) (a ∷ []) w h)
     found (by-call {c = c} {es = es} {u = u} {v = v} i lt g g′ e) h =
@@ -155,7 +157,10 @@ module _ (L : Library) (q : Question) (f : ℕ) where
         (λ (there, quiet). let r = found g′ there in record {
           position = suc (r .position);
           links = r .links;
-          choices = rw e (choices-after (call c) es (r .position) (EntryTouches L q f (r .links) (λ u. StandsFor L q f (r .links) u)) u v (call-iff (L .sequences) c u .1 (record { alternative = i; listed = lt; given = g })) quiet (r .choices));
+          choices =
+              rw e
+              (choices-after (call c) es (r .position) (EntryTouches L q f (r .links) (λ u. StandsFor L q f (r .links) u)) u v
+              (call-iff (L .sequences) c u .1 (record { alternative = i; listed = lt; given = g })) quiet (r .choices));
         })
         (touch-cases (q .side) (itemTouch L (q .side) f) (q .mark) u v (rw e at h))
 
