@@ -1,13 +1,13 @@
 -- Ranks by rounds: the table that the rounds end in is closed, and whatever one look at an alternative preserves holds of every rank.
 -- Both halves are about any look; what is said of one alternative serves a table that is lowered in place as well.
 use Prim.Native.Nat.{ℕ, zero, suc, _+_, _*_, _≤_, _<_}
-use mathlib.Core.Path.{_≡_, sym, ap, subst}
+use mathlib.Core.Path.{_≡_, refl, sym, ap, subst}
 use mathlib.Core.Logic.{_⊎_, inl, inr, ⊎-elim}
 use mathlib.Core.Bool.{true, false}
 use mathlib.Core.List.{List, [], _∷_}
 use native.Mathlib.Omega.{arith}
 use native.Mathlib.Decide.{decLt, ℕ-discrete}
-use lib.ListN.{length, getD, set, List·getD-eq-default}
+use lib.ListN.{length, getD, set, replicate, List·getD-eq-default}
 use lib.Seq.{getD-set-same, getD-set-other}
 use lib.Dec.{leb, ltb}
 use borrow.Author.Tests.{leb-true, le-leb, ltb-true, ltb-false}
@@ -128,14 +128,19 @@ module _ (S : List Sequence) (look : Look) where
     unfolding ranks
     ranks-capped = rounds-capped (length S * none) (listBelow (λ c. none) (length S)) (list-capped (λ c. none) (λ c. omega arith) (length S))
 
+    -- a table without a rank, of any length
+    pub start-unranked : (n c : ℕ) → inList (replicate n none) c ≡ none
+    start-unranked zero c = refl
+    start-unranked (suc n) zero = refl
+    start-unranked (suc n) (suc c) = start-unranked n c
+
     -- A visit lowers the rank of one sequence in place. Visits in any order keep what is reached, lower the sum where they lower a rank,
     -- and a table that no visit lowers is closed.
     abbrev pub visited : List ℕ → ℕ → List ℕ
     visited T c = set T c (lowered S look (inList T) c)
 
-    pub visits-closed : (T : List ℕ) → length T ≡ length S → ((c : ℕ) → c < length S → inList T c ≤ lowered S look (inList T) c)
-        → Closed S look (inList T)
-    visits-closed T e same c i lt =
+    pub visits-closed : (T : List ℕ) → ((c : ℕ) → c < length S → inList T c ≤ lowered S look (inList T) c) → Closed S look (inList T)
+    visits-closed T same c i lt =
         let h = same c (alternative-below S c i lt) in
         let h′ = lowered-look (inList T) c i lt in
         omega arith
@@ -171,6 +176,9 @@ module _ (S : List Sequence) (look : Look) where
           ⊎-elim (λ e. subst (P c) (sym e) (reached c (omega arith)))
           (λ (i, l, e). subst (P c) (sym e) (keeps T reached c i l (omega arith)))
           (least-cases (λ i. suc (look T (alternativeOf S c i))) (T c) (length (alternativesOf S c)))
+
+      pub start-reached : (n : ℕ) → Reached P none (inList (replicate n none))
+      start-reached n c lt = let e = start-unranked n c in absurd (omega arith)
 
       pub visited-reached : (T : List ℕ) (c : ℕ) → c < length T → Reached P none (inList T) → Reached P none (inList (visited T c))
       visited-reached T c below reached d = go (ℕ-discrete d c)

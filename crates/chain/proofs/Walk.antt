@@ -17,7 +17,7 @@ use Rattle.chain.specs.Scan.{every, leastBelow, greatest, firstIndex}
 use Rattle.chain.specs.Stands.{entryAt}
 use Rattle.chain.specs.Ranks.{Ranks, Look, lowered, entryRank, depthLook, candidate, linkLook}
 use Rattle.chain.specs.Answer.{chosenAlternative, chosenPosition}
-use Rattle.chain.specs.Walk.{loweredFrom, depthFrom, fewestFrom, positionFrom, linkFrom, tailFrom}
+use Rattle.chain.specs.Walk.{loweredFrom, alternativeFrom, depthFrom, fewestFrom, positionFrom, linkFrom, tailFrom}
 use Rattle.chain.specs.Link.{touchLink}
 use Rattle.chain.proofs.Scan.{least-start, least-le, least-cases, first-found, first-passes, first-same}
 
@@ -50,6 +50,25 @@ from-least value r (es ∷ alts) =
 pub lowered-from : (S : List Sequence) (look : Look) (T : Ranks) (c : ℕ) → lowered S look T c ≡ loweredFrom (look T) (T c) (alternativesOf S c)
 unfolding lowered
 lowered-from S look T c = sym (from-least (look T) (T c) (alternativesOf S c))
+
+-- an index counted from i on
+cond-index : (b : Bool) (i n : ℕ) → cond b i (suc i + n) ≡ i + cond b 0 (suc n)
+cond-index true i n = omega arith
+cond-index false i n = omega arith
+
+-- the alternative that is chosen, by a scan over the alternatives
+alternative-index : (value : Alternative → ℕ) (k i : ℕ) (alts : List Alternative)
+    → alternativeFrom value k i alts ≡ i + firstIndex (λ j. leb (value (getD alts j [])) k) (length alts)
+unfolding alternativeFrom firstIndex
+alternative-index value k i [] = omega arith
+alternative-index value k i (es ∷ alts) =
+    rw (alternative-index value k (suc i) alts)
+    (cond-index (leb (value es) k) i (firstIndex (λ j. leb (value (getD alts j [])) k) (length alts)))
+
+pub alternative-from : (S : List Sequence) (look : Look) (T : Ranks) (k c : ℕ)
+    → chosenAlternative S look T k c ≡ alternativeFrom (look T) k 0 (alternativesOf S c)
+unfolding chosenAlternative
+alternative-from S look T k c = let h = alternative-index (look T) k 0 (alternativesOf S c) in omega arith
 
 -- the greatest depth from left to right
 depth-max : (rank : Entry → ℕ) (d : ℕ) (es : List Entry) → depthFrom rank d es ≡ max d (greatest rank es)
@@ -102,11 +121,6 @@ leb-cond false b x k none lt = lt-leb none k lt
 cond-cond : (ok a : Bool) (x none : ℕ) → cond ok (cond a x none) none ≡ cond (ok && a) x none
 cond-cond true a x none = refl
 cond-cond false a x none = refl
-
--- an index counted from i on
-cond-index : (b : Bool) (i n : ℕ) → cond b i (suc i + n) ≡ i + cond b 0 (suc n)
-cond-index true i n = omega arith
-cond-index false i n = omega arith
 
 module _ (none : ℕ) (test : Item → Bool) (ahead behind : Entry → Bool) (T : Ranks) where
   abbrev value : List Entry → ℕ → ℕ

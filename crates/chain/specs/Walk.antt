@@ -13,6 +13,13 @@ unfoldable pub loweredFrom : (Alternative → ℕ) → ℕ → List Alternative 
 loweredFrom value r [] = r
 loweredFrom value r (es ∷ alts) = loweredFrom value (min r (suc (value es))) alts
 
+-- the first alternative from here on, of which the first is i, that comes to no more than k; otherwise the number of alternatives
+unfoldable pub alternativeFrom : (Alternative → ℕ) → ℕ → ℕ → List Alternative → ℕ
+alternativeFrom value k i [] = i
+alternativeFrom value k i (es ∷ alts) =
+    let later : ℕ = alternativeFrom value k (suc i) alts in
+    cond (leb (value es) k) i later
+
 -- the greatest depth d so far, and of the entries from here on
 unfoldable pub depthFrom : (Entry → ℕ) → ℕ → List Entry → ℕ
 depthFrom rank d [] = d
