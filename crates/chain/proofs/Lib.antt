@@ -6,6 +6,7 @@ pub mod Stands
 pub mod Links
 pub mod Answer
 pub mod Unique
+pub mod Visits
 pub mod Words
 pub mod Call
 pub mod Walk

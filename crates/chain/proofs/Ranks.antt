@@ -17,6 +17,7 @@ use Rattle.outcome.proofs.Tests.{passes-or-not}
 use Rattle.chain.specs.Scan.{listBelow, total}
 use Rattle.chain.specs.Ranks.{Ranks, Look, lowered, Closed, round, rounds, ranks, Reached}
 use Rattle.chain.specs.Answer.{chosenAlternative}
+use Rattle.chain.specs.Visits.{visited}
 use Rattle.chain.proofs.Scan.{first-found, least-start, least-le, least-cases, length-listBelow, getD-listBelow, total-constant, total-same}
 
 -- only the number of a sequence has an alternative
@@ -134,11 +135,7 @@ module _ (S : List Sequence) (look : Look) where
     start-unranked (suc n) zero = refl
     start-unranked (suc n) (suc c) = start-unranked n c
 
-    -- A visit lowers the rank of one sequence in place. Visits in any order keep what is reached, lower the sum where they lower a rank,
-    -- and a table that no visit lowers is closed.
-    abbrev pub visited : List ℕ → ℕ → List ℕ
-    visited T c = set T c (lowered S look (inList T) c)
-
+    -- A visit keeps what is reached, and lowers the sum where it lowers a rank; a table that no visit lowers is closed.
     pub visits-closed : (T : List ℕ) → ((c : ℕ) → c < length S → inList T c ≤ lowered S look (inList T) c) → Closed S look (inList T)
     visits-closed T same c i lt =
         let h = same c (alternative-below S c i lt) in
@@ -152,16 +149,16 @@ module _ (S : List Sequence) (look : Look) where
     set-total (x ∷ T) (suc c) v lt = let h = set-total T c v (omega arith) in omega arith
 
     pub visited-total : (T : List ℕ) (c : ℕ) → c < length T
-        → (total (visited T c) ≤ total T) × (lowered S look (inList T) c < inList T c → total (visited T c) < total T)
+        → (total (visited S look none T c) ≤ total T) × (lowered S look (inList T) c < inList T c → total (visited S look none T c) < total T)
     visited-total T c lt =
         let h = set-total T c (lowered S look (inList T) c) lt in
         let le = lowered-le (inList T) c in
         (omega arith, λ fewer. omega arith)
 
-    pub visited-capped : (T : List ℕ) (c : ℕ) → c < length T → ((d : ℕ) → inList T d ≤ none) → (d : ℕ) → inList (visited T c) d ≤ none
+    pub visited-capped : (T : List ℕ) (c : ℕ) → c < length T → ((d : ℕ) → inList T d ≤ none) → (d : ℕ) → inList (visited S look none T c) d ≤ none
     visited-capped T c lt le d = go (ℕ-discrete d c)
       where
-        go : Dec (d ≡ c) → inList (visited T c) d ≤ none
+        go : Dec (d ≡ c) → inList (visited S look none T c) d ≤ none
         go (yes e) =
             rw (e, getD-set-same T c (lowered S look (inList T) c) none lt) (let h = lowered-le (inList T) c in let h′ = le c in omega arith)
         go (no e) = rw (getD-set-other T c d (lowered S look (inList T) c) none e) (le d)
@@ -180,10 +177,10 @@ module _ (S : List Sequence) (look : Look) where
       pub start-reached : (n : ℕ) → Reached P none (inList (replicate n none))
       start-reached n c lt = let e = start-unranked n c in absurd (omega arith)
 
-      pub visited-reached : (T : List ℕ) (c : ℕ) → c < length T → Reached P none (inList T) → Reached P none (inList (visited T c))
+      pub visited-reached : (T : List ℕ) (c : ℕ) → c < length T → Reached P none (inList T) → Reached P none (inList (visited S look none T c))
       visited-reached T c below reached d = go (ℕ-discrete d c)
         where
-          go : Dec (d ≡ c) → inList (visited T c) d < none → P d (inList (visited T c) d)
+          go : Dec (d ≡ c) → inList (visited S look none T c) d < none → P d (inList (visited S look none T c) d)
           go (yes e) =
               rw (e, getD-set-same T c (lowered S look (inList T) c) none below) (lowered-reached (inList T) reached c)
           go (no e) = rw (getD-set-other T c d (lowered S look (inList T) c) none e) (reached d)

@@ -7,3 +7,4 @@ pub mod Answer
 pub mod Shows
 pub mod Call
 pub mod Walk
+pub mod Visits
