@@ -1,0 +1,13 @@
+pub mod Scan
+pub mod Ranks
+pub mod Depth
+pub mod Passes
+pub mod Stands
+pub mod Links
+pub mod Answer
+pub mod Unique
+pub mod Visits
+pub mod Words
+pub mod Call
+pub mod Walk
+pub mod Sample

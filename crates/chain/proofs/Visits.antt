@@ -1,0 +1,79 @@
+-- Ranks lowered in place until no visit changes the table give the answer.
+use Prim.Native.Nat.{ℕ, suc, _≤_, _<_}
+use mathlib.Core.Path.{_≡_, refl, _∙_, ap}
+use mathlib.Core.Logic.{_≢_}
+use mathlib.Core.List.{List}
+use native.Mathlib.Omega.{arith}
+use lib.ListN.{length, getD, replicate, length-set, length-replicate}
+use lib.Seq.{getD-set-same}
+use Rattle.image.specs.Library.{Library, Sequence}
+use Rattle.outcome.specs.Run.{alternativesOf, alternativeOf}
+use Rattle.outcome.specs.Touch.{untouched, Question}
+use Rattle.chain.specs.Ranks.{Ranks, Look, lowered, Closed, Reached, Linked, Passing, unranked, hasMark, untouchedLook, touchLook}
+use Rattle.chain.specs.Answer.{touchAnswer, untouchedAnswer, ranksIn, answer}
+use Rattle.chain.specs.Visits.{Visits, here, next, Settled}
+use Rattle.chain.proofs.Ranks.{start-unranked, start-reached, visits-closed, visited-capped, visited-reached}
+use Rattle.chain.proofs.Depth.{depth-reached}
+use Rattle.chain.proofs.Links.{links-reached}
+use Rattle.chain.proofs.Answer.{touch-table, untouched-table}
+
+module _ (S : List Sequence) (look : Look) (none : ℕ) where
+  pub visits-length : {before T : List ℕ} → Visits S look none before T → length T ≡ length before
+  visits-length here = refl
+  visits-length (next {T = T} c lt v) = length-set T c (lowered S look (λ d. getD T d none) c) ∙ visits-length v
+
+  -- no visit changes the table: no look lowers a rank
+  settled-closed : (T : List ℕ) → length S ≤ length T → Settled S look none T → Closed S look (λ d. getD T d none)
+  settled-closed T long settled =
+      visits-closed S look none T
+      (λ c lt.
+      let same = ap (λ (U : List ℕ). getD U c none) (settled c lt) in
+      let set-same = getD-set-same T c (lowered S look (λ d. getD T d none) c) none (omega arith) in
+      omega arith)
+
+  module _ (before : List ℕ) (long : length S ≤ length before) where
+    visits-capped : ((c : ℕ) → getD before c none ≤ none) → {T : List ℕ} → Visits S look none before T → (c : ℕ) → getD T c none ≤ none
+    visits-capped start here = start
+    visits-capped start (next {T = T} c lt v) =
+        let e = visits-length v in
+        visited-capped S look none T c (omega arith) (visits-capped start v)
+
+    visits-reached : (P : ℕ → ℕ → Type 0)
+        → ((T : Ranks) → Reached P none T → (c i : ℕ) → i < length (alternativesOf S c) → suc (look T (alternativeOf S c i)) < none
+        → P c (suc (look T (alternativeOf S c i))))
+        → Reached P none (λ d. getD before d none) → {T : List ℕ} → Visits S look none before T → Reached P none (λ d. getD T d none)
+    visits-reached P keeps start here = start
+    visits-reached P keeps start (next {T = T} c lt v) =
+        let e = visits-length v in
+        visited-reached S look none P keeps T c (omega arith) (visits-reached P keeps start v)
+
+-- from a table of n words without a rank, for a question that asks for a touch
+pub settled-touch : (L : Library) (q : Question) (f n : ℕ) (T : List ℕ) → q .mark ≢ untouched → length (L .sequences) ≤ n
+    → Visits (L .sequences) (touchLook L q f) (unranked L) (replicate n (unranked L)) T → Settled (L .sequences) (touchLook L q f) (unranked L) T
+    → (c : ℕ) → touchAnswer L q f (ranksIn L T) c ≡ answer L q c f
+settled-touch L q f n T touch long visits settled =
+    let count = length-replicate n (unranked L) in
+    let same = visits-length (L .sequences) (touchLook L q f) (unranked L) visits in
+    let keeps = links-reached L q f (unranked L) touch in
+    touch-table L q f touch (ranksIn L T)
+    (visits-reached (L .sequences) (touchLook L q f) (unranked L) (replicate n (unranked L)) (omega arith) (Linked L q f) keeps
+    (start-reached (L .sequences) (touchLook L q f) (unranked L) (Linked L q f) keeps n) visits)
+    (settled-closed (L .sequences) (touchLook L q f) (unranked L) T (omega arith) settled)
+    (visits-capped (L .sequences) (touchLook L q f) (unranked L) (replicate n (unranked L)) (omega arith)
+    (λ c. let e = start-unranked (L .sequences) (touchLook L q f) (unranked L) n c in omega arith) visits)
+
+-- and for one that asks for none
+pub settled-untouched : (L : Library) (q : Question) (f n : ℕ) (T : List ℕ) → q .mark ≡ untouched → length (L .sequences) ≤ n
+    → Visits (L .sequences) (untouchedLook L q f) (unranked L) (replicate n (unranked L)) T
+    → Settled (L .sequences) (untouchedLook L q f) (unranked L) T → (c : ℕ) → untouchedAnswer L q f (ranksIn L T) c ≡ answer L q c f
+settled-untouched L q f n T leaves long visits settled =
+    let count = length-replicate n (unranked L) in
+    let same = visits-length (L .sequences) (untouchedLook L q f) (unranked L) visits in
+    let keeps = depth-reached (L .sequences) (unranked L) (hasMark L q f) in
+    let P = Passing (L .sequences) (hasMark L q f) in
+    untouched-table L q f leaves (ranksIn L T)
+    (visits-reached (L .sequences) (untouchedLook L q f) (unranked L) (replicate n (unranked L)) (omega arith) P keeps
+    (start-reached (L .sequences) (untouchedLook L q f) (unranked L) P keeps n) visits)
+    (settled-closed (L .sequences) (untouchedLook L q f) (unranked L) T (omega arith) settled)
+    (visits-capped (L .sequences) (untouchedLook L q f) (unranked L) (replicate n (unranked L)) (omega arith)
+    (λ c. let e = start-unranked (L .sequences) (untouchedLook L q f) (unranked L) n c in omega arith) visits)

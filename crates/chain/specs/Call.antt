@@ -1,0 +1,58 @@
+-- The chain call over every input: its answer, the words in the area after it, and the number that the C side gets (document 01,
+-- "Turned down, in checking order", "Chains").
+use Prim.Native.Nat.{ℕ}
+use mathlib.Core.Bool.{cond}
+use mathlib.Core.List.{List, _++_}
+use lib.ListN.{length, drop}
+use lib.Dec.{leb, ltb}
+use Rattle.image.specs.Answer.{refusalAnswer}
+use Rattle.image.specs.Checked.{checked}
+use Rattle.image.specs.Library.{Library, libraryOf}
+use Rattle.image.specs.declared.answer.Head.{Head}
+use Rattle.image.specs.declared.answer.Refusal.{Refusal}
+use Rattle.image.specs.declared.answer.Refusal.the-variants.{Sequence, Question, Fact, ChainArea}
+use Rattle.image.specs.declared.answer.Checked.{Checked}
+use Rattle.image.specs.declared.answer.Checked.the-variants.{Accepted, Refused}
+use Rattle.outcome.specs.Touch.{questionOf}
+use Rattle.chain.specs.Link.{chainWords}
+use Rattle.chain.specs.Answer.{Answer, none, shown, answer}
+
+-- what the chain call comes to: a refusal, or the answer to the question
+pub data Reply : Type 0 where
+  refused : Refusal → Reply
+  answered : Answer → Reply
+
+-- 12: "A chain exists but has more words than the chain area."
+abbrev pub inArea : ℕ → Answer → Reply
+inArea room none = answered none
+inArea room (shown ls) = cond (leb (length (chainWords ls)) room) (answered (shown ls)) (refused ChainArea)
+
+-- 9: "The sequence asked about is not below C." 10: "The question is above 5." 11: "The fact asked about is not below F."
+abbrev pub askedOf : Head → Library → ℕ → ℕ → ℕ → ℕ → Reply
+askedOf h L c q f room =
+    let reply : Reply = inArea room (answer L (questionOf q) c f) in
+    cond (ltb c (h .sequences)) (cond (leb q 5) (cond (ltb f (h .facts)) reply (refused Fact)) (refused Question)) (refused Sequence)
+
+-- "The check meets 1 to 7, .. the chain 1 to 7 and 9 to 12."
+abbrev pub afterCheck : Checked → List ℕ → ℕ → ℕ → ℕ → ℕ → Reply
+afterCheck (Refused r) image c q f room = refused r
+afterCheck (Accepted h) image c q f room = askedOf h (libraryOf image) c q f room
+
+-- the chain call on an image, a sequence, a question, a fact and an area of so many words
+unfoldable pub chained : List ℕ → ℕ → ℕ → ℕ → ℕ → Reply
+unfolding checked libraryOf answer chainWords
+chained image c q f room = afterCheck (checked image) image c q f room
+
+-- "the number of links with the words written"; "Words past the chain stay, and "none" writes nothing."; a refusal: "Nothing lent is
+-- changed."
+abbrev pub areaAfter : Reply → List ℕ → List ℕ
+areaAfter (refused r) area = area
+areaAfter (answered none) area = area
+areaAfter (answered (shown ls)) area = chainWords ls ++ drop (length (chainWords ls)) area
+
+-- "It gets one 64-bit number: N × 2^32 + P for refusal N at position P, otherwise .. the number of links from the chain, 0 there for
+-- "none"."
+abbrev pub replyNumber : Reply → ℕ
+replyNumber (refused r) = refusalAnswer r
+replyNumber (answered none) = 0
+replyNumber (answered (shown ls)) = length ls

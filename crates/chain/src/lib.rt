@@ -1,0 +1,1 @@
+// Chains: a way, link by link, to a run with the outcome asked for (document 01, "Chains").
