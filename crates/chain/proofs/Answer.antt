@@ -18,6 +18,7 @@ use Rattle.outcome.specs.Possible.{possibleOutcome}
 use Rattle.outcome.proofs.Tests.{passes-or-not}
 use Rattle.outcome.proofs.Outcome.{present≢untouched, absent≢untouched}
 use Rattle.outcome.proofs.Columns.{question-iff}
+use Rattle.outcome.proofs.Possible.{alternative-below}
 use Rattle.chain.specs.Link.{touchLink, untouchedLink, Chain}
 use Rattle.chain.specs.Stands.{About, entryAt, Choices, StandsFor}
 use Rattle.chain.specs.Depth.{deepest}
@@ -25,7 +26,7 @@ use Rattle.chain.specs.Ranks.{Ranks, Closed, Reached, Linked, Passing, u
 use Rattle.chain.specs.Answer.{Answer, none, shown, chosenAlternative, followed, linksFrom, touchAnswer, untouchedAnswer, ranksIn}
 use Rattle.chain.specs.Answer.{touchShown, untouchedShown, answerFor, answer}
 use Rattle.chain.specs.Shows.{NoHigher, LeastDepth, Shows}
-use Rattle.chain.proofs.Ranks.{alternative-below, Lowest, alternative-lowest, ranks-least, ranks-closed, ranks-capped, ranks-reached}
+use Rattle.chain.proofs.Ranks.{Lowest, alternative-lowest, ranks-least, ranks-closed, ranks-capped, ranks-reached}
 use Rattle.chain.proofs.Depth.{step-passes, step-rank, Given, given-more, depth-least, depth-given, depth-reached, depth-exact, depth-below, run-ranked}
 use Rattle.chain.proofs.Passes.{passes-untouched}
 use Rattle.chain.proofs.Stands.{stands-run, stands-outcome, run-chain}

@@ -11,11 +11,11 @@ use Rattle.image.specs.Library.{Sequence, Entry, step, call}
 use Rattle.outcome.specs.Tests.{and-parts}
 use Rattle.outcome.specs.Run.{Item, RunOf, Gives, nothing, by-step, by-call, alternativesOf, alternativeOf}
 use Rattle.outcome.proofs.Tests.{and-both}
+use Rattle.outcome.proofs.Possible.{alternative-below}
 use Rattle.chain.specs.Scan.{every}
 use Rattle.chain.specs.Depth.{deepest, depthOf}
 use Rattle.chain.specs.Ranks.{Ranks, Closed, Reached, entryRank, depthLook, Passing}
 use Rattle.chain.proofs.Scan.{every-append, greatest-reached, Gapless, gapless-bound}
-use Rattle.chain.proofs.Ranks.{alternative-below}
 
 -- the rank of a step that passes is 0, and below `none` only a step that passes has one
 pub step-rank : (none : ℕ) (b : Bool) → b ≡ true → cond b 0 none ≡ 0

@@ -16,13 +16,14 @@ use Rattle.outcome.specs.Run.{Item, alternativesOf, alternativeOf}
 use Rattle.outcome.specs.Touch.{untouched, itemTouch, Question, HasOutcome}
 use Rattle.outcome.specs.Algebra.{sameMark-refl, sameMark-eq}
 use Rattle.outcome.proofs.Tests.{and-both}
+use Rattle.outcome.proofs.Possible.{alternative-below}
 use Rattle.chain.specs.Scan.{every}
 use Rattle.chain.specs.Link.{touchLink, untouchedLink, Chain}
 use Rattle.chain.specs.Stands.{About, EntryTouches, entryAt, Choices, StandsFor}
 use Rattle.chain.specs.Ranks.{Ranks, Look, Closed, Reached, Linked, entryRank, candidate, linkLook, hasMark, aheadOf, behindOf}
 use Rattle.chain.specs.Answer.{chosenAlternative, chosenPosition}
 use Rattle.chain.proofs.Scan.{least-le, least-cases, first-found, Gapless, gapless-bound}
-use Rattle.chain.proofs.Ranks.{alternative-below, Lowest, alternative-lowest}
+use Rattle.chain.proofs.Ranks.{Lowest, alternative-lowest}
 use Rattle.chain.proofs.Depth.{step-rank, step-passes}
 use Rattle.chain.proofs.Passes.{beside-given, given-beside}
 use Rattle.chain.proofs.Stands.{stands-outcome}

@@ -13,22 +13,13 @@ use lib.Dec.{leb, ltb}
 use borrow.Author.Tests.{leb-true, le-leb, ltb-true, ltb-false}
 use Rattle.image.specs.Library.{Sequence}
 use Rattle.outcome.specs.Run.{alternativesOf, alternativeOf}
+use Rattle.outcome.proofs.Possible.{alternative-below}
 use Rattle.outcome.proofs.Tests.{passes-or-not}
 use Rattle.chain.specs.Scan.{listBelow, total}
 use Rattle.chain.specs.Ranks.{Ranks, Look, lowered, Closed, round, rounds, ranks, Reached}
 use Rattle.chain.specs.Answer.{chosenAlternative}
 use Rattle.chain.specs.Visits.{visited}
 use Rattle.chain.proofs.Scan.{first-found, least-start, least-le, least-cases, length-listBelow, getD-listBelow, total-constant, total-same}
-
--- only the number of a sequence has an alternative
-pub alternative-below : (S : List Sequence) (c i : ℕ) → i < length (alternativesOf S c) → c < length S
-alternative-below S c i lt = go (decLt c (length S))
-  where
-    go : Dec (c < length S) → c < length S
-    go (yes h) = h
-    go (no h) =
-        let e = ap length (List·getD-eq-default S [] {n = c} (omega arith)) in
-        absurd (omega arith)
 
 -- the alternative that is chosen comes to no more than k, and no lower one does
 pub record Lowest (S : List Sequence) (look : Look) (T : Ranks) (c k i : ℕ) : Type 0 where

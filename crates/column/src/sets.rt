@@ -1,7 +1,7 @@
-// Columns as sets of facts: union, intersection, difference, count, and whether a fact is in a column.
+// Columns as sets of facts: union, difference, count, and whether a fact is in a column.
 ghost use mathlib.Core.Path.{_≡_};
 ghost use Prim.Native.Nat.{_<_};
-ghost use lib.Bits.{bitAnd, bitOr};
+ghost use lib.Bits.{bitOr};
 ghost use lib.Count.{ones};
 ghost use Rattle.column.specs.Sets.{difference, inColumn};
 
@@ -10,13 +10,6 @@ pub fn union(a: u64, b: u64) -> u64
     ensures { λ r. ⌜ r ≡ bitOr a b ⌝ }
 {
     a | b
-}
-
-// The facts in both of two columns.
-pub fn intersection(a: u64, b: u64) -> u64
-    ensures { λ r. ⌜ r ≡ bitAnd a b ⌝ }
-{
-    a & b
 }
 
 // The facts of `a` that are not in `b`.

@@ -41,7 +41,7 @@ keys-listed ms (suc n) c {m} below at = go (λ lt. keys-listed ms n c lt at) (eq
     go rest (inr lt) = Memᴰ·append-right (map (key n) ms) (rest lt)
 
 -- only the number of a sequence has an alternative
-alternative-below : (S : List Sequence) (c i : ℕ) → i < length (alternativesOf S c) → c < length S
+pub alternative-below : (S : List Sequence) (c i : ℕ) → i < length (alternativesOf S c) → c < length S
 alternative-below S c i lt = go (decLt c (length S))
   where
     go : Dec (c < length S) → c < length S
