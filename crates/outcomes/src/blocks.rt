@@ -5,7 +5,6 @@ use crate::row;
 use crate::row::Tally;
 use crate::table;
 use crate::table::wide;
-ghost use mathlib.Core.Path.{_≡_};
 ghost use Prim.Native.Nat.{_<_, _≤_};
 ghost use lib.ListN.{length};
 
