@@ -4,10 +4,10 @@ pub mod Depth
 pub mod Passes
 pub mod Stands
 pub mod Links
-pub mod Answer
+pub mod Answers
 pub mod Unique
 pub mod Visits
 pub mod Words
-pub mod Call
+pub mod Calls
 pub mod Walk
 pub mod Sample

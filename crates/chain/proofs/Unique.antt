@@ -11,7 +11,7 @@ use Rattle.outcome.proofs.Outcome.{present≢untouched, absent≢untouched}
 use Rattle.chain.specs.Link.{touchLink, untouchedLink, Chain}
 use Rattle.chain.specs.Answer.{Answer, none, shown, answer}
 use Rattle.chain.specs.Shows.{NoHigher, LeastDepth, Shows}
-use Rattle.chain.proofs.Answer.{answer-shows, answer-none}
+use Rattle.chain.proofs.Answers.{answer-shows, answer-none}
 
 -- two chains of as many links, neither of which makes a higher choice, are equal
 no-higher-same : (ls ms : Chain) → length ls ≡ length ms → NoHigher ls ms → NoHigher ms ls → ls ≡ ms

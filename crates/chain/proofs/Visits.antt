@@ -15,7 +15,7 @@ use Rattle.chain.specs.Visits.{Visits, here, next, Settled}
 use Rattle.chain.proofs.Ranks.{start-unranked, start-reached, visits-closed, visited-capped, visited-reached}
 use Rattle.chain.proofs.Depth.{depth-reached}
 use Rattle.chain.proofs.Links.{links-reached}
-use Rattle.chain.proofs.Answer.{touch-table, untouched-table}
+use Rattle.chain.proofs.Answers.{touch-table, untouched-table}
 
 module _ (S : List Sequence) (look : Look) (none : ℕ) where
   pub visits-length : {before T : List ℕ} → Visits S look none before T → length T ≡ length before

@@ -8,3 +8,6 @@ pub mod Shows
 pub mod Call
 pub mod Walk
 pub mod Visits
+pub mod Tables
+pub mod Choice
+pub mod Reply

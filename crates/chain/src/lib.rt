@@ -1,1 +1,5 @@
 // Chains: a way, link by link, to a run with the outcome asked for (document 01, "Chains").
+pub mod answer;
+pub mod entry;
+pub mod link;
+pub mod read;

@@ -22,7 +22,7 @@ use Rattle.chain.specs.Answer.{Answer, none, shown, answer}
 use Rattle.chain.specs.Shows.{Shows}
 use Rattle.chain.specs.Call.{Reply, refused, answered, inArea, afterCheck, chained, areaAfter}
 use Rattle.chain.proofs.Words.{words-length}
-use Rattle.chain.proofs.Answer.{answer-shows, answer-none}
+use Rattle.chain.proofs.Answers.{answer-shows, answer-none}
 
 -- what the call comes to where the image is accepted and the numbers are in range
 pub call-asked : (image : List ℕ) (h : Head) (c q f room : ℕ) → checked image ≡ Accepted h → c < h .sequences → q ≤ 5 → f < h .facts

@@ -1,0 +1,142 @@
+// What an alternative comes to by the ranks as they stand, and the rank of a sequence lowered by its alternatives.
+use crate::entry::Asked;
+use crate::entry::traits_of;
+use image::word::is_entry;
+use image::word::is_kind;
+ghost use mathlib.Core.Path.{_≡_};
+ghost use mathlib.Core.Bool.{cond};
+ghost use Prim.Native.Nat.{_+_, _*_, _≤_, _<_, min, max};
+ghost use lib.ListN.{length, drop};
+ghost use Rattle.image.specs.Library.{alternativesFrom};
+ghost use Rattle.chain.specs.Ranks.{depthLook, linkLook};
+ghost use Rattle.chain.specs.Walk.{loweredFrom};
+ghost use Rattle.chain.specs.Tables.{inRanks, markIn, aheadIn, behindIn, lookIn, Readable, AlternativeRead};
+
+// What an alternative comes to, and the index of the word after its entries.
+pub struct Read {
+    pub value: u32,
+    pub next: usize,
+}
+
+fn least(a: u32, b: u32) -> u32
+    ensures { λ r. ⌜ r ≡ min a b ⌝ }
+{
+    if a < b {
+        return a;
+    }
+    b
+}
+
+fn greatest(a: u32, b: u32) -> u32
+    ensures { λ r. ⌜ r ≡ max a b ⌝ }
+{
+    if a < b {
+        return b;
+    }
+    a
+}
+
+// The number where the test holds, otherwise `none`.
+fn kept(test: bool, x: u32, none: u32) -> u32
+    ensures { λ r. ⌜ r ≡ cond test x none ⌝ }
+{
+    if test {
+        return x;
+    }
+    none
+}
+
+// The greatest depth among the entries that stand from index `at` on.
+fn greatest_depth(q: Asked, masks: &[u64], table: &[u64], ranks: &[u32], part: &[u32], at: usize) -> Read
+    requires { ⌜ Readable q (now masks) (now table) (now ranks) (now part) × (at ≤ length (now part)) ⌝ }
+    ensures { λ r. ⌜ AlternativeRead (depthLook (q .none) (markIn q (now (masks .entry))) (inRanks q (now (ranks .entry)))) (now (part .entry)) at r ⌝ }
+{
+    let mut depth = 0;
+    let mut i = at;
+    while i < part.len() {
+        let w = part[i];
+        if !is_entry(w) {
+            return Read {
+                value: depth,
+                next: i,
+            };
+        }
+        let t = traits_of(q, masks, table, ranks, w);
+        depth = greatest(depth, t.rank);
+        i += 1;
+    }
+    Read {
+        value: depth,
+        next: i,
+    }
+}
+
+// The fewest links after this one, among the positions of the entries that stand from index `at` on: an entry that fails as one behind rules
+// out the positions so far.
+fn fewest_links(q: Asked, masks: &[u64], table: &[u64], ranks: &[u32], part: &[u32], at: usize) -> Read
+    requires { ⌜ Readable q (now masks) (now table) (now ranks) (now part) × (at ≤ length (now part)) ⌝ }
+    ensures { λ r. ⌜ AlternativeRead (linkLook (q .none) (markIn q (now (masks .entry))) (aheadIn q (now (masks .entry)) (now (table .entry))) (behindIn q (now (masks .entry)) (now (table .entry))) (inRanks q (now (ranks .entry)))) (now (part .entry)) at r ⌝ }
+{
+    let mut ok = true;
+    let mut best = q.none;
+    let mut i = at;
+    while i < part.len() {
+        let w = part[i];
+        if !is_entry(w) {
+            return Read {
+                value: best,
+                next: i,
+            };
+        }
+        let t = traits_of(q, masks, table, ranks, w);
+        best = least(kept(t.behind, best, q.none), kept(ok, t.rank, q.none));
+        ok = ok & t.ahead;
+        i += 1;
+    }
+    Read {
+        value: best,
+        next: i,
+    }
+}
+
+// What the alternative comes to whose entries stand from index `at` on.
+pub fn read_alternative(q: Asked, masks: &[u64], table: &[u64], ranks: &[u32], part: &[u32], at: usize) -> Read
+    requires { ⌜ Readable q (now masks) (now table) (now ranks) (now part) × (at ≤ length (now part)) ⌝ }
+    ensures { λ r. ⌜ AlternativeRead (lookIn q (now (masks .entry)) (now (table .entry)) (inRanks q (now (ranks .entry)))) (now (part .entry)) at r ⌝ }
+{
+    if q.mark == 2 {
+        return greatest_depth(q, masks, table, ranks, part, at);
+    }
+    fewest_links(q, masks, table, ranks, part, at)
+}
+
+// A rank lowered by an alternative: a sequence is one above the least of its alternatives.
+fn lower(r: u32, value: u32) -> u32
+    ensures { λ x. ⌜ x ≡ min r (1 + value) ⌝ }
+{
+    if value < r {
+        return value + 1;
+    }
+    r
+}
+
+// The rank lowered by the alternatives that stand from index `at` on, up to the next sequence.
+pub fn lowered_rank(q: Asked, masks: &[u64], table: &[u64], ranks: &[u32], part: &[u32], at: usize, rank: u32) -> u32
+    requires { ⌜ Readable q (now masks) (now table) (now ranks) (now part) × (at ≤ length (now part)) ⌝ }
+    ensures { λ r. ⌜ r ≡ loweredFrom (lookIn q (now (masks .entry)) (now (table .entry)) (inRanks q (now (ranks .entry)))) rank (alternativesFrom (drop at (now (part .entry)))) ⌝ }
+{
+    let mut r = rank;
+    let mut i = at;
+    while i < part.len() {
+        let w = part[i];
+        i += 1;
+        if is_kind(7, w) {
+            let found = read_alternative(q, masks, table, ranks, part, i);
+            r = lower(r, found.value);
+            i = found.next;
+        } else if !is_entry(w) {
+            return r;
+        }
+    }
+    r
+}
