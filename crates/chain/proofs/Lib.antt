@@ -10,4 +10,5 @@ pub mod Visits
 pub mod Words
 pub mod Calls
 pub mod Walk
+pub mod Writing
 pub mod Sample

@@ -1,14 +1,17 @@
 -- What the choice of a link promises, by tables of words.
-use Prim.Native.Nat.{ℕ, _≤_}
+use Prim.Native.Nat.{ℕ, zero, suc, pred, _≤_, _<_}
 use mathlib.Core.Path.{_≡_}
-use mathlib.Core.List.{List, []}
+use mathlib.Core.Bool.{cond}
+use mathlib.Core.List.{List, [], _∷_}
 use lib.ListN.{length, getD, drop}
+use lib.Dec.{eqb, ltb}
 use Rattle.image.specs.Library.{Alternative, alternativesFrom}
-use Rattle.chain.specs.Link.{Link, touchLink}
+use Rattle.chain.specs.Link.{Link, touchLink, untouchedLink, Chain}
 use Rattle.chain.specs.Stands.{entryAt}
 use Rattle.chain.specs.Ranks.{entryRank}
-use Rattle.chain.specs.Walk.{linkFrom}
-use Rattle.chain.specs.Tables.{entryNumber, inRanks, markIn, aheadIn, behindIn}
+use Rattle.chain.specs.Walk.{linkFrom, alternativeFrom}
+use Rattle.chain.specs.Tables.{entryNumber, inRanks, markIn, aheadIn, behindIn, lookIn, Readable, alternativesAt}
+use Rattle.chain.specs.Answer.{Answer, none, shown}
 use Rattle.chain.specs.declared.entry.Asked.{Asked}
 use Rattle.chain.specs.declared.link.Choice.{Choice}
 
@@ -24,3 +27,37 @@ pub record Chosen (q : Asked) (masks table ranks part : List ℕ) (at k : ℕ) (
   pub entry : r .entry ≡ entryNumber (entryAt (getD (alternativesFrom (drop at part)) (r .alternative) []) (r .position))
   pub alternative-low : r .alternative ≤ length part
   pub position-low : r .position ≤ length part
+
+-- the entry at a link's position names this number
+abbrev pub linkEntry : List Alternative → Link → ℕ
+linkEntry alts (touchLink c i p) = entryNumber (entryAt (getD alts i []) p)
+linkEntry alts (untouchedLink c i) = 0
+
+-- what the words of a chain ask of the tables: those of a reader; a word for each sequence, within the words; and few words
+pub record Choosable (q : Asked) (masks table ranks part places : List ℕ) : Type 0 where
+  pub readable : Readable q masks table ranks part
+  pub within : (c : ℕ) → getD places c 0 < length part
+  pub short : length part ≤ 8192
+
+module _ (q : Asked) (masks table ranks part places : List ℕ) where
+  -- the link of sequence c, where the links after it are k
+  abbrev pub linkAt : ℕ → ℕ → Link
+  linkAt k c = linkIn q masks table ranks c k (alternativesAt part places c)
+
+  -- n links from sequence c on, each about the sequence that the entry of the one before names
+  unfoldable pub linksIn : ℕ → ℕ → Chain
+  unfolding linkIn
+  linksIn zero c = []
+  linksIn (suc k) c = linkAt k c ∷ linksIn k (linkEntry (alternativesAt part places c) (linkAt k c))
+
+  -- the one link of a question that asks for no touch
+  unfoldable pub quietLink : ℕ → Link
+  unfolding alternativeFrom
+  quietLink c =
+      untouchedLink c (alternativeFrom (lookIn q masks table (inRanks q ranks)) (pred (inRanks q ranks c)) 0 (alternativesAt part places c))
+
+  -- the answer of sequence c by its rank
+  unfoldable pub answerIn : ℕ → Answer
+  unfolding linksIn quietLink
+  answerIn c =
+      cond (ltb (inRanks q ranks c) (q .none)) (shown (cond (eqb (q .mark) 2) (quietLink c ∷ []) (linksIn (inRanks q ranks c) c))) none

@@ -4,8 +4,8 @@ use mathlib.Core.Path.{_≡_}
 use mathlib.Core.List.{List}
 use lib.ListN.{length}
 use Rattle.image.specs.Answer.{refusalAnswer}
-use Rattle.chain.specs.Answer.{none, shown}
-use Rattle.chain.specs.Call.{Reply, refused, answered, chained, areaAfter}
+use Rattle.chain.specs.Answer.{Answer, none, shown}
+use Rattle.chain.specs.Call.{Reply, refused, answered, inArea, chained, areaAfter}
 use Rattle.chain.specs.declared.answer.Chained.{Chained}
 
 -- "an answer enum whose cases carry a link count struct or a refusal enum with its position"
@@ -20,6 +20,11 @@ abbrev pub chainAnswer : Chained → ℕ
 chainAnswer (Chained.Shown links) = links .count
 chainAnswer Chained.None = 0
 chainAnswer (Chained.Refused r) = refusalAnswer r
+
+-- an answer in its area: what is told of it, and the area after
+pub record Answered (a : Answer) (before : List ℕ) (found : Chained) (after : List ℕ) : Type 0 where
+  pub answer : found ≡ chainedAs (inArea (length before) a)
+  pub area : after ≡ areaAfter (inArea (length before) a) before
 
 -- what the chain call does: its answer, and the area after it
 pub record Called (image : List ℕ) (c q f : ℕ) (before : List ℕ) (found : Chained) (after : List ℕ) : Type 0 where

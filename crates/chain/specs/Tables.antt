@@ -84,14 +84,14 @@ pub record AlternativeRead (worth : Alternative → ℕ) (part : List ℕ) (at :
   pub within : r .next ≤ length part
   pub skips : alternativesFrom (drop at part) ≡ alternativesFrom (drop (r .next) part)
 
-module _ (q : Asked) (masks table part places : List ℕ) where
-  -- the alternatives of sequence c, from the word after its opener on
-  abbrev pub alternativesAt : ℕ → List Alternative
-  alternativesAt c = alternativesFrom (drop (getD places c 0 + 1) part)
+-- the alternatives of sequence c, from the word after its opener on
+abbrev pub alternativesAt : List ℕ → List ℕ → ℕ → List Alternative
+alternativesAt part places c = alternativesFrom (drop (getD places c 0 + 1) part)
 
+module _ (q : Asked) (masks table part places : List ℕ) where
   -- the rank of sequence c after a visit
   abbrev pub visitedRank : List ℕ → ℕ → ℕ
-  visitedRank ranks c = loweredFrom (lookIn q masks table (inRanks q ranks)) (getD ranks c (q .none)) (alternativesAt c)
+  visitedRank ranks c = loweredFrom (lookIn q masks table (inRanks q ranks)) (getD ranks c (q .none)) (alternativesAt part places c)
 
   -- the ranks after a visit of sequence c
   abbrev pub visitedRanks : List ℕ → ℕ → List ℕ

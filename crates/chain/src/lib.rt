@@ -3,3 +3,4 @@ pub mod answer;
 pub mod entry;
 pub mod link;
 pub mod read;
+pub mod write;
