@@ -1,19 +1,29 @@
 -- The words of a chain in the area: the links so far are written, and the words past them stay.
 -- Assumes nothing.
-use Prim.Native.Nat.{ℕ, zero, suc, _+_, _*_, _^_, _≤_, _<_}
+use Prim.Native.Nat.{ℕ, zero, suc, pred, _+_, _*_, _^_, _≤_, _<_}
 use native.Mathlib.Omega.{arith}
 use native.Mathlib.Numerals.{add-one}
+use mathlib.Core.Logic.{_≢_}
 use mathlib.Core.Path.{_≡_, refl, sym, ap, ap₂, _∙_}
 use mathlib.Core.Bool.{Bool, true, false, cond}
 use mathlib.Core.List.{List, [], _∷_, _++_, append-assoc, append-nil}
 use lib.ListN.{length, getD, set, drop, length-append, length-drop}
 use lib.Seq.{set-at, drop-cons}
+use lib.Dec.{leb}
+use borrow.Author.Tests.{eq-eqb, ne-eqb, lt-ltb, le-ltb, le-leb, lt-leb}
 use Rattle.image.specs.Word.{payload, isKind, isEntry}
 use Rattle.image.specs.Library.{Alternative, Entry, step, call, entriesFrom, alternativesFrom}
 use Rattle.chain.specs.Link.{Link, touchLink, choiceWord, linkWords, chainWords}
 use Rattle.chain.specs.Stands.{entryAt}
-use Rattle.chain.specs.Tables.{entryNumber, alternativesAt}
-use Rattle.chain.specs.Choice.{linkEntry, linkAt, linksIn}
+use Rattle.chain.specs.Tables.{entryNumber, inRanks, lookIn, alternativesAt}
+use Rattle.chain.specs.Walk.{alternativeFrom}
+use Rattle.chain.specs.Choice.{linkIn, Chosen, linkEntry, linkAt, linksIn, quietLink, answerIn}
+use Rattle.chain.specs.declared.link.Choice.{Choice}
+use Rattle.chain.specs.Answer.{Answer, none, shown}
+use Rattle.chain.specs.Reply.{Answered}
+use Rattle.chain.specs.declared.answer.Chained.{Chained}
+use Rattle.chain.proofs.Words.{words-length}
+use Rattle.image.specs.declared.answer.Refusal.the-variants.{ChainArea}
 use Rattle.chain.specs.declared.entry.Asked.{Asked}
 
 -- ---- an entry's number has 28 bits
@@ -94,10 +104,10 @@ module _ (q : Asked) (masks table ranks part places : List ℕ) (before : List �
     -- the words so far are the whole chain's
     pub writing-end : k ≡ 0 → area ≡ chainWords (links count first) ++ drop (2 * count) before
     unfolding linksIn chainWords
-    writing-end none =
+    writing-end over =
         let l = here .left in
         let all : at ≡ 2 * count = omega arith in
-        let last : chainWords (links k c) ≡ [] = ap (λ (n : ℕ). chainWords (links n c)) none in
+        let last : chainWords (links k c) ≡ [] = ap (λ (n : ℕ). chainWords (links n c)) over in
         here .written
         ∙ ap₂ (λ (p : List ℕ) (n : ℕ). p ++ drop n before) (sym (append-nil (here .done)) ∙ ap (λ (r : List ℕ). here .done ++ r) (sym last) ∙ here .rest) all
 
@@ -122,3 +132,71 @@ module _ (q : Asked) (masks table ranks part places : List ℕ) (before : List �
               ∙ put-two (here .done) before at (choiceWord c i) (11 * 2 ^ 28 + p) (here .long) (omega arith);
           rest = append-assoc (here .done) two (chainWords (links j after)) ∙ ap (λ (r : List ℕ). here .done ++ r) (sym same) ∙ here .rest;
         }
+
+    -- the same by what the functions promise that choose a link and write its words
+    pub writing-next : (j from : ℕ) (r : Choice) (x : ℕ) (after : List ℕ) → k ≡ suc j → from ≡ getD places c 0 + 1 → Chosen q masks table ranks part from j r
+        → x ≡ choiceWord c (r .alternative) → after ≡ set (set area at x) (at + 1) (11 * 2 ^ 28 + r .position) → Writing after j (r .entry) (at + 2)
+    writing-next j from r x after next opener chosen word put =
+        rw (put, word, chosen .entry, opener)
+        (writing-turn j next (r .alternative) (r .position) (chosen .link c ∙ ap (λ (n : ℕ). linkIn q masks table ranks c j (alternativesFrom (drop n part))) opener))
+
+-- ---- the answer by the ranks
+
+getD-any : (l : List ℕ) (i d e : ℕ) → i < length l → getD l i d ≡ getD l i e
+getD-any [] i d e lt = absurd (omega arith)
+getD-any (x ∷ l) zero d e lt = refl
+getD-any (x ∷ l) (suc i) d e lt = getD-any l i d e (omega arith)
+
+module _ (q : Asked) (masks table ranks part places : List ℕ) where
+  pub links-count : (k c : ℕ) → length (linksIn q masks table ranks part places k c) ≡ k
+  unfolding linksIn
+  links-count zero c = refl
+  links-count (suc k) c = ap suc (links-count k (linkEntry (alternativesAt part places c) (linkAt q masks table ranks part places k c)))
+
+  module _ (c rank : ℕ) (listed : c < length ranks) (own : rank ≡ getD ranks c 0) where
+    own-rank : inRanks q ranks c ≡ rank
+    own-rank = getD-any ranks c (q .none) 0 listed ∙ sym own
+
+    pub answer-unranked : q .none ≤ rank → answerIn q masks table ranks part places c ≡ none
+    unfolding answerIn
+    answer-unranked le = rw (own-rank, le-ltb rank (q .none) le)
+
+    pub answer-quiet : rank < q .none → q .mark ≡ 2 → answerIn q masks table ranks part places c ≡ shown (quietLink q masks table ranks part places c ∷ [])
+    unfolding answerIn
+    answer-quiet lt two = rw (own-rank, lt-ltb rank (q .none) lt, eq-eqb (q .mark) 2 two)
+
+    pub answer-links : rank < q .none → q .mark ≢ 2 → answerIn q masks table ranks part places c ≡ shown (linksIn q masks table ranks part places rank c)
+    unfolding answerIn
+    answer-links lt other = rw (own-rank, lt-ltb rank (q .none) lt, ne-eqb (q .mark) 2 other)
+
+  -- the one link by what the functions promise that choose its alternative and write its words
+  pub quiet-written : (c k from i x : ℕ) (area after : List ℕ) → c < length ranks → k ≡ pred (getD ranks c 0) → from ≡ getD places c 0 + 1
+      → i ≡ alternativeFrom (lookIn q masks table (inRanks q ranks)) k 0 (alternativesFrom (drop from part)) → x ≡ choiceWord c i → 2 ≤ length area
+      → after ≡ set (set area 0 x) (0 + 1) (12 * 2 ^ 28) → after ≡ chainWords (quietLink q masks table ranks part places c ∷ []) ++ drop 2 area
+  unfolding quietLink chainWords
+  quiet-written c k from i x area after listed before opener choice word room put =
+      let least : k ≡ pred (inRanks q ranks c) = before ∙ ap pred (getD-any ranks c 0 (q .none) listed) in
+      put ∙ put-first area x (12 * 2 ^ 28) room
+      ∙ ap (λ (y : ℕ). (y ∷ 12 * 2 ^ 28 ∷ []) ++ drop 2 area)
+      (word ∙ ap (choiceWord c)
+      (choice ∙ ap₂ (λ (m n : ℕ). alternativeFrom (lookIn q masks table (inRanks q ranks)) m 0 (alternativesFrom (drop n part))) least opener))
+
+-- an answer in an area that is too short, or has room
+pub none-answered : (a : Answer) (area : List ℕ) → a ≡ none → Answered a area Chained.None area
+none-answered a area e = rw e (record { answer = refl; area = refl })
+
+pub short-answered : (a : Answer) (ls : List Link) (area : List ℕ) → a ≡ shown ls → length area < 2 * length ls
+    → Answered a area (Chained.Refused ChainArea) area
+short-answered a ls area e lt =
+    let small : leb (length (chainWords ls)) (length area) ≡ false = lt-leb (length (chainWords ls)) (length area) (omega (arith, words-length ls)) in
+    rw e (record { answer = rw small; area = rw small })
+
+pub shown-answered : (a : Answer) (ls : List Link) (n : ℕ) (area after : List ℕ) → a ≡ shown ls → length ls ≡ n → 2 * n ≤ length area
+    → after ≡ chainWords ls ++ drop (2 * n) area → Answered a area (Chained.Shown (record { count = n })) after
+shown-answered a ls n area after e count le words =
+    let room : leb (length (chainWords ls)) (length area) ≡ true = le-leb (length (chainWords ls)) (length area) (omega (arith, words-length ls)) in
+    let long : 2 * n ≡ length (chainWords ls) = omega (arith, words-length ls) in
+    rw e (record {
+      answer = rw room (ap (λ (k : ℕ). Chained.Shown (record { count = k })) (sym count));
+      area = rw room (words ∙ ap (λ (k : ℕ). chainWords ls ++ drop k area) long);
+    })
