@@ -11,4 +11,5 @@ pub mod Words
 pub mod Calls
 pub mod Walk
 pub mod Writing
+pub mod Describes
 pub mod Sample

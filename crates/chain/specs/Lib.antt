@@ -10,4 +10,5 @@ pub mod Walk
 pub mod Visits
 pub mod Tables
 pub mod Choice
+pub mod Described
 pub mod Reply

@@ -1,0 +1,154 @@
+-- Tables that describe a library give its answers: what they say of an entry is what `Ranks` says, and so the links and the answer by the
+-- ranks are the library's.
+-- Assumes nothing.
+use Prim.Native.Nat.{ℕ, zero, suc, pred, _+_, _*_, _≤_, _<_}
+use native.Mathlib.Omega.{arith}
+use native.Mathlib.Nat.{add-zero}
+use mathlib.Core.Path.{_≡_, refl, sym, ap, ap₂, _∙_, fun-ext}
+use mathlib.Core.Logic.{_≢_}
+use mathlib.Core.Bool.{Bool, true, false, cond}
+use mathlib.Core.List.{List, [], _∷_}
+use lib.ListN.{length, getD}
+use lib.Dec.{eqb, ltb}
+use Rattle.column.specs.Sets.{inColumn}
+use Rattle.column.proofs.Operations.{in-column}
+use Rattle.image.specs.Library.{has, Library, Alternative, Entry, step, call}
+use Rattle.image.specs.Tables.{maskOf}
+use Rattle.outcome.specs.Run.{Item, alternativesOf, alternativeOf}
+use Rattle.outcome.specs.Execution.{stepOf}
+use Rattle.outcome.specs.Touch.{Side, last, first, Mark, present, absent, untouched, Question, itemTouch}
+use Rattle.outcome.specs.Algebra.{sameMark}
+use Rattle.outcome.specs.Possible.{possibleOutcome}
+use Rattle.chain.specs.Link.{Link, touchLink, untouchedLink, Chain}
+use Rattle.chain.specs.Stands.{entryAt}
+use Rattle.chain.specs.Ranks.{Ranks, Look, Reached, Linked, Closed, unranked, entryRank, linkLook, depthLook, hasMark, canStay, canRun, aheadOf, behindOf, touchLook, untouchedLook}
+use Rattle.chain.specs.Answer.{Answer, none, shown, chosenAlternative, chosenPosition, followed, linksFrom, touchAnswer, untouchedAnswer, ranksIn}
+use Rattle.chain.specs.Walk.{linkFrom, alternativeFrom}
+use Rattle.chain.specs.Tables.{entryNumber, markOf, inRanks, stepMark, markIn, runIn, stayIn, aheadIn, behindIn, lookIn, alternativesAt}
+use Rattle.chain.specs.Choice.{linkIn, linkEntry, linkAt, linksIn, quietLink, answerIn}
+use Rattle.chain.specs.Described.{isFirst, markNumber, Asks, Described}
+use Rattle.chain.specs.declared.entry.Asked.{Asked}
+use Rattle.chain.proofs.Depth.{step-rank, step-passes}
+use Rattle.chain.proofs.Links.{entriesOf, chosenAt, positionAt, chosen, chosen-rank}
+use Rattle.chain.proofs.Walk.{alternative-from, link-from}
+
+cond-mark : (x y : Bool) → cond x 0 (cond y 1 2) ≡ markNumber (cond x present (cond y absent untouched))
+cond-mark true y = refl
+cond-mark false true = refl
+cond-mark false false = refl
+
+same-number : (m n : Mark) → eqb (markNumber m) (markNumber n) ≡ sameMark m n
+same-number present present = refl
+same-number present absent = refl
+same-number present untouched = refl
+same-number absent present = refl
+same-number absent absent = refl
+same-number absent untouched = refl
+same-number untouched present = refl
+same-number untouched absent = refl
+same-number untouched untouched = refl
+
+module _ (L : Library) (q : Asked) (Q : Question) (masks table part places : List ℕ) (asks : Asks L q Q) (described : Described L masks table part places) where
+  abbrev f : ℕ
+  f = q .fact
+
+  -- ---- what the tables say of an entry
+
+  mask-has : (n : ℕ) (facts : List ℕ) → n ≡ maskOf facts → inColumn n f ≡ has f facts
+  unfolding maskOf
+  mask-has n facts e =
+      let low : f < 64 = omega (arith, asks .fact, described .narrow) in
+      ap (λ (x : ℕ). inColumn x f) e ∙ in-column 64 (λ (g : ℕ). has g facts) f low
+
+  step-mark : (a : ℕ) → stepMark q masks a ≡ markNumber (itemTouch L (Q .side) f a)
+  step-mark a =
+      let n = mask-has (getD masks (3 * a) 0) (stepOf L a .needs) (described .needs a) in
+      let s = mask-has (getD masks (3 * a + 1) 0) (stepOf L a .sets) (described .sets a) in
+      let k = mask-has (getD masks (3 * a + 2) 0) (stepOf L a .clears) (described .clears a) in
+      rw (asks .first, n, s, k) (go (Q .side))
+    where
+      go : (s : Side)
+          → cond (isFirst s) (cond (has f (stepOf L a .needs)) 0 (cond (has f (stepOf L a .sets)) 1 2))
+          (cond (has f (stepOf L a .sets)) 0 (cond (has f (stepOf L a .clears)) 1 2))
+          ≡ markNumber (itemTouch L s f a)
+      go last = cond-mark (has f (stepOf L a .sets)) (has f (stepOf L a .clears))
+      go first = cond-mark (has f (stepOf L a .needs)) (has f (stepOf L a .sets))
+
+  mark-is : markIn q masks ≡ hasMark L Q f
+  mark-is = fun-ext (λ a. rw (step-mark a, asks .mark) (same-number (itemTouch L (Q .side) f a) (Q .mark)))
+
+  run-is : (e : Entry) → runIn q masks table e ≡ canRun L Q f e
+  run-is (step a) = refl
+  run-is (call d) = ap (λ (n : ℕ). inColumn (getD table n 0) f) (sym (add-zero (8 * d))) ∙ described .rows d 0 f (omega arith) (asks .fact)
+
+  stay-is : (e : Entry) → stayIn q masks table e ≡ canStay L Q f e
+  stay-is (step a) = rw (step-mark a) (same-number (itemTouch L (Q .side) f a) untouched)
+  stay-is (call d) = rw (asks .first) (go (Q .side))
+    where
+      go : (s : Side) → inColumn (getD table (8 * d + cond (isFirst s) 7 4) 0) f ≡ possibleOutcome L (record { side = s; mark = untouched }) d f
+      go last = described .rows d 4 f (omega arith) (asks .fact)
+      go first = described .rows d 7 f (omega arith) (asks .fact)
+
+  ahead-is : aheadIn q masks table ≡ aheadOf L Q f (Q .side)
+  ahead-is = fun-ext (λ e. ap (λ (b : Bool). cond b (stayIn q masks table e) (runIn q masks table e)) (asks .first) ∙ go (Q .side) e)
+    where
+      go : (s : Side) (e : Entry) → cond (isFirst s) (stayIn q masks table e) (runIn q masks table e) ≡ aheadOf L Q f s e
+      go last e = run-is e
+      go first e = stay-is e
+
+  behind-is : behindIn q masks table ≡ behindOf L Q f (Q .side)
+  behind-is = fun-ext (λ e. ap (λ (b : Bool). cond b (runIn q masks table e) (stayIn q masks table e)) (asks .first) ∙ go (Q .side) e)
+    where
+      go : (s : Side) (e : Entry) → cond (isFirst s) (runIn q masks table e) (stayIn q masks table e) ≡ behindOf L Q f s e
+      go last e = stay-is e
+      go first e = run-is e
+
+  rank-is : (ranks : List ℕ) → entryRank (q .none) (markIn q masks) (inRanks q ranks) ≡ entryRank (unranked L) (hasMark L Q f) (ranksIn L ranks)
+  rank-is ranks =
+      ap (λ (n : ℕ). entryRank n (markIn q masks) (λ d. getD ranks d n)) (asks .none)
+      ∙ ap (λ (t : Item → Bool). entryRank (unranked L) t (ranksIn L ranks)) mark-is
+
+  two-is : (b : Bool) → eqb (markNumber (Q .mark)) 2 ≡ b → eqb (q .mark) 2 ≡ b
+  two-is b e = ap (λ (n : ℕ). eqb n 2) (asks .mark) ∙ e
+
+  touch-number : (m : Mark) → m ≢ untouched → eqb (markNumber m) 2 ≡ false
+  touch-number present t = refl
+  touch-number absent t = refl
+  touch-number untouched t = absurd (t refl)
+
+  quiet-number : (m : Mark) → m ≡ untouched → eqb (markNumber m) 2 ≡ true
+  quiet-number m e = ap (λ (n : Mark). eqb (markNumber n) 2) e
+
+  -- the looks are the library's
+  pub touch-look : Q .mark ≢ untouched → lookIn q masks table ≡ touchLook L Q f
+  touch-look touch =
+      ap (λ (b : Bool) (T : Ranks) (es : Alternative). cond b (depthLook (q .none) (markIn q masks) T es) (linkLook (q .none) (markIn q masks) (aheadIn q masks table) (behindIn q masks table) T es))
+      (two-is false (touch-number (Q .mark) touch))
+      ∙ ap₂ (λ (n : ℕ) (t : Item → Bool). linkLook n t (aheadIn q masks table) (behindIn q masks table)) (asks .none) mark-is
+      ∙ ap₂ (λ (a b : Entry → Bool). linkLook (unranked L) (hasMark L Q f) a b) ahead-is behind-is
+
+  pub quiet-look : Q .mark ≡ untouched → lookIn q masks table ≡ untouchedLook L Q f
+  quiet-look quiet =
+      ap (λ (b : Bool) (T : Ranks) (es : Alternative). cond b (depthLook (q .none) (markIn q masks) T es) (linkLook (q .none) (markIn q masks) (aheadIn q masks table) (behindIn q masks table) T es))
+      (two-is true (quiet-number (Q .mark) quiet))
+      ∙ ap₂ (λ (n : ℕ) (t : Item → Bool). depthLook n t) (asks .none) mark-is
+
+  -- ---- the answer by the ranks
+
+  module _ (ranks : List ℕ) where
+    abbrev T : Ranks
+    T = ranksIn L ranks
+
+    own : (c : ℕ) → inRanks q ranks c ≡ T c
+    own c = ap (λ (n : ℕ). getD ranks c n) (asks .none)
+
+    -- a question that asks for no touch
+    pub quiet-answer : Q .mark ≡ untouched → (c : ℕ) → c < length (L .sequences)
+        → answerIn q masks table ranks part places c ≡ untouchedAnswer L Q f T c
+    unfolding answerIn quietLink untouchedAnswer
+    quiet-answer quiet c lt =
+        let alternative : alternativeFrom (lookIn q masks table (inRanks q ranks)) (pred (inRanks q ranks c)) 0 (alternativesAt part places c)
+            ≡ chosenAlternative (L .sequences) (untouchedLook L Q f) T (pred (T c)) c =
+        ?
+        in
+        ?

@@ -1,0 +1,43 @@
+-- Tables that describe a library, and the question that the code is asked: what must hold of them for the answer by words to be the
+-- library's.
+use Prim.Native.Nat.{ℕ, _+_, _*_, _≤_, _<_}
+use mathlib.Core.Path.{_≡_}
+use mathlib.Core.Bool.{Bool, true, false}
+use mathlib.Core.List.{List}
+use lib.ListN.{length, getD}
+use Rattle.column.specs.Sets.{inColumn}
+use Rattle.image.specs.Library.{Library}
+use Rattle.image.specs.Tables.{maskOf}
+use Rattle.outcome.specs.Run.{alternativesOf}
+use Rattle.outcome.specs.Execution.{stepOf}
+use Rattle.outcome.specs.Touch.{Side, last, first, Mark, present, absent, untouched, Question}
+use Rattle.outcome.specs.Possible.{columnPossible}
+use Rattle.chain.specs.Ranks.{unranked}
+use Rattle.chain.specs.Tables.{alternativesAt}
+use Rattle.chain.specs.declared.entry.Asked.{Asked}
+
+-- a side and a mark as the code has them
+abbrev pub isFirst : Side → Bool
+isFirst last = false
+isFirst first = true
+
+abbrev pub markNumber : Mark → ℕ
+markNumber present = 0
+markNumber absent = 1
+markNumber untouched = 2
+
+-- the code is asked this question of the library
+pub record Asks (L : Library) (q : Asked) (Q : Question) : Type 0 where
+  pub first : q .first ≡ isFirst (Q .side)
+  pub mark : q .mark ≡ markNumber (Q .mark)
+  pub none : q .none ≡ unranked L
+  pub fact : q .fact < L .facts
+
+-- the tables are the library's: the words of each step, what the bits of each row say, and where each sequence's alternatives stand
+pub record Described (L : Library) (masks table part places : List ℕ) : Type 0 where
+  pub narrow : L .facts ≤ 64
+  pub needs : (a : ℕ) → getD masks (3 * a) 0 ≡ maskOf (stepOf L a .needs)
+  pub sets : (a : ℕ) → getD masks (3 * a + 1) 0 ≡ maskOf (stepOf L a .sets)
+  pub clears : (a : ℕ) → getD masks (3 * a + 2) 0 ≡ maskOf (stepOf L a .clears)
+  pub rows : (d j f : ℕ) → j < 8 → f < L .facts → inColumn (getD table (8 * d + j) 0) f ≡ columnPossible L j d f
+  pub placed : (c : ℕ) → c < length (L .sequences) → alternativesAt part places c ≡ alternativesOf (L .sequences) c
