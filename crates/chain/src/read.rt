@@ -1,10 +1,10 @@
 // What an alternative comes to by the ranks as they stand, and the rank of a sequence lowered by its alternatives.
 use crate::entry::Asked;
+use crate::entry::kept;
 use crate::entry::traits_of;
 use image::word::is_entry;
 use image::word::is_kind;
 ghost use mathlib.Core.Path.{_≡_};
-ghost use mathlib.Core.Bool.{cond};
 ghost use Prim.Native.Nat.{_+_, _*_, _≤_, _<_, min, max};
 ghost use lib.ListN.{length, drop};
 ghost use Rattle.image.specs.Library.{alternativesFrom};
@@ -34,16 +34,6 @@ fn greatest(a: u32, b: u32) -> u32
         return b;
     }
     a
-}
-
-// The number where the test holds, otherwise `none`.
-fn kept(test: bool, x: u32, none: u32) -> u32
-    ensures { λ r. ⌜ r ≡ cond test x none ⌝ }
-{
-    if test {
-        return x;
-    }
-    none
 }
 
 // The greatest depth among the entries that stand from index `at` on.
