@@ -12,3 +12,4 @@ pub mod Calls
 pub mod Walk
 pub mod Sample
 pub mod Folds
+pub mod Looks
