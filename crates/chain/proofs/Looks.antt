@@ -7,6 +7,7 @@ use mathlib.Core.Path.{_≡_, refl, sym, ap, _∙_}
 use mathlib.Core.Bool.{Bool, true, false, cond, _&&_}
 use mathlib.Core.List.{List, [], _∷_}
 use lib.ListN.{length, getD, drop}
+use borrow.Author.Tests.{eq-eqb, ne-eqb}
 use Rattle.image.specs.Word.{isKind, isEntry}
 use Rattle.image.specs.Library.{Entry, Alternative, entriesFrom, alternativesFrom}
 use Rattle.chain.specs.Ranks.{entryRank, depthLook, linkLook}
@@ -95,11 +96,17 @@ module _ (q : Asked) (masks table ranks part : List ℕ) (at : ℕ) where
     unfolding fewestFrom
     fewest-end l = read-end part links at (fewest ok best) i here best refl l
 
--- what holds of one reader holds of another that comes to the same
-pub read-same : (v w : Alternative → ℕ) (part : List ℕ) (at : ℕ) (r : Read) → ((es : Alternative) → v es ≡ w es) → AlternativeRead v part at r
-    → AlternativeRead w part at r
-read-same v w part at r same read =
-    record { value = read .value ∙ same (entriesFrom (drop at part)); low = read .low; within = read .within; skips = read .skips }
+  -- what it comes to by the mark asked for
+  module _ (r : Read) where
+    look-same : (worth : Alternative → ℕ) → lookIn q masks table (inRanks q ranks) es ≡ worth es → AlternativeRead worth part at r
+        → AlternativeRead (lookIn q masks table (inRanks q ranks)) part at r
+    look-same worth same read = record { value = read .value ∙ sym same; low = read .low; within = read .within; skips = read .skips }
+
+    pub look-depth : q .mark ≡ 2 → AlternativeRead depth part at r → AlternativeRead (lookIn q masks table (inRanks q ranks)) part at r
+    look-depth e = look-same depth (ap (λ (b : Bool). cond b (depth es) (links es)) (eq-eqb (q .mark) 2 e))
+
+    pub look-links : (q .mark ≡ 2 → ⊥) → AlternativeRead links part at r → AlternativeRead (lookIn q masks table (inRanks q ranks)) part at r
+    look-links e = look-same links (ap (λ (b : Bool). cond b (depth es) (links es)) (ne-eqb (q .mark) 2 e))
 
 -- ---- the alternatives of a sequence
 
