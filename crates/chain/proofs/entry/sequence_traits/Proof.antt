@@ -53,8 +53,13 @@ returns c =
     let column = stays .before .before in
     let runs = column .before in
     let start = runs .before .before .before .before in
-    simp (c .sided .ensures, stays .holds2 .ensures, column .stay-column .ensures .0, runs .holds .ensures,
-    getD-inside (start .args .ranks .now) (start .args .d) 0 (start .args .q .none) (start .pre .2))
+    simp (
+      c .sided .ensures,
+      stays .holds2 .ensures,
+      column .stay-column .ensures .0,
+      runs .holds .ensures,
+      getD-inside (start .args .ranks .now) (start .args .d) 0 (start .args .q .none) (start .pre .2),
+    )
 
 pub sequence-traits-spec : {M : Type 1} → statement M
 sequence-traits-spec =

@@ -1,6 +1,5 @@
 -- `chain::entry::sided` meets its contract, by the side.
 -- Assumes nothing.
-use borrow.Author.Needs.{needs}
 use Rattle.chain.proofs.entry.sided.Statement.{statement}
 use Rattle.chain.proofs.entry.sided.Tie as tie
 use Rattle.chain.proofs.entry.sided.Reads as reads

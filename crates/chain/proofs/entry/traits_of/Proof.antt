@@ -4,7 +4,7 @@ use borrow.Author.Needs.{needs}
 use Rattle.outcome.proofs.Walks.{entry-kinds}
 use Rattle.image.specs.Word.{kind}
 use borrow.Author.Tests.{eqb-true, eqb-false}
-use mathlib.Core.Path.{sym, _∙_, ap}
+use mathlib.Core.Path.{sym, _∙_}
 use Rattle.chain.proofs.entry.traits_of.Statement.{statement}
 use Rattle.chain.proofs.entry.traits_of.Tie as tie
 use Rattle.chain.proofs.entry.traits_of.Reads as reads
@@ -39,8 +39,13 @@ returns : tie.Need-returns
 returns c =
     let mark = c .before .before .before in
     let kinds = mark .before .before .before in
-    simp (c .sided .ensures, c .before .kept .ensures, mark .step-mark .ensures, mark .before .payload-of .ensures,
-    sym (kinds .is-kind .ensures) ∙ mark .before .before .if1 .taken)
+    simp (
+      c .sided .ensures,
+      c .before .kept .ensures,
+      mark .step-mark .ensures,
+      mark .before .payload-of .ensures,
+      sym (kinds .is-kind .ensures) ∙ mark .before .before .if1 .taken,
+    )
 
 payload-of-requires-2 : tie.Need-payload-of-requires-2
 payload-of-requires-2 c κs = search needs
@@ -61,8 +66,11 @@ returns-2 : tie.Need-returns-2
 returns-2 c =
     let kinds = c .before .before .before in
     let start = kinds .before .before .before .before in
-    simp (c .sequence-traits .ensures (start .args .masks .now), c .before .payload-of2 .ensures,
-    sym (kinds .is-kind .ensures) ∙ c .before .before .if1 .left)
+    simp (
+      c .sequence-traits .ensures (start .args .masks .now),
+      c .before .payload-of2 .ensures,
+      sym (kinds .is-kind .ensures) ∙ c .before .before .if1 .left,
+    )
 
 pub traits-of-spec : {M : Type 1} → statement M
 traits-of-spec =

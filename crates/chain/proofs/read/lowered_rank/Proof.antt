@@ -20,7 +20,7 @@ use Rattle.image.proofs.word.is_entry.Reads as is-entry-reads
 use Rattle.image.proofs.word.is_kind.Reads as is-kind-reads
 
 abbrev Inv-loop : tie.InvT-loop
-Inv-loop q masks table ranks part at rank r₀ i₀ r i = 
+Inv-loop q masks table ranks part at rank r₀ i₀ r i =
     Lowering (lookIn q masks table (inRanks q ranks)) part
     (loweredFrom (lookIn q masks table (inRanks q ranks)) rank (alternativesFrom (drop at part))) r i
 
