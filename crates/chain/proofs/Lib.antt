@@ -13,3 +13,5 @@ pub mod Walk
 pub mod Writing
 pub mod Describes
 pub mod Sample
+pub mod Folds
+pub mod Looks

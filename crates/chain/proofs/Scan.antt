@@ -106,6 +106,12 @@ unfolding listBelow total
 total-constant k zero = omega arith
 total-constant k (suc n) = rw (total-constant k n, suc-mul n k) (omega arith)
 
+-- an index of the list needs no value for the others
+pub getD-inside : (T : List ℕ) (i d e : ℕ) → i < length T → getD T i d ≡ getD T i e
+getD-inside [] i d e lt = absurd (omega arith)
+getD-inside (x ∷ T) zero d e lt = refl
+getD-inside (x ∷ T) (suc i) d e lt = getD-inside T i d e (le-of-suc-le-suc lt)
+
 -- where each value is at most the list's, so is the sum; and where the sum is not less, no value is
 pub total-lower : (v : ℕ → ℕ) (d : ℕ) (T : List ℕ) → ((i : ℕ) → i < length T → v i ≤ getD T i d) → total (listBelow v (length T)) ≤ total T
 unfolding listBelow total

@@ -7,7 +7,6 @@ ghost use mathlib.Core.Bool.{true, cond};
 ghost use mathlib.Core.List.{List};
 ghost use Prim.Native.Nat.{ℕ, _+_, _*_, _≤_, _<_};
 ghost use lib.ListN.{length};
-ghost use lib.Dec.{eqb};
 ghost use Rattle.image.specs.Word.{isEntry};
 ghost use Rattle.image.specs.Library.{call};
 ghost use Rattle.chain.specs.Tables.{markOf, stepMark, entryOf, traitsIn, Within};
@@ -27,18 +26,22 @@ pub struct Traits {
     pub behind: bool,
 }
 
+// The number where the test holds, otherwise the other one.
+pub fn kept(test: bool, x: u32, other: u32) -> u32
+    ensures { λ r. ⌜ r ≡ cond test x other ⌝ }
+{
+    if test {
+        return x;
+    }
+    other
+}
+
 // The mark that two columns give the fact.
 fn mark_of(f: u32, one: u64, other: u64) -> u32
     requires { ⌜ f < 64 ⌝ }
     ensures { λ r. ⌜ r ≡ markOf f one other ⌝ }
 {
-    if holds(one, f) {
-        return 0;
-    }
-    if holds(other, f) {
-        return 1;
-    }
-    2
+    kept(holds(one, f), 0, kept(holds(other, f), 1, 2))
 }
 
 // The mark of step `a` on the question's side.
@@ -51,16 +54,6 @@ fn step_mark(q: Asked, masks: &[u64], a: u32) -> u32
         return mark_of(q.fact, masks[at], masks[at + 1]);
     }
     mark_of(q.fact, masks[at + 1], masks[at + 2])
-}
-
-// The rank of a step with this mark: 0 where it is the mark asked for.
-fn step_rank(q: Asked, mark: u32) -> u32
-    ensures { λ r. ⌜ r ≡ cond (eqb mark (q .mark)) 0 (q .none) ⌝ }
-{
-    if mark == q.mark {
-        return 0;
-    }
-    q.none
 }
 
 // On the last side an entry ahead has a run and one behind stays untouched; on the first side the other way round.
@@ -81,6 +74,16 @@ fn sided(first: bool, rank: u32, stays: bool, runs: bool) -> Traits
     }
 }
 
+// The outcome table's column of those that can stay untouched.
+fn stay_column(first: bool) -> usize
+    ensures { λ r. ⌜ (r ≡ cond first 7 4) × (r ≤ 7) ⌝ }
+{
+    if first {
+        return 7;
+    }
+    4
+}
+
 // The traits of sequence `d`, by its row of the outcome table and its rank.
 fn sequence_traits(q: Asked, table: &[u64], ranks: &[u32], d: usize) -> Traits
     requires { ⌜ (q .fact < 64) × (8 * d + 8 ≤ length (now table)) × (d < length (now ranks)) ⌝ }
@@ -88,8 +91,7 @@ fn sequence_traits(q: Asked, table: &[u64], ranks: &[u32], d: usize) -> Traits
 {
     let at = 8 * d;
     let runs = holds(table[at], q.fact);
-    let column = if q.first { 7 } else { 4 };
-    let stays = holds(table[at + column], q.fact);
+    let stays = holds(table[at + stay_column(q.first)], q.fact);
     sided(q.first, ranks[d], stays, runs)
 }
 
@@ -100,7 +102,7 @@ pub fn traits_of(q: Asked, masks: &[u64], table: &[u64], ranks: &[u32], w: u32) 
 {
     if is_kind(8, w) {
         let mark = step_mark(q, masks, payload_of(w));
-        return sided(q.first, step_rank(q, mark), mark == 2, true);
+        return sided(q.first, kept(mark == q.mark, 0, q.none), mark == 2, true);
     }
     sequence_traits(q, table, ranks, payload_of(w) as usize)
 }

@@ -1,11 +1,11 @@
 // What an alternative comes to by the ranks as they stand, and the rank of a sequence lowered by its alternatives.
 use crate::entry::Asked;
+use crate::entry::kept;
 use crate::entry::traits_of;
 use image::word::is_entry;
 use image::word::is_kind;
 ghost use mathlib.Core.Path.{_≡_};
-ghost use mathlib.Core.Bool.{cond};
-ghost use Prim.Native.Nat.{_+_, _*_, _≤_, _<_, min, max};
+ghost use Prim.Native.Nat.{_+_, _≤_, min, max};
 ghost use lib.ListN.{length, drop};
 ghost use Rattle.image.specs.Library.{alternativesFrom};
 ghost use Rattle.chain.specs.Ranks.{depthLook, linkLook};
@@ -36,18 +36,15 @@ fn greatest(a: u32, b: u32) -> u32
     a
 }
 
-// The number where the test holds, otherwise `none`.
-fn kept(test: bool, x: u32, none: u32) -> u32
-    ensures { λ r. ⌜ r ≡ cond test x none ⌝ }
-{
-    if test {
-        return x;
-    }
-    none
-}
-
 // The greatest depth among the entries that stand from index `at` on.
-fn greatest_depth(q: Asked, masks: &[u64], table: &[u64], ranks: &[u32], part: &[u32], at: usize) -> Read
+fn greatest_depth(
+    q: Asked,
+    masks: &[u64],
+    table: &[u64],
+    ranks: &[u32],
+    part: &[u32],
+    at: usize,
+) -> Read
     requires { ⌜ Readable q (now masks) (now table) (now ranks) (now part) × (at ≤ length (now part)) ⌝ }
     ensures { λ r. ⌜ AlternativeRead (depthLook (q .none) (markIn q (now (masks .entry))) (inRanks q (now (ranks .entry)))) (now (part .entry)) at r ⌝ }
 {
@@ -73,7 +70,14 @@ fn greatest_depth(q: Asked, masks: &[u64], table: &[u64], ranks: &[u32], part: &
 
 // The fewest links after this one, among the positions of the entries that stand from index `at` on: an entry that fails as one behind rules
 // out the positions so far.
-fn fewest_links(q: Asked, masks: &[u64], table: &[u64], ranks: &[u32], part: &[u32], at: usize) -> Read
+fn fewest_links(
+    q: Asked,
+    masks: &[u64],
+    table: &[u64],
+    ranks: &[u32],
+    part: &[u32],
+    at: usize,
+) -> Read
     requires { ⌜ Readable q (now masks) (now table) (now ranks) (now part) × (at ≤ length (now part)) ⌝ }
     ensures { λ r. ⌜ AlternativeRead (linkLook (q .none) (markIn q (now (masks .entry))) (aheadIn q (now (masks .entry)) (now (table .entry))) (behindIn q (now (masks .entry)) (now (table .entry))) (inRanks q (now (ranks .entry)))) (now (part .entry)) at r ⌝ }
 {
@@ -100,7 +104,14 @@ fn fewest_links(q: Asked, masks: &[u64], table: &[u64], ranks: &[u32], part: &[u
 }
 
 // What the alternative comes to whose entries stand from index `at` on.
-pub fn read_alternative(q: Asked, masks: &[u64], table: &[u64], ranks: &[u32], part: &[u32], at: usize) -> Read
+pub fn read_alternative(
+    q: Asked,
+    masks: &[u64],
+    table: &[u64],
+    ranks: &[u32],
+    part: &[u32],
+    at: usize,
+) -> Read
     requires { ⌜ Readable q (now masks) (now table) (now ranks) (now part) × (at ≤ length (now part)) ⌝ }
     ensures { λ r. ⌜ AlternativeRead (lookIn q (now (masks .entry)) (now (table .entry)) (inRanks q (now (ranks .entry)))) (now (part .entry)) at r ⌝ }
 {
@@ -121,7 +132,15 @@ fn lower(r: u32, value: u32) -> u32
 }
 
 // The rank lowered by the alternatives that stand from index `at` on, up to the next sequence.
-pub fn lowered_rank(q: Asked, masks: &[u64], table: &[u64], ranks: &[u32], part: &[u32], at: usize, rank: u32) -> u32
+pub fn lowered_rank(
+    q: Asked,
+    masks: &[u64],
+    table: &[u64],
+    ranks: &[u32],
+    part: &[u32],
+    at: usize,
+    rank: u32,
+) -> u32
     requires { ⌜ Readable q (now masks) (now table) (now ranks) (now part) × (at ≤ length (now part)) ⌝ }
     ensures { λ r. ⌜ r ≡ loweredFrom (lookIn q (now (masks .entry)) (now (table .entry)) (inRanks q (now (ranks .entry)))) rank (alternativesFrom (drop at (now (part .entry)))) ⌝ }
 {

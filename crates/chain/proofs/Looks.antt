@@ -1,0 +1,134 @@
+-- The loops that read an alternative by the tables, and the loop that lowers a rank: what holds at the head of each, a turn, and the ways
+-- out, by `Folds`.
+-- Assumes nothing.
+use Prim.Native.Nat.{ℕ, suc, _+_, _≤_, _<_, min, max}
+use native.Mathlib.Numerals.{one-add}
+use mathlib.Core.Path.{_≡_, refl, sym, ap, _∙_}
+use mathlib.Core.Bool.{Bool, true, false, cond, _&&_}
+use mathlib.Core.List.{List, []}
+use lib.ListN.{length, getD, drop}
+use borrow.Author.Tests.{eq-eqb, ne-eqb}
+use Rattle.image.specs.Word.{isKind, isEntry}
+use Rattle.image.specs.Library.{Entry, Alternative, entriesFrom, alternativesFrom}
+use Rattle.chain.specs.Ranks.{entryRank, depthLook, linkLook}
+use Rattle.chain.specs.Walk.{depthFrom, fewestFrom, loweredFrom}
+use Rattle.chain.specs.Tables.{entryOf, inRanks, markIn, aheadIn, behindIn, traitsIn, lookIn, AlternativeRead}
+use Rattle.chain.specs.declared.entry.Asked.{Asked}
+use Rattle.chain.specs.declared.entry.Traits.{Traits}
+use Rattle.chain.specs.declared.read.Read.{Read}
+use Rattle.chain.proofs.Walk.{depth-from, fewest-from}
+use Rattle.chain.proofs.Folds.{Folding, folding-start, folding-turn, folding-out, folding-end, Walking, walking-turn, walking-skip, walking-out, walking-end}
+
+-- ---- an alternative
+
+module _ (part : List ℕ) (worth : Alternative → ℕ) (at : ℕ) (rest : List Entry → ℕ) (i : ℕ)
+    (here : Folding part (worth (entriesFrom (drop at part))) at rest i) (v : ℕ) (left : v ≡ rest []) where
+  read-by : rest [] ≡ worth (entriesFrom (drop at part)) → AlternativeRead worth part at (record { value = v; next = i })
+  read-by whole = record { value = left ∙ whole; low = here .low; within = here .within; skips = here .skips }
+
+  read-out : i < length part → isEntry (getD part i 0) ≡ false → AlternativeRead worth part at (record { value = v; next = i })
+  read-out l e = read-by (folding-out part (worth (entriesFrom (drop at part))) at rest i here l e)
+
+  read-end : i ≡ length part → AlternativeRead worth part at (record { value = v; next = i })
+  read-end l = read-by (folding-end part (worth (entriesFrom (drop at part))) at rest i here l)
+
+module _ (q : Asked) (masks table ranks part : List ℕ) (at : ℕ) where
+  abbrev rank : Entry → ℕ
+  rank = entryRank (q .none) (markIn q masks) (inRanks q ranks)
+
+  abbrev es : List Entry
+  es = entriesFrom (drop at part)
+
+  -- its greatest depth
+  abbrev pub depth : Alternative → ℕ
+  depth = depthLook (q .none) (markIn q masks) (inRanks q ranks)
+
+  abbrev pub Deepest : ℕ → ℕ → Type 0
+  Deepest d i = Folding part (depth es) at (depthFrom rank d) i
+
+  pub deepest-start : at ≤ length part → Deepest 0 at
+  deepest-start l = folding-start part (depth es) at (depthFrom rank 0) l (sym (depth-from (q .none) (markIn q masks) (inRanks q ranks) es))
+
+  module _ (d i : ℕ) (here : Deepest d i) where
+    pub deepest-turn : i < length part → isEntry (getD part i 0) ≡ true
+        → Deepest (max d (traitsIn q masks table ranks (entryOf (getD part i 0)) .rank)) (i + 1)
+    unfolding depthFrom
+    deepest-turn l e = folding-turn part (depth es) at (depthFrom rank d) i here l e (depthFrom rank (max d (rank (entryOf (getD part i 0))))) refl
+
+    pub deepest-out : i < length part → isEntry (getD part i 0) ≡ false → AlternativeRead depth part at (record { value = d; next = i })
+    unfolding depthFrom
+    deepest-out l e = read-out part depth at (depthFrom rank d) i here d refl l e
+
+    pub deepest-end : i ≡ length part → AlternativeRead depth part at (record { value = d; next = i })
+    unfolding depthFrom
+    deepest-end l = read-end part depth at (depthFrom rank d) i here d refl l
+
+  -- the fewest links after this one
+  abbrev pub links : Alternative → ℕ
+  links = linkLook (q .none) (markIn q masks) (aheadIn q masks table) (behindIn q masks table) (inRanks q ranks)
+
+  abbrev fewest : Bool → ℕ → List Entry → ℕ
+  fewest = fewestFrom (q .none) rank (aheadIn q masks table) (behindIn q masks table)
+
+  abbrev pub Fewest : Bool → ℕ → ℕ → Type 0
+  Fewest ok best i = Folding part (links es) at (fewest ok best) i
+
+  pub fewest-start : at ≤ length part → Fewest true (q .none) at
+  fewest-start l =
+      folding-start part (links es) at (fewest true (q .none)) l
+      (sym (fewest-from (q .none) (markIn q masks) (aheadIn q masks table) (behindIn q masks table) (inRanks q ranks) es))
+
+  module _ (ok : Bool) (best i : ℕ) (here : Fewest ok best i) where
+    pub fewest-turn : i < length part → isEntry (getD part i 0) ≡ true → (t : Traits) → t ≡ traitsIn q masks table ranks (entryOf (getD part i 0))
+        → Fewest (ok && t .ahead) (min (cond (t .behind) best (q .none)) (cond ok (t .rank) (q .none))) (i + 1)
+    unfolding fewestFrom
+    fewest-turn l e t same =
+        rw same
+        (folding-turn part (links es) at (fewest ok best) i here l e
+        (fewest (ok && aheadIn q masks table (entryOf (getD part i 0)))
+        (min (cond (behindIn q masks table (entryOf (getD part i 0))) best (q .none)) (cond ok (rank (entryOf (getD part i 0))) (q .none)))) refl)
+
+    pub fewest-out : i < length part → isEntry (getD part i 0) ≡ false → AlternativeRead links part at (record { value = best; next = i })
+    unfolding fewestFrom
+    fewest-out l e = read-out part links at (fewest ok best) i here best refl l e
+
+    pub fewest-end : i ≡ length part → AlternativeRead links part at (record { value = best; next = i })
+    unfolding fewestFrom
+    fewest-end l = read-end part links at (fewest ok best) i here best refl l
+
+  -- what it comes to by the mark asked for
+  module _ (r : Read) where
+    look-same : (worth : Alternative → ℕ) → lookIn q masks table (inRanks q ranks) es ≡ worth es → AlternativeRead worth part at r
+        → AlternativeRead (lookIn q masks table (inRanks q ranks)) part at r
+    look-same worth same read = record { value = read .value ∙ sym same; low = read .low; within = read .within; skips = read .skips }
+
+    pub look-depth : q .mark ≡ 2 → AlternativeRead depth part at r → AlternativeRead (lookIn q masks table (inRanks q ranks)) part at r
+    look-depth e = look-same depth (ap (λ (b : Bool). cond b (depth es) (links es)) (eq-eqb (q .mark) 2 e))
+
+    pub look-links : (q .mark ≡ 2 → ⊥) → AlternativeRead links part at r → AlternativeRead (lookIn q masks table (inRanks q ranks)) part at r
+    look-links e = look-same links (ap (λ (b : Bool). cond b (depth es) (links es)) (ne-eqb (q .mark) 2 e))
+
+-- ---- the alternatives of a sequence
+
+module _ (worth : Alternative → ℕ) (part : List ℕ) (whole : ℕ) where
+  abbrev pub Lowering : ℕ → ℕ → Type 0
+  Lowering r i = Walking part whole (loweredFrom worth r) i
+
+  module _ (r i : ℕ) (here : Lowering r i) where
+    pub lowering-turn : i < length part → isKind 7 (getD part i 0) ≡ true → (found : Read) → AlternativeRead worth part (i + 1) found
+        → Lowering (min r (1 + found .value)) (found .next)
+    unfolding loweredFrom
+    lowering-turn l e found read =
+        walking-turn part whole (loweredFrom worth r) i here l e (loweredFrom worth (min r (1 + found .value))) (found .next) (read .within) (read .skips)
+        (ap (λ (x : ℕ). loweredFrom worth (min r x) (alternativesFrom (drop (i + 1) part))) (sym (one-add (found .value) ∙ ap suc (read .value))))
+
+    pub lowering-skip : i < length part → isKind 7 (getD part i 0) ≡ false → isEntry (getD part i 0) ≡ true → Lowering r (i + 1)
+    lowering-skip l e f = walking-skip part whole (loweredFrom worth r) i here l e f
+
+    pub lowering-out : i < length part → isKind 7 (getD part i 0) ≡ false → isEntry (getD part i 0) ≡ false → r ≡ whole
+    unfolding loweredFrom
+    lowering-out l e f = walking-out part whole (loweredFrom worth r) i here l e f
+
+    pub lowering-end : i ≡ length part → r ≡ whole
+    unfolding loweredFrom
+    lowering-end l = walking-end part whole (loweredFrom worth r) i here l

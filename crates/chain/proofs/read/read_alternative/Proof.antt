@@ -1,0 +1,30 @@
+-- `chain::read::read_alternative` meets its contract, by the mark asked for.
+-- Assumes nothing.
+use borrow.Author.Needs.{needs}
+use Rattle.chain.proofs.Looks.{look-depth, look-links}
+use Rattle.chain.proofs.read.read_alternative.Statement.{statement}
+use Rattle.chain.proofs.read.read_alternative.Tie as tie
+use Rattle.chain.proofs.read.read_alternative.Reads as reads
+use Rattle.chain.proofs.read.read_alternative.Lts as lts
+use Rattle.chain.proofs.read.fewest_links.Reads as fewest-links-reads
+use Rattle.chain.proofs.read.greatest_depth.Reads as greatest-depth-reads
+
+greatest-depth-requires : tie.Need-greatest-depth-requires
+greatest-depth-requires c κs = search needs
+
+returns : tie.Need-returns
+returns c =
+    let a = c .before .before .before .before .before .before .before .args in
+    look-depth (a .q) (a .masks .now) (a .table .now) (a .ranks .now) (a .part .now) (a .at) (c .greatest-depth .result) (c .before .if1 .taken) (c .greatest-depth .ensures)
+
+fewest-links-requires : tie.Need-fewest-links-requires
+fewest-links-requires c κs = search needs
+
+returns-2 : tie.Need-returns-2
+returns-2 c =
+    let a = c .before .before .before .before .before .before .before .args in
+    look-links (a .q) (a .masks .now) (a .table .now) (a .ranks .now) (a .part .now) (a .at) (c .fewest-links .result) (c .before .if1 .left) (c .fewest-links .ensures)
+
+pub read-alternative-spec : {M : Type 1} → statement M
+read-alternative-spec =
+    tie.close (tie.spec greatest-depth-requires returns fewest-links-requires returns-2)
