@@ -9,5 +9,6 @@ pub mod Unique
 pub mod Visits
 pub mod Words
 pub mod Calls
+pub mod Choices
 pub mod Walk
 pub mod Sample
