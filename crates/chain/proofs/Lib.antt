@@ -9,6 +9,7 @@ pub mod Unique
 pub mod Visits
 pub mod Words
 pub mod Calls
+pub mod Choices
 pub mod Walk
 pub mod Writing
 pub mod Describes

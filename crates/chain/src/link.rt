@@ -21,7 +21,14 @@ pub struct Choice {
 }
 
 // The index from which on all entries pass as those behind a position, for the entries that stand from index `at` on.
-fn quiet_from(q: Asked, masks: &[u64], table: &[u64], ranks: &[u32], part: &[u32], at: usize) -> usize
+fn quiet_from(
+    q: Asked,
+    masks: &[u64],
+    table: &[u64],
+    ranks: &[u32],
+    part: &[u32],
+    at: usize,
+) -> usize
     requires { ⌜ Readable q (now masks) (now table) (now ranks) (now part) × (at ≤ length (now part)) ⌝ }
     ensures { λ r. ⌜ r ≡ tailFrom (behindIn q (now (masks .entry)) (now (table .entry))) at at (entriesFrom (drop at (now (part .entry)))) ⌝ }
 {
@@ -42,7 +49,15 @@ fn quiet_from(q: Asked, masks: &[u64], table: &[u64], ranks: &[u32], part: &[u32
 }
 
 // The first alternative, then the first position, that comes to no more than `k`, among the alternatives that stand from index `at` on.
-pub fn chosen_link(q: Asked, masks: &[u64], table: &[u64], ranks: &[u32], part: &[u32], at: usize, k: u32) -> Choice
+pub fn chosen_link(
+    q: Asked,
+    masks: &[u64],
+    table: &[u64],
+    ranks: &[u32],
+    part: &[u32],
+    at: usize,
+    k: u32,
+) -> Choice
     requires { ⌜ Readable q (now masks) (now table) (now ranks) (now part) × (at ≤ length (now part)) × (length (now part) ≤ 8192) ⌝ }
     ensures { λ r. ⌜ Chosen q (now (masks .entry)) (now (table .entry)) (now (ranks .entry)) (now (part .entry)) at k r ⌝ }
 {
@@ -67,16 +82,17 @@ pub fn chosen_link(q: Asked, masks: &[u64], table: &[u64], ranks: &[u32], part: 
                 if !is_entry(e) {
                     break;
                 }
-                i += 1;
                 let t = traits_of(q, masks, table, ranks, e);
-                if ok & (quiet <= i) & (t.rank <= k) {
+                let next = i + 1;
+                if ok & (quiet <= next) & (t.rank <= k) {
                     break 'found Choice {
                         alternative: alternative,
-                        position: (i - 1 - start) as u32,
+                        position: (i - start) as u32,
                         entry: payload_of(e),
                     };
                 }
                 ok = ok & t.ahead;
+                i = next;
             }
             alternative += 1;
         } else if !is_entry(w) {
@@ -90,7 +106,15 @@ pub fn chosen_link(q: Asked, masks: &[u64], table: &[u64], ranks: &[u32], part: 
 }
 
 // The first alternative that comes to no more than `k`, among those that stand from index `at` on.
-pub fn chosen_alternative(q: Asked, masks: &[u64], table: &[u64], ranks: &[u32], part: &[u32], at: usize, k: u32) -> u32
+pub fn chosen_alternative(
+    q: Asked,
+    masks: &[u64],
+    table: &[u64],
+    ranks: &[u32],
+    part: &[u32],
+    at: usize,
+    k: u32,
+) -> u32
     requires { ⌜ Readable q (now masks) (now table) (now ranks) (now part) × (at ≤ length (now part)) × (length (now part) ≤ 8192) ⌝ }
     ensures { λ r. ⌜ (r ≡ alternativeFrom (lookIn q (now (masks .entry)) (now (table .entry)) (inRanks q (now (ranks .entry)))) k 0 (alternativesFrom (drop at (now (part .entry))))) × (r ≤ 8192) ⌝ }
 {
