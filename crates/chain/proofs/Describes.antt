@@ -10,6 +10,7 @@ use mathlib.Core.Bool.{Bool, true, false, cond}
 use mathlib.Core.List.{List, [], _∷_}
 use lib.ListN.{length, getD}
 use lib.Dec.{eqb, ltb}
+use borrow.Author.Tests.{ltb-true}
 use Rattle.column.specs.Sets.{inColumn}
 use Rattle.column.proofs.Operations.{in-column}
 use Rattle.image.specs.Library.{has, Library, Alternative, Entry, step, call}
@@ -29,7 +30,7 @@ use Rattle.chain.specs.Choice.{linkIn, linkEntry, linkAt, linksIn, quiet
 use Rattle.chain.specs.Described.{isFirst, markNumber, Asks, Described}
 use Rattle.chain.specs.declared.entry.Asked.{Asked}
 use Rattle.chain.proofs.Depth.{step-rank, step-passes}
-use Rattle.chain.proofs.Links.{entriesOf, chosenAt, positionAt, chosen, chosen-rank}
+use Rattle.chain.proofs.Links.{entriesOf, chosenAt, positionAt, chosen, chosen-rank, ranked-listed}
 use Rattle.chain.proofs.Walk.{alternative-from, link-from}
 
 cond-mark : (x y : Bool) → cond x 0 (cond y 1 2) ≡ markNumber (cond x present (cond y absent untouched))
@@ -47,6 +48,10 @@ same-number absent untouched = refl
 same-number untouched present = refl
 same-number untouched absent = refl
 same-number untouched untouched = refl
+
+by-test : (b : Bool) (x y : Answer) → cond b x y ≡ elim b [ true ↦ x | false ↦ y ]
+by-test true x y = refl
+by-test false x y = refl
 
 module _ (L : Library) (q : Asked) (Q : Question) (masks table part places : List ℕ) (asks : Asks L q Q) (described : Described L masks table part places) where
   abbrev f : ℕ
@@ -119,18 +124,20 @@ module _ (L : Library) (q : Asked) (Q : Question) (masks table part places : Lis
   quiet-number : (m : Mark) → m ≡ untouched → eqb (markNumber m) 2 ≡ true
   quiet-number m e = ap (λ (n : Mark). eqb (markNumber n) 2) e
 
+  abbrev lookBy : Bool → Look
+  lookBy b T es =
+      cond b (depthLook (q .none) (markIn q masks) T es) (linkLook (q .none) (markIn q masks) (aheadIn q masks table) (behindIn q masks table) T es)
+
   -- the looks are the library's
   pub touch-look : Q .mark ≢ untouched → lookIn q masks table ≡ touchLook L Q f
   touch-look touch =
-      ap (λ (b : Bool) (T : Ranks) (es : Alternative). cond b (depthLook (q .none) (markIn q masks) T es) (linkLook (q .none) (markIn q masks) (aheadIn q masks table) (behindIn q masks table) T es))
-      (two-is false (touch-number (Q .mark) touch))
+      ap lookBy (two-is false (touch-number (Q .mark) touch))
       ∙ ap₂ (λ (n : ℕ) (t : Item → Bool). linkLook n t (aheadIn q masks table) (behindIn q masks table)) (asks .none) mark-is
       ∙ ap₂ (λ (a b : Entry → Bool). linkLook (unranked L) (hasMark L Q f) a b) ahead-is behind-is
 
   pub quiet-look : Q .mark ≡ untouched → lookIn q masks table ≡ untouchedLook L Q f
   quiet-look quiet =
-      ap (λ (b : Bool) (T : Ranks) (es : Alternative). cond b (depthLook (q .none) (markIn q masks) T es) (linkLook (q .none) (markIn q masks) (aheadIn q masks table) (behindIn q masks table) T es))
-      (two-is true (quiet-number (Q .mark) quiet))
+      ap lookBy (two-is true (quiet-number (Q .mark) quiet))
       ∙ ap₂ (λ (n : ℕ) (t : Item → Bool). depthLook n t) (asks .none) mark-is
 
   -- ---- the answer by the ranks
@@ -147,8 +154,65 @@ module _ (L : Library) (q : Asked) (Q : Question) (masks table part places : Lis
         → answerIn q masks table ranks part places c ≡ untouchedAnswer L Q f T c
     unfolding answerIn quietLink untouchedAnswer
     quiet-answer quiet c lt =
+        let look = quiet-look quiet in
         let alternative : alternativeFrom (lookIn q masks table (inRanks q ranks)) (pred (inRanks q ranks c)) 0 (alternativesAt part places c)
             ≡ chosenAlternative (L .sequences) (untouchedLook L Q f) T (pred (T c)) c =
-        ?
-        in
-        ?
+        ap₂ (λ (n : ℕ) (alts : List Alternative). alternativeFrom (lookIn q masks table (λ d. getD ranks d n)) (pred (getD ranks c n)) 0 alts) (asks .none) (described .placed c lt)
+        ∙ ap (λ (l : Look). alternativeFrom (l T) (pred (T c)) 0 (alternativesOf (L .sequences) c)) look
+        ∙ sym (alternative-from (L .sequences) (untouchedLook L Q f) T (pred (T c)) c) in
+        ap (λ (b : Bool). cond (ltb (inRanks q ranks c) (q .none)) (shown (cond b (quietLink q masks table ranks part places c ∷ []) (linksIn q masks table ranks part places (inRanks q ranks c) c))) none)
+        (two-is true (quiet-number (Q .mark) quiet))
+        ∙ ap (λ (i : ℕ). cond (ltb (inRanks q ranks c) (q .none)) (shown (untouchedLink c i ∷ [])) none) alternative
+        ∙ ap (λ (n : ℕ). cond (ltb (getD ranks c n) n) (shown (untouchedLink c (chosenAlternative (L .sequences) (untouchedLook L Q f) T (pred (T c)) c) ∷ [])) none) (asks .none)
+        ∙ by-test (ltb (T c) (unranked L)) (shown (untouchedLink c (chosenAlternative (L .sequences) (untouchedLook L Q f) T (pred (T c)) c) ∷ [])) none
+
+    -- a question that asks for a touch, by ranks that are reached and that no look lowers
+    module _ (touch : Q .mark ≢ untouched) (reached : Reached (Linked L Q f) (unranked L) T) (closed : Closed (L .sequences) (touchLook L Q f) T) where
+      link-is : (k c : ℕ) → k < unranked L → c < length (L .sequences)
+          → linkAt q masks table ranks part places k c ≡ touchLink c (chosenAt L Q f (unranked L) T c k) (positionAt L Q f (unranked L) T c k)
+      unfolding linkIn
+      link-is k c low lt =
+          ap (λ (alts : List Alternative). linkFrom (q .none) (entryRank (q .none) (markIn q masks) (inRanks q ranks)) (aheadIn q masks table) (behindIn q masks table) c k 0 alts)
+          (described .placed c lt)
+          ∙ ap₂ (λ (n : ℕ) (r : Entry → ℕ). linkFrom n r (aheadIn q masks table) (behindIn q masks table) c k 0 (alternativesOf (L .sequences) c)) (asks .none) (rank-is ranks)
+          ∙ ap₂ (λ (a b : Entry → Bool). linkFrom (unranked L) (entryRank (unranked L) (hasMark L Q f) T) a b c k 0 (alternativesOf (L .sequences) c)) ahead-is behind-is
+          ∙ sym (link-from (L .sequences) (unranked L) (hasMark L Q f) (aheadOf L Q f (Q .side)) (behindOf L Q f (Q .side)) T k low c)
+
+      -- the links after the one that is chosen
+      after-is : (k : ℕ) → k < unranked L → (e : Entry) → entryRank (unranked L) (hasMark L Q f) T e ≡ k
+          → ((d : ℕ) → T d ≡ k → linksIn q masks table ranks part places k d ≡ linksFrom L Q f T k d)
+          → linksIn q masks table ranks part places k (entryNumber e) ≡ followed e (λ d. linksFrom L Q f T k d)
+      unfolding linksIn linksFrom
+      after-is zero low (step a) e rest = refl
+      after-is (suc k) low (step a) e rest =
+          let z = step-rank (unranked L) (hasMark L Q f a) (step-passes (unranked L) (hasMark L Q f a) (omega arith)) in
+          absurd (omega arith)
+      after-is k low (call d) e rest = rest d e
+
+      links-are : (k c : ℕ) → T c ≡ k → k < unranked L → linksIn q masks table ranks part places k c ≡ linksFrom L Q f T k c
+      unfolding linksIn linksFrom
+      links-are zero c e lt = refl
+      links-are (suc k) c e lt =
+          let i = chosenAt L Q f (unranked L) T c k in
+          let p = positionAt L Q f (unranked L) T c k in
+          let listed = ranked-listed L Q f (unranked L) touch T reached closed c (omega arith) in
+          let link = link-is k c (omega arith) listed in
+          let rank =
+          chosen-rank L Q f (unranked L) touch T reached closed c k i p e lt (chosen L Q f (unranked L) touch T reached closed c k e lt) in
+          ap (λ (l : Link). l ∷ linksIn q masks table ranks part places k (linkEntry (alternativesAt part places c) l)) link
+          ∙ ap (λ (alts : List Alternative). touchLink c i p ∷ linksIn q masks table ranks part places k (entryNumber (entryAt (getD alts i []) p))) (described .placed c listed)
+          ∙ ap (λ (ls : Chain). touchLink c i p ∷ ls)
+          (after-is k (omega arith) (entryAt (entriesOf L c i) p) rank (λ d same. links-are k d same (omega arith)))
+
+      pub touch-answer : (c : ℕ) → answerIn q masks table ranks part places c ≡ touchAnswer L Q f T c
+      unfolding answerIn touchAnswer
+      touch-answer c =
+          ap (λ (b : Bool). cond (ltb (inRanks q ranks c) (q .none)) (shown (cond b (quietLink q masks table ranks part places c ∷ []) (linksIn q masks table ranks part places (inRanks q ranks c) c))) none)
+          (two-is false (touch-number (Q .mark) touch))
+          ∙ ap (λ (n : ℕ). cond (ltb (getD ranks c n) n) (shown (linksIn q masks table ranks part places (getD ranks c n) c)) none) (asks .none)
+          ∙ go (ltb (T c) (unranked L)) refl
+        where
+          go : (b : Bool) → ltb (T c) (unranked L) ≡ b
+              → cond b (shown (linksIn q masks table ranks part places (T c) c)) none ≡ elim b [ true ↦ shown (linksFrom L Q f T (T c) c) | false ↦ none ]
+          go true e = ap shown (links-are (T c) c refl (ltb-true (T c) (unranked L) e))
+          go false e = refl

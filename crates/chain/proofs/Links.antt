@@ -239,17 +239,18 @@ module _ (L : Library) (q : Question) (f none : ℕ) where
           let s = closed c i (ch .alternative .listed) in
           omega arith
 
-      links-gapless : Gapless T none (length (L .sequences))
-      links-gapless = record { index = index; next = next }
+      -- a sequence with a rank is one of the library's
+      pub ranked-listed : (c : ℕ) → T c < none → c < length (L .sequences)
+      ranked-listed c lt = let r = reached c lt in first-listed (r .chain) c (r .run) (r .about) (r .stands)
         where
           first-listed : (ls : Chain) (c : ℕ) (w : List Item) → About c ls → StandsFor L q f ls w → c < length (L .sequences)
           first-listed [] c w about stands = absurd about
           first-listed (touchLink d i p ∷ ls) c w about stands = rw about at (alternative-below (L .sequences) d i (stands .0))
           first-listed (untouchedLink d i ∷ ls) c w about stands = rw about at (alternative-below (L .sequences) d i (stands .0))
 
-          index : (c : ℕ) → T c < none → c < length (L .sequences)
-          index c lt = let r = reached c lt in first-listed (r .chain) c (r .run) (r .about) (r .stands)
-
+      links-gapless : Gapless T none (length (L .sequences))
+      links-gapless = record { index = ranked-listed; next = next }
+        where
           entry : (k : ℕ) → suc (suc k) < none → (e : Entry) → entryRank none (hasMark L q f) T e ≡ suc k → (d : ℕ) × (T d ≡ suc k)
           entry k lt (call d) e = (d, e)
           entry k lt (step a) e = let z = step-rank none (hasMark L q f a) (step-passes none (hasMark L q f a) (omega arith)) in absurd (omega arith)
