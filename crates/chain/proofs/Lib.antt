@@ -11,3 +11,4 @@ pub mod Words
 pub mod Calls
 pub mod Walk
 pub mod Sample
+pub mod Settling
