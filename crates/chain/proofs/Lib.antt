@@ -16,3 +16,4 @@ pub mod Describes
 pub mod Sample
 pub mod Folds
 pub mod Looks
+pub mod Settling

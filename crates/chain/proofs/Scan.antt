@@ -7,7 +7,7 @@ use mathlib.Core.Bool.{Bool, true, false, cond, _&&_, false≢true, and-assoc}
 use mathlib.Core.List.{List, [], _∷_, _++_}
 use native.Mathlib.Omega.{arith}
 use native.Mathlib.Nat.{eq-or-lt-of-le, le-of-suc-le-suc, suc-mul}
-use lib.ListN.{length, getD}
+use lib.ListN.{length, getD, set}
 use lib.Dec.{leb}
 use borrow.Author.Tests.{leb-true, le-leb, lt-leb, leb-false}
 use Rattle.outcome.proofs.Tests.{passes-or-not}
@@ -134,6 +134,13 @@ total-same v d (x ∷ T) le same i lt =
     go : (i : ℕ) → i < suc (length T) → ((j : ℕ) → j < length T → v (suc j) ≡ getD T j d) → v 0 ≡ x → v i ≡ getD (x ∷ T) i d
     go zero l rest here = here
     go (suc j) l rest here = rest j (omega arith)
+
+-- the sum with another number at an index
+pub total-set : (T : List ℕ) (c v d : ℕ) → c < length T → total (set T c v) + getD T c d ≡ total T + v
+unfolding total
+total-set [] c v d lt = absurd (omega arith)
+total-set (x ∷ T) zero v d lt = omega arith
+total-set (x ∷ T) (suc c) v d lt = let h = total-set T c v d (omega arith) in omega arith
 
 -- a count of the indices below n that pass
 abbrev one : Bool → ℕ

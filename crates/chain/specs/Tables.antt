@@ -88,6 +88,13 @@ pub record AlternativeRead (worth : Alternative → ℕ) (part : List ℕ) (at :
 abbrev pub alternativesAt : List ℕ → List ℕ → ℕ → List Alternative
 alternativesAt part places c = alternativesFrom (drop (getD places c 0 + 1) part)
 
+-- what a visit of the sequences below n asks of the areas
+pub record Visitable (q : Asked) (n : ℕ) (masks table ranks part places : List ℕ) : Type 0 where
+  pub readable : Readable q masks table ranks part
+  pub ranked : n ≤ length ranks
+  pub placed : n ≤ length places
+  pub within : (c : ℕ) → c < n → getD places c 0 < length part
+
 module _ (q : Asked) (masks table part places : List ℕ) where
   -- the rank of sequence c after a visit
   abbrev pub visitedRank : List ℕ → ℕ → ℕ

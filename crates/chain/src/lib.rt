@@ -2,5 +2,6 @@
 pub mod answer;
 pub mod entry;
 pub mod link;
+pub mod pass;
 pub mod read;
 pub mod write;

@@ -21,7 +21,7 @@ use Rattle.image.proofs.Rows.{all-at}
 use Rattle.outcome.specs.Area.{outcomes, Blank, TableAsked, FillAsked, libraryIn}
 use Rattle.outcome.specs.Execution.{noStep}
 use Rattle.outcome.specs.Words.{allFacts}
-use Rattle.outcome.specs.Passes.{Visitable, Pass}
+use Rattle.outcome.specs.Passes.{Pass, lacking, Visitable, visited}
 use Rattle.outcome.proofs.Filled.{table-filled}
 use Rattle.outcome.proofs.Settled.{Given}
 
@@ -93,9 +93,9 @@ module _ (h : Head) (steps sequences table : List ℕ) (asked : FillAsked h step
       }
 
   pub fill-done : (all : ℕ) (t₀ t : List ℕ) → all ≡ allFacts (h .facts) → length t₀ ≡ length table → Blank t₀
-      → Pass all ms sequences ps (h .sequences) t₀ t false → t ≡ outcomes (libraryIn h steps sequences)
+      → Pass (visited all ms sequences ps) lacking (h .sequences) t₀ t false → t ≡ outcomes (libraryIn h steps sequences)
   fill-done all t₀ t e long clear pass =
-      let p = subst (λ (a : ℕ). Pass a ms sequences ps (h .sequences) t₀ t false) e pass in
+      let p = subst (λ (a : ℕ). Pass (visited a ms sequences ps) lacking (h .sequences) t₀ t false) e pass in
       table-filled (libraryIn h steps sequences) h ms sequences ps fill-given fill-low t₀ t (long ∙ asked .long) clear (p .reached) (p .settled refl)
 
 -- ---- an accepted image

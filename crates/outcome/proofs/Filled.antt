@@ -19,13 +19,13 @@ use Rattle.outcome.specs.Possible.{columnPossible}
 use Rattle.outcome.specs.Area.{outcomeWord, outcomeRows, outcomes}
 use Rattle.outcome.specs.Rows.{columnNumber}
 use Rattle.outcome.specs.Words.{allFacts, rowIn, wordsOf, isSet}
-use Rattle.outcome.specs.Passes.{Reached, Settled}
+use Rattle.outcome.specs.Passes.{Reached, Settled, visited}
 use Rattle.outcome.specs.declared.row.Row.{Row}
 use Rattle.outcome.proofs.Low.{LowRow, none-low, reached-low}
 use Rattle.outcome.proofs.Rows.{by-column}
 use Rattle.outcome.proofs.Settled.{Given, blank-row, settled-bits}
 use Rattle.outcome.proofs.Stores.{wordsFrom, take-words}
-use Rattle.outcome.proofs.Visits.{reached-length}
+use Rattle.outcome.proofs.Visits.{visits-lower, reached-length}
 
 -- a word of a table is the word of its row
 word-row : (t : List ℕ) (c j : ℕ) → j < 8 → getD t (8 * c + j) 0 ≡ getD (wordsOf (rowIn t c)) j 0
@@ -77,8 +77,8 @@ table-rows L (suc n) c t e words =
 
 module _ (L : Library) (h : Head) (masks part places : List ℕ) (given : Given L h masks part places) (low-masks : (k : ℕ) → getD masks k 0 < 2 ^ L .facts)
     (t₀ t : List ℕ) (long : length t₀ ≡ 8 * h .sequences) (blank : (k : ℕ) → getD t₀ k 0 ≡ 0)
-    (reached : Reached (allFacts (L .facts)) masks part places (h .sequences) t₀ t)
-    (settled : Settled (allFacts (L .facts)) masks part places (h .sequences) t) where
+    (reached : Reached (visited (allFacts (L .facts)) masks part places) (h .sequences) t₀ t)
+    (settled : Settled (visited (allFacts (L .facts)) masks part places) (h .sequences) t) where
   low : (c : ℕ) → LowRow (L .facts) (rowIn t c)
   low =
       reached-low (L .facts) masks part places low-masks (h .sequences) (omega arith)
@@ -96,5 +96,5 @@ module _ (L : Library) (h : Head) (masks part places : List ℕ) (given : Given 
   pub table-filled : t ≡ outcomes L
   unfolding outcomes
   table-filled =
-      table-rows L (length (L .sequences)) 0 t (omega (arith, reached-length (allFacts (L .facts)) masks part places (h .sequences) reached, given .sequences))
+      table-rows L (length (L .sequences)) 0 t (omega (arith, reached-length (visits-lower (allFacts (L .facts)) masks part places (h .sequences)) reached, given .sequences))
       (λ i j l k. word-is i j k ∙ ap (outcomeWord L j) (sym (zero-add i)))

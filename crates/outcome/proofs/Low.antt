@@ -18,7 +18,7 @@ use Rattle.outcome.specs.Passes.{visitedRow, visited, Reached, here, nex
 use Rattle.outcome.specs.declared.row.Marks.{Marks}
 use Rattle.outcome.specs.declared.row.Row.{Row}
 use Rattle.outcome.proofs.Stores.{row-same, row-other}
-use Rattle.outcome.proofs.Visits.{reached-length}
+use Rattle.outcome.proofs.Visits.{visits-lower, reached-length}
 
 module _ (n : ℕ) where
   LowMarks : Marks → Type 0
@@ -139,7 +139,7 @@ module _ (n : ℕ) where
   -- ---- a table
 
   module _ (masks part places : List ℕ) (low-masks : (k : ℕ) → getD masks k 0 < 2 ^ n) (m : ℕ) where
-    pub reached-low : {t₀ t : List ℕ} → 8 * m ≤ length t₀ → ((c : ℕ) → LowRow (rowIn t₀ c)) → Reached (allFacts n) masks part places m t₀ t
+    pub reached-low : {t₀ t : List ℕ} → 8 * m ≤ length t₀ → ((c : ℕ) → LowRow (rowIn t₀ c)) → Reached (visited (allFacts n) masks part places) m t₀ t
         → (c : ℕ) → LowRow (rowIn t c)
     reached-low room low here = low
     reached-low room low (next {table = s} c l r) = λ d.
@@ -147,7 +147,7 @@ module _ (n : ℕ) where
         let y = sequenceWords (allFacts n) masks s noRow (drop (getD places c 0 + 1) part) in
         elim (ℕ-discrete d c) [
           | yes e ↦ subst (λ (k : ℕ). LowRow (rowIn (visited (allFacts n) masks part places s c) k)) (sym e)
-              (subst LowRow (sym (row-same s c (orRows (rowIn s c) y) (omega (arith, reached-length (allFacts n) masks part places m r))))
+              (subst LowRow (sym (row-same s c (orRows (rowIn s c) y) (omega (arith, reached-length (visits-lower (allFacts n) masks part places m) r))))
               (union-low (rowIn s c) y (before c) (sequence-low masks s low-masks before (drop (getD places c 0 + 1) part) noRow none-low)))
           | no apart ↦ subst LowRow (sym (row-other s c (orRows (rowIn s c) y) d apart)) (before d)
         ]

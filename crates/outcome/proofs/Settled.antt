@@ -28,7 +28,7 @@ use Rattle.outcome.proofs.Bridge.{Masked, tableBits, sequence-bits}
 use Rattle.outcome.proofs.Rows.{by-column, columnNumber-below, none-good, or-good, read-good, rows-possible}
 use Rattle.outcome.proofs.Stores.{row-same, row-other}
 use Rattle.outcome.proofs.Tests.{or-right, some-intro}
-use Rattle.outcome.proofs.Visits.{reached-length}
+use Rattle.outcome.proofs.Visits.{visits-lower, reached-length}
 use Rattle.outcome.proofs.Words.{or-bits, none-set}
 
 -- rows that agree are good together
@@ -135,14 +135,14 @@ module _ (L : Library) (h : Head) (masks part places : List ℕ) (given : Given 
 
   -- from a blank table every row stays good
   reached-good : {t₀ t : List ℕ} → 8 * h .sequences ≤ length t₀ → ((k : ℕ) → getD t₀ k 0 ≡ 0)
-      → Reached (allFacts (L .facts)) masks part places (h .sequences) t₀ t → (f : ℕ) → f < L .facts → GoodRows L f (tableBits t f)
+      → Reached (visited (allFacts (L .facts)) masks part places) (h .sequences) t₀ t → (f : ℕ) → f < L .facts → GoodRows L f (tableBits t f)
   unfolding visit
   reached-good {t₀} room blank here f below = λ c.
       good-agree L f c (λ (j : ℕ). false) (tableBits t₀ f c) (λ j k. sym (ap (λ (r : words.Row). bitRow r f j) (blank-row t₀ blank c) ∙ none-row f j k)) (none-good L f c)
   reached-good room blank (next {table = s} c l r) f below =
-      good-visit s (omega (arith, reached-length (allFacts (L .facts)) masks part places (h .sequences) r)) c l f below (reached-good room blank r f below)
+      good-visit s (omega (arith, reached-length (visits-lower (allFacts (L .facts)) masks part places (h .sequences)) r)) c l f below (reached-good room blank r f below)
 
-  settled-closed : (t : List ℕ) → 8 * h .sequences ≤ length t → Settled (allFacts (L .facts)) masks part places (h .sequences) t
+  settled-closed : (t : List ℕ) → 8 * h .sequences ≤ length t → Settled (visited (allFacts (L .facts)) masks part places) (h .sequences) t
       → (f : ℕ) → f < L .facts → ClosedRows L f (tableBits t f)
   unfolding visit
   settled-closed t room settled f below c i k j u e =
@@ -153,8 +153,8 @@ module _ (L : Library) (h : Head) (masks part places : List ℕ) (given : Given 
 
   -- what the bits of such a table say
   pub settled-bits : (t₀ t : List ℕ) → 8 * h .sequences ≤ length t₀ → ((k : ℕ) → getD t₀ k 0 ≡ 0)
-      → Reached (allFacts (L .facts)) masks part places (h .sequences) t₀ t → Settled (allFacts (L .facts)) masks part places (h .sequences) t
+      → Reached (visited (allFacts (L .facts)) masks part places) (h .sequences) t₀ t → Settled (visited (allFacts (L .facts)) masks part places) (h .sequences) t
       → (f : ℕ) → f < L .facts → (j : ℕ) → j < 8 → (c : ℕ) → tableBits t f c j ≡ columnPossible L j c f
   settled-bits t₀ t room blank reached settled f below =
       rows-possible L f (tableBits t f) (reached-good room blank reached f below)
-      (settled-closed t (omega (arith, reached-length (allFacts (L .facts)) masks part places (h .sequences) reached)) settled f below)
+      (settled-closed t (omega (arith, reached-length (visits-lower (allFacts (L .facts)) masks part places (h .sequences)) reached)) settled f below)

@@ -1,24 +1,113 @@
--- Visits and passes: what a visit promises, and what holds at the head of each loop over visits.
+-- Visits in place until nothing changes: what holds at the head of each loop over visits, for any table; and what a visit of the outcome
+-- table promises.
 -- Assumes nothing.
-use Prim.Native.Nat.{ℕ, suc, _+_, _-_, _*_, _^_, _≤_, _<_}
+use Prim.Native.Nat.{ℕ, _+_, _*_, _≤_, _<_}
 use native.Mathlib.Omega.{arith}
-use mathlib.Core.Path.{_≡_, refl, sym, ap, ap₂, _∙_, subst}
+use mathlib.Core.Path.{_≡_, refl, sym, ap, _∙_, subst}
 use mathlib.Core.Bool.{Bool, true, false, not, _||_, false≢true, true≢false}
-use mathlib.Core.List.{List, [], _∷_}
+use mathlib.Core.List.{List}
 use lib.ListN.{length, getD, drop}
 use borrow.Author.Tests.{not-true, not-false}
 use borrow.Author.Count.{below-none, below-more}
-use Rattle.outcome.specs.Words.{noRow, orRows, rowIn, withRow, sameRows}
-use Rattle.outcome.specs.Walks.{Readable, sequenceWords}
-use Rattle.outcome.specs.Passes.{lacking, Visitable, visitedRow, visited, Visit, Reached, here, next, Settled, Pass}
-use Rattle.outcome.specs.declared.row.Row.{Row}
+use Rattle.outcome.specs.Words.{noRow, rowIn, withRow, sameRows}
+use Rattle.outcome.specs.Walks.{sequenceWords}
+use Rattle.outcome.specs.Passes.{Visit, Reached, here, next, Pass, lacking, Visitable, visitedRow, visited}
 use Rattle.outcome.proofs.Stores.{Fitting, row-length, row-again, rows-equal, lacking-least, lacking-falls}
+
+-- what the laws ask of a visit: it keeps the length, and does not raise the weight of a table that has the room
+pub record Lowers (visit : List ℕ → ℕ → List ℕ) (weight : List ℕ → ℕ) (n room : ℕ) : Type 0 where
+  pub keeps : (t : List ℕ) (c : ℕ) → length (visit t c) ≡ length t
+  pub lowers : (t : List ℕ) (c : ℕ) → c < n → room ≤ length t → weight (visit t c) ≤ weight t
+
+-- visits that agree lead to the same tables
+pub reached-same : (visit visit′ : List ℕ → ℕ → List ℕ) (n : ℕ) → ((t : List ℕ) (c : ℕ) → c < n → visit t c ≡ visit′ t c) → {t s : List ℕ} → Reached visit n t s
+    → Reached visit′ n t s
+reached-same visit visit′ n same here = here
+reached-same visit visit′ n same {t} (next {table = s} c l r) =
+    subst (Reached visit′ n t) (sym (same s c l)) (next c l (reached-same visit visit′ n same r))
+
+pub reached-on : {visit : List ℕ → ℕ → List ℕ} {n : ℕ} {t s u : List ℕ} → Reached visit n t s → Reached visit n s u → Reached visit n t u
+reached-on r here = r
+reached-on r (next c l q) = next c l (reached-on r q)
+
+-- what holds at the head of the loop over all numbers
+pub record Passing (visit : List ℕ → ℕ → List ℕ) (weight : List ℕ → ℕ) (n : ℕ) (t₀ t : List ℕ) (changed : Bool) (c : ℕ) : Type 0 where
+  pub within : c ≤ n
+  pub reached : Reached visit n t₀ t
+  pub falls : changed ≡ true → weight t < weight t₀
+  pub stays : changed ≡ false → t ≡ t₀
+  pub settled : changed ≡ false → (k : ℕ) → k < c → visit t₀ k ≡ t₀
+
+module _ {visit : List ℕ → ℕ → List ℕ} {weight : List ℕ → ℕ} {n : ℕ} where
+  -- one more visit
+  pub reached-visit : {t : List ℕ} (s : List ℕ) (c : ℕ) (u : List ℕ) (b : Bool) → c < n → Reached visit n t s → Visit visit weight s c u b → Reached visit n t u
+  reached-visit {t} s c u b l r v = subst (Reached visit n t) (sym (v .done)) (next c l r)
+
+  pub passing-start : (t : List ℕ) → Passing visit weight n t t false 0
+  passing-start t =
+      record {
+        within = omega arith;
+        reached = here;
+        falls = λ e. absurd (false≢true e);
+        stays = λ e. refl;
+        settled = λ e. below-none (λ (k : ℕ). visit t k ≡ t);
+      }
+
+  pub passing-end : (t₀ t : List ℕ) (changed : Bool) (c : ℕ) → c ≡ n → Passing visit weight n t₀ t changed c → Pass visit weight n t₀ t changed
+  passing-end t₀ t changed c e p =
+      record {
+        reached = p .reached;
+        falls = p .falls;
+        settled = λ u k l. subst (λ (s : List ℕ). visit s k ≡ s) (sym (p .stays u)) (p .settled u k (omega arith));
+      }
+
+module _ {visit : List ℕ → ℕ → List ℕ} {weight : List ℕ → ℕ} {n room : ℕ} (laws : Lowers visit weight n room) where
+  pub reached-length : {t s : List ℕ} → Reached visit n t s → length s ≡ length t
+  reached-length here = refl
+  reached-length (next {table = s} c l r) = laws .keeps s c ∙ reached-length r
+
+  pub reached-least : {t s : List ℕ} → room ≤ length t → Reached visit n t s → weight s ≤ weight t
+  reached-least long here = omega arith
+  reached-least long (next {table = s} c l r) =
+      omega (arith, laws .lowers s c l (omega (arith, reached-length r)), reached-least long r)
+
+  pub passing-turn : (t₀ t : List ℕ) (changed : Bool) (c : ℕ) (t′ : List ℕ) (b : Bool) → room ≤ length t₀ → c < n → Passing visit weight n t₀ t changed c
+      → Visit visit weight t c t′ b → Passing visit weight n t₀ t′ (b || changed) (c + 1)
+  passing-turn t₀ t changed c t′ true long l p v =
+      record {
+        within = omega arith;
+        reached = reached-visit t c t′ true l (p .reached) v;
+        falls = λ e. omega (arith, v .falls refl, reached-least long (p .reached));
+        stays = λ e. absurd (true≢false e);
+        settled = λ e. absurd (true≢false e);
+      }
+  passing-turn t₀ t changed c t′ false long l p v =
+      let same = v .stays refl in
+      record {
+        within = omega arith;
+        reached = reached-visit t c t′ false l (p .reached) v;
+        falls = λ e. rw same (p .falls e);
+        stays = λ e. same ∙ p .stays e;
+        settled = λ e.
+            below-more (λ (k : ℕ). visit t₀ k ≡ t₀) c (p .settled e) (subst (λ (s : List ℕ). visit s c ≡ s) (p .stays e) (sym (v .done) ∙ same));
+      }
+
+  -- visits before a pass
+  pub pass-after : (t s u : List ℕ) (b : Bool) → room ≤ length t → Reached visit n t s → Pass visit weight n s u b → Pass visit weight n t u b
+  pass-after t s u b long r p =
+      record {
+        reached = reached-on r (p .reached);
+        falls = λ e. omega (arith, p .falls e, reached-least long r);
+        settled = p .settled;
+      }
+
+-- ---- the outcome table
 
 module _ (all : ℕ) (masks part places : List ℕ) where
   -- a visit, from what its code does
   pub visit-made : (t : List ℕ) (c : ℕ) (t′ : List ℕ) (same : Bool) → 8 * c + 8 ≤ length t → t′ ≡ visited all masks part places t c
       → Fitting (visitedRow all masks part places t c) → same ≡ sameRows (rowIn t c) (visitedRow all masks part places t c)
-      → Visit all masks part places t c t′ (not same)
+      → Visit (visited all masks part places) lacking t c t′ (not same)
   visit-made t c t′ same room done fit e =
       record {
         done = done;
@@ -27,93 +116,19 @@ module _ (all : ℕ) (masks part places : List ℕ) where
             done ∙ ap (withRow t c) (sym (rows-equal (rowIn t c) (visitedRow all masks part places t c) (sym e ∙ not-false same unchanged))) ∙ row-again t c;
       }
 
-  pub visited-length : (t : List ℕ) (c : ℕ) → length (visited all masks part places t c) ≡ length t
-  visited-length t c = row-length t c (visitedRow all masks part places t c)
+  pub visits-lower : (n : ℕ) → Lowers (visited all masks part places) lacking n (8 * n)
+  visits-lower n =
+      record {
+        keeps = λ t c. row-length t c (visitedRow all masks part places t c);
+        lowers = λ t c l room. lacking-least t c (sequenceWords all masks t noRow (drop (getD places c 0 + 1) part)) (omega arith);
+      }
 
-  module _ (n : ℕ) where
-    pub reached-length : {t s : List ℕ} → Reached all masks part places n t s → length s ≡ length t
-    reached-length here = refl
-    reached-length (next {table = s} c l r) = visited-length s c ∙ reached-length r
-
-    pub reached-least : {t s : List ℕ} → 8 * n ≤ length t → Reached all masks part places n t s → lacking s ≤ lacking t
-    reached-least room here = omega arith
-    reached-least room (next {table = s} c l r) =
-        omega (arith, lacking-least s c (sequenceWords all masks s noRow (drop (getD places c 0 + 1) part)) (omega (arith, reached-length r)), reached-least room r)
-
-    pub reached-on : {t s u : List ℕ} → Reached all masks part places n t s → Reached all masks part places n s u → Reached all masks part places n t u
-    reached-on r here = r
-    reached-on r (next c l q) = next c l (reached-on r q)
-
-    -- areas of the same lengths can be visited too
-    pub visitable-at : {t : List ℕ} (s : List ℕ) → length s ≡ length t → Visitable n masks part places t → Visitable n masks part places s
-    visitable-at s e v =
-        record {
-          readable = λ i l. let w = v .readable i l in (w .0, λ k. omega (arith, w .1 k));
-          rows = omega (arith, v .rows);
-          placed = v .placed;
-          within = v .within;
-        }
-
-    -- one more visit
-    pub reached-visit : {t : List ℕ} (s : List ℕ) (c : ℕ) (u : List ℕ) (b : Bool) → c < n → Reached all masks part places n t s
-        → Visit all masks part places s c u b → Reached all masks part places n t u
-    reached-visit {t} s c u b l r v = subst (Reached all masks part places n t) (sym (v .done)) (next c l r)
-
-    -- ---- the pass over all sequences
-
-    pub record Passing (t₀ t : List ℕ) (changed : Bool) (c : ℕ) : Type 0 where
-      pub within : c ≤ n
-      pub reached : Reached all masks part places n t₀ t
-      pub falls : changed ≡ true → lacking t < lacking t₀
-      pub stays : changed ≡ false → t ≡ t₀
-      pub settled : changed ≡ false → (k : ℕ) → k < c → visited all masks part places t₀ k ≡ t₀
-
-    pub passing-start : (t : List ℕ) → Passing t t false 0
-    passing-start t =
-        record {
-          within = omega arith;
-          reached = here;
-          falls = λ e. absurd (false≢true e);
-          stays = λ e. refl;
-          settled = λ e. below-none (λ (k : ℕ). visited all masks part places t k ≡ t);
-        }
-
-    pub passing-turn : (t₀ t : List ℕ) (changed : Bool) (c : ℕ) (t′ : List ℕ) (b : Bool) → 8 * n ≤ length t₀ → c < n → Passing t₀ t changed c
-        → Visit all masks part places t c t′ b → Passing t₀ t′ (b || changed) (c + 1)
-    passing-turn t₀ t changed c t′ true room l p v =
-        record {
-          within = omega arith;
-          reached = reached-visit t c t′ true l (p .reached) v;
-          falls = λ e. omega (arith, v .falls refl, reached-least room (p .reached));
-          stays = λ e. absurd (true≢false e);
-          settled = λ e. absurd (true≢false e);
-        }
-    passing-turn t₀ t changed c t′ false room l p v =
-        let same = v .stays refl in
-        record {
-          within = omega arith;
-          reached = reached-visit t c t′ false l (p .reached) v;
-          falls = λ e. rw same (p .falls e);
-          stays = λ e. same ∙ p .stays e;
-          settled = λ e.
-              below-more (λ (k : ℕ). visited all masks part places t₀ k ≡ t₀) c (p .settled e)
-              (subst (λ (s : List ℕ). visited all masks part places s c ≡ s) (p .stays e) (sym (v .done) ∙ same));
-        }
-
-    pub passing-end : (t₀ t : List ℕ) (changed : Bool) (c : ℕ) → c ≡ n → Passing t₀ t changed c → Pass all masks part places n t₀ t changed
-    passing-end t₀ t changed c e p =
-        record {
-          reached = p .reached;
-          falls = p .falls;
-          settled = λ u k l. subst (λ (s : List ℕ). visited all masks part places s k ≡ s) (sym (p .stays u)) (p .settled u k (omega arith));
-        }
-
-    -- visits before a pass
-    pub pass-after : (t s u : List ℕ) (b : Bool) → 8 * n ≤ length t → Reached all masks part places n t s → Pass all masks part places n s u b
-        → Pass all masks part places n t u b
-    pass-after t s u b room r p =
-        record {
-          reached = reached-on r (p .reached);
-          falls = λ e. omega (arith, p .falls e, reached-least room r);
-          settled = p .settled;
-        }
+-- areas of the same lengths can be visited too
+pub visitable-at : {n : ℕ} {masks part places t : List ℕ} (s : List ℕ) → length s ≡ length t → Visitable n masks part places t → Visitable n masks part places s
+visitable-at s e v =
+    record {
+      readable = λ i l. let w = v .readable i l in (w .0, λ k. omega (arith, w .1 k));
+      rows = omega (arith, v .rows);
+      placed = v .placed;
+      within = v .within;
+    }

@@ -1,5 +1,6 @@
--- Passes over the table until nothing changes, in the form that the loops follow: a visit of a sequence unites its row with what its
--- alternatives give by the table as it stands; a pass visits sequences one after the other, in place.
+-- Visits in place until nothing changes, in the form that the loops follow, for any table: a visit of a number gives another table, by the
+-- table as it stands, and a pass visits numbers one after the other. Then the visits of the outcome table: a visit of a sequence unites its
+-- row with what its alternatives give.
 use Prim.Native.Nat.{ℕ, _+_, _-_, _*_, _^_, _≤_, _<_}
 use mathlib.Core.Path.{_≡_}
 use mathlib.Core.Bool.{Bool, true, false}
@@ -8,6 +9,32 @@ use lib.ListN.{length, getD, drop}
 use Rattle.outcome.specs.Words.{noRow, orRows, rowIn, withRow}
 use Rattle.outcome.specs.Walks.{Readable, sequenceWords}
 use Rattle.outcome.specs.declared.row.Row.{Row}
+
+-- `visit` gives the table after a visit of number c
+module _ (visit : List ℕ → ℕ → List ℕ) where
+  -- tables that visits of the numbers below n lead to
+  pub data Reached (n : ℕ) (before : List ℕ) : List ℕ → Type 0 where
+    here : Reached n before before
+    next : {table : List ℕ} (c : ℕ) → c < n → Reached n before table → Reached n before (visit table c)
+
+  -- no visit changes the table
+  abbrev pub Settled : ℕ → List ℕ → Type 0
+  Settled n table = (c : ℕ) → c < n → visit table c ≡ table
+
+  -- `weight` is what falls while the table changes
+  module _ (weight : List ℕ → ℕ) where
+    -- what a visit promises: the table after it, and whether that is another
+    pub record Visit (before : List ℕ) (c : ℕ) (after : List ℕ) (changed : Bool) : Type 0 where
+      pub done : after ≡ visit before c
+      pub falls : changed ≡ true → weight after < weight before
+      pub stays : changed ≡ false → after ≡ before
+
+    -- what a pass that goes over all numbers below n promises: it visits; the weight falls where it changed something; otherwise no visit
+    -- changes anything
+    pub record Pass (n : ℕ) (before after : List ℕ) (changed : Bool) : Type 0 where
+      pub reached : Reached n before after
+      pub falls : changed ≡ true → weight after < weight before
+      pub settled : changed ≡ false → Settled n after
 
 -- how much the words lack to the greatest number: what falls while the table grows
 unfoldable pub lacking : List ℕ → ℕ
@@ -29,26 +56,3 @@ module _ (all : ℕ) (masks part places : List ℕ) where
   -- the table after a visit of sequence c
   abbrev pub visited : List ℕ → ℕ → List ℕ
   visited table c = withRow table c (visitedRow table c)
-
-  -- what a visit promises: the table after it, and whether that is another
-  pub record Visit (before : List ℕ) (c : ℕ) (after : List ℕ) (changed : Bool) : Type 0 where
-    pub done : after ≡ visited before c
-    pub falls : changed ≡ true → lacking after < lacking before
-    pub stays : changed ≡ false → after ≡ before
-
-  module _ (n : ℕ) where
-    -- tables that visits of the sequences below n lead to
-    pub data Reached (before : List ℕ) : List ℕ → Type 0 where
-      here : Reached before before
-      next : {table : List ℕ} (c : ℕ) → c < n → Reached before table → Reached before (visited table c)
-
-    -- no visit changes the table
-    abbrev pub Settled : List ℕ → Type 0
-    Settled table = (c : ℕ) → c < n → visited table c ≡ table
-
-    -- what a pass that goes over all sequences promises: it visits; less is lacking where it changed something; otherwise no visit
-    -- changes anything
-    pub record Pass (before after : List ℕ) (changed : Bool) : Type 0 where
-      pub reached : Reached before after
-      pub falls : changed ≡ true → lacking after < lacking before
-      pub settled : changed ≡ false → Settled after

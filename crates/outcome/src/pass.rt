@@ -9,7 +9,7 @@ ghost use mathlib.Core.Path.{_≡_};
 ghost use mathlib.Core.Bool.{false};
 ghost use Prim.Native.Nat.{_+_, _*_, _≤_, _<_};
 ghost use lib.ListN.{length, getD};
-ghost use Rattle.outcome.specs.Passes.{Visitable, Visit, Reached, Settled, Pass};
+ghost use Rattle.outcome.specs.Passes.{Visit, Reached, Pass, lacking, Visitable, visited};
 
 // Unites the row of sequence `c` with what its alternatives give. Answers whether that changed it.
 fn visit(
@@ -22,7 +22,7 @@ fn visit(
     c: usize,
 ) -> bool
     requires { ⌜ Visitable n (now masks) (now part) (now places) (now table) × (c < n) ⌝ }
-    ensures { λ r. ⌜ Visit all (now (masks .entry)) (now (part .entry)) (now (places .entry)) (now (table .entry)) c (now (table .exit)) r ⌝ }
+    ensures { λ r. ⌜ Visit (visited all (now (masks .entry)) (now (part .entry)) (now (places .entry))) lacking (now (table .entry)) c (now (table .exit)) r ⌝ }
 {
     let old = row_at(table, c);
     let at = places[c] as usize + 1;
@@ -41,7 +41,7 @@ fn plain_pass(
     n: usize,
 ) -> bool
     requires { ⌜ Visitable n (now masks) (now part) (now places) (now table) ⌝ }
-    ensures { λ r. ⌜ Pass all (now (masks .entry)) (now (part .entry)) (now (places .entry)) n (now (table .entry)) (now (table .exit)) r ⌝ }
+    ensures { λ r. ⌜ Pass (visited all (now (masks .entry)) (now (part .entry)) (now (places .entry))) lacking n (now (table .entry)) (now (table .exit)) r ⌝ }
 {
     let mut changed = false;
     let mut c = 0;
@@ -52,8 +52,8 @@ fn plain_pass(
     changed
 }
 
-// Visits the sequences that `order` names, first to last; other numbers are passed over.
-fn forward_pass(
+// Visits the sequences that `order` names, first to last and then last to first; other numbers are passed over.
+fn sweep(
     all: u64,
     masks: &[u64],
     part: &[u32],
@@ -63,11 +63,13 @@ fn forward_pass(
     n: usize,
 )
     requires { ⌜ Visitable n (now masks) (now part) (now places) (now table) ⌝ }
-    ensures { λ _. ⌜ Reached all (now (masks .entry)) (now (part .entry)) (now (places .entry)) n (now (table .entry)) (now (table .exit)) ⌝ }
+    ensures { λ _. ⌜ Reached (visited all (now (masks .entry)) (now (part .entry)) (now (places .entry))) n (now (table .entry)) (now (table .exit)) ⌝ }
 {
+    let end = 2 * order.len();
     let mut i = 0;
-    while i < order.len() {
-        let c = order[i];
+    while i < end {
+        let at = if i < order.len() { i } else { end - 1 - i };
+        let c = order[at];
         i += 1;
         if c < n {
             visit(all, masks, part, places, table, n, c);
@@ -75,30 +77,7 @@ fn forward_pass(
     }
 }
 
-// Visits the sequences that `order` names, last to first.
-fn backward_pass(
-    all: u64,
-    masks: &[u64],
-    part: &[u32],
-    places: &[u32],
-    order: &[usize],
-    table: &mut [u64],
-    n: usize,
-)
-    requires { ⌜ Visitable n (now masks) (now part) (now places) (now table) ⌝ }
-    ensures { λ _. ⌜ Reached all (now (masks .entry)) (now (part .entry)) (now (places .entry)) n (now (table .entry)) (now (table .exit)) ⌝ }
-{
-    let mut i = order.len();
-    while 0 < i {
-        i -= 1;
-        let c = order[i];
-        if c < n {
-            visit(all, masks, part, places, table, n, c);
-        }
-    }
-}
-
-// A pass in the order, one against it, and one over all sequences.
+// Visits in the order and against it, and then a pass over all sequences.
 fn round(
     all: u64,
     masks: &[u64],
@@ -109,10 +88,9 @@ fn round(
     n: usize,
 ) -> bool
     requires { ⌜ Visitable n (now masks) (now part) (now places) (now table) ⌝ }
-    ensures { λ r. ⌜ Pass all (now (masks .entry)) (now (part .entry)) (now (places .entry)) n (now (table .entry)) (now (table .exit)) r ⌝ }
+    ensures { λ r. ⌜ Pass (visited all (now (masks .entry)) (now (part .entry)) (now (places .entry))) lacking n (now (table .entry)) (now (table .exit)) r ⌝ }
 {
-    forward_pass(all, masks, part, places, order, table, n);
-    backward_pass(all, masks, part, places, order, table, n);
+    sweep(all, masks, part, places, order, table, n);
     plain_pass(all, masks, part, places, table, n)
 }
 
@@ -127,7 +105,7 @@ pub fn settle(
     n: usize,
 )
     requires { ⌜ Visitable n (now masks) (now part) (now places) (now table) ⌝ }
-    ensures { λ _. ⌜ Pass all (now (masks .entry)) (now (part .entry)) (now (places .entry)) n (now (table .entry)) (now (table .exit)) false ⌝ }
+    ensures { λ _. ⌜ Pass (visited all (now (masks .entry)) (now (part .entry)) (now (places .entry))) lacking n (now (table .entry)) (now (table .exit)) false ⌝ }
 {
     while round(all, masks, part, places, order, table, n) {}
 }

@@ -2,10 +2,9 @@
 -- Assumes nothing.
 use borrow.Author.Needs.{needs}
 use native.Mathlib.Omega.{arith}
-use Prim.Native.Nat.{_-_, _≤_, _<_}
-use mathlib.Core.Path.{_≡_, sym, ap, _∙_}
-use lib.ListN.{length}
-use Rattle.outcome.proofs.Visits.{visitable-at, reached-length, Passing, passing-start, passing-turn, passing-end}
+use Prim.Native.Nat.{_-_}
+use Rattle.outcome.specs.Passes.{lacking, visited}
+use Rattle.outcome.proofs.Visits.{visits-lower, visitable-at, reached-length, Passing, passing-start, passing-turn, passing-end}
 use Rattle.outcome.proofs.pass.plain_pass.Statement.{statement}
 use Rattle.outcome.proofs.pass.plain_pass.Tie as tie
 use Rattle.outcome.proofs.pass.plain_pass.Reads as reads
@@ -13,20 +12,20 @@ use Rattle.outcome.proofs.pass.plain_pass.Lts as lts
 use Rattle.outcome.proofs.pass.visit.Reads as visit-reads
 
 abbrev Inv-loop : tie.InvT-loop
-Inv-loop all masks part places table₀ n changed₀ c₀ table changed c = Passing all masks part places n table₀ table changed c
+Inv-loop all masks part places table₀ n changed₀ c₀ table changed c = Passing (visited all masks part places) lacking n table₀ table changed c
 
 abbrev μ-loop : tie.MeasureT-loop
 μ-loop all masks part places table₀ n changed₀ c₀ table changed c = n - c
 
 loop-holds : tie.Need-loop-holds Inv-loop μ-loop
-loop-holds c = let a = c .before .before .before .before .args in passing-start (a .all) (a .masks .now) (a .part .now) (a .places .now) (a .n) (a .table .now)
+loop-holds c = let a = c .before .before .before .before .args in passing-start (a .table .now)
 
 visit-requires : tie.Need-visit-requires Inv-loop μ-loop
 visit-requires c κs =
     let at-loop = c .before .before in
     let start = at-loop .before .before .before .before .before in
     let a = start .args in
-    (visitable-at (a .all) (a .masks .now) (a .part .now) (a .places .now) (a .n) (at-loop .loop .table) (reached-length (a .all) (a .masks .now) (a .part .now) (a .places .now) (a .n) (at-loop .loop .inv .reached)) (start .pre), c .before .loop-test .taken)
+    (visitable-at (at-loop .loop .table) (reached-length (visits-lower (a .all) (a .masks .now) (a .part .now) (a .places .now) (a .n)) (at-loop .loop .inv .reached)) (start .pre), c .before .loop-test .taken)
 
 add-c : tie.Need-add-c Inv-loop μ-loop
 add-c c = search needs
@@ -40,17 +39,17 @@ loop-again c =
     let at-loop = visit .before .before .before in
     let start = at-loop .before .before .before .before .before in
     let a = start .args in
-    passing-turn (a .all) (a .masks .now) (a .part .now) (a .places .now) (a .n) (a .table .now) (at-loop .loop .table) (at-loop .loop .changed) (at-loop .loop .c) (visit .visit .last .1 .1 .1 .1 .0) (visit .visit .result)
+    passing-turn (visits-lower (a .all) (a .masks .now) (a .part .now) (a .places .now) (a .n)) (a .table .now) (at-loop .loop .table) (at-loop .loop .changed) (at-loop .loop .c) (visit .visit .last .1 .1 .1 .1 .0) (visit .visit .result)
     (start .pre .rows) (visit .before .before .loop-test .taken) (at-loop .loop .inv) (visit .visit .ensures)
 
 same-length : tie.Need-same-length Inv-loop μ-loop
-same-length c = let a = c .before .before .before .before .before .before .args in reached-length (a .all) (a .masks .now) (a .part .now) (a .places .now) (a .n) (c .before .loop .inv .reached)
+same-length c = let a = c .before .before .before .before .before .before .args in reached-length (visits-lower (a .all) (a .masks .now) (a .part .now) (a .places .now) (a .n)) (c .before .loop .inv .reached)
 
 returns : tie.Need-returns Inv-loop μ-loop
 returns c =
     let at-loop = c .before in
     let a = at-loop .before .before .before .before .before .args in
-    passing-end (a .all) (a .masks .now) (a .part .now) (a .places .now) (a .n) (a .table .now) (at-loop .loop .table) (at-loop .loop .changed) (at-loop .loop .c) (omega arith) (at-loop .loop .inv)
+    passing-end (a .table .now) (at-loop .loop .table) (at-loop .loop .changed) (at-loop .loop .c) (omega arith) (at-loop .loop .inv)
 
 pub plain-pass-spec : {M : Type 1} → statement M
 plain-pass-spec =

@@ -1,10 +1,8 @@
 -- `outcome::pass::settle` meets its contract: each round that changes something leaves less lacking.
 -- Assumes nothing.
-use borrow.Author.Needs.{needs}
-use native.Mathlib.Omega.{arith}
-use mathlib.Core.Path.{_∙_, subst}
-use Rattle.outcome.specs.Passes.{lacking, Reached, here, Pass}
-use Rattle.outcome.proofs.Visits.{visitable-at, reached-length, reached-on, pass-after}
+use mathlib.Core.Path.{subst}
+use Rattle.outcome.specs.Passes.{Reached, here, Pass, lacking, visited}
+use Rattle.outcome.proofs.Visits.{visits-lower, visitable-at, reached-length, reached-on, pass-after}
 use Rattle.outcome.proofs.pass.settle.Statement.{statement}
 use Rattle.outcome.proofs.pass.settle.Tie as tie
 use Rattle.outcome.proofs.pass.settle.Reads as reads
@@ -12,7 +10,7 @@ use Rattle.outcome.proofs.pass.settle.Lts as lts
 use Rattle.outcome.proofs.pass.round.Reads as round-reads
 
 abbrev Inv-loop : tie.InvT-loop
-Inv-loop all masks part places order table₀ n table = Reached all masks part places n table₀ table
+Inv-loop all masks part places order table₀ n table = Reached (visited all masks part places) n table₀ table
 
 abbrev μ-loop : tie.MeasureT-loop
 μ-loop all masks part places order table₀ n table = lacking table
@@ -25,7 +23,7 @@ round-requires c κs =
     let at-loop = c .before in
     let start = at-loop .before .before .before .before .before .before in
     let a = start .args in
-    visitable-at (a .all) (a .masks .now) (a .part .now) (a .places .now) (a .n) (at-loop .loop .table) (reached-length (a .all) (a .masks .now) (a .part .now) (a .places .now) (a .n) (at-loop .loop .inv)) (start .pre)
+    visitable-at (at-loop .loop .table) (reached-length (visits-lower (a .all) (a .masks .now) (a .part .now) (a .places .now) (a .n)) (at-loop .loop .inv)) (start .pre)
 
 loop-less : tie.Need-loop-less Inv-loop μ-loop
 loop-less c = c .before .before .before .round .ensures .falls (c .if1 .taken)
@@ -34,15 +32,14 @@ loop-again : tie.Need-loop-again Inv-loop μ-loop
 loop-again c =
     let round = c .before .before .before in
     let at-loop = round .before .before in
-    let a = at-loop .before .before .before .before .before .before .args in
-    reached-on (a .all) (a .masks .now) (a .part .now) (a .places .now) (a .n) (at-loop .loop .inv) (round .round .ensures .reached)
+    reached-on (at-loop .loop .inv) (round .round .ensures .reached)
 
 same-length : tie.Need-same-length Inv-loop μ-loop
 same-length c =
     let round = c .before .before .before in
     let at-loop = round .before .before in
     let a = at-loop .before .before .before .before .before .before .args in
-    reached-length (a .all) (a .masks .now) (a .part .now) (a .places .now) (a .n) (reached-on (a .all) (a .masks .now) (a .part .now) (a .places .now) (a .n) (at-loop .loop .inv) (round .round .ensures .reached))
+    reached-length (visits-lower (a .all) (a .masks .now) (a .part .now) (a .places .now) (a .n)) (reached-on (at-loop .loop .inv) (round .round .ensures .reached))
 
 returns : tie.Need-returns Inv-loop μ-loop
 returns c =
@@ -50,8 +47,8 @@ returns c =
     let at-loop = round .before .before in
     let start = at-loop .before .before .before .before .before .before in
     let a = start .args in
-    subst (Pass (a .all) (a .masks .now) (a .part .now) (a .places .now) (a .n) (a .table .now) (round .round .last .1 .1 .1 .1 .1 .0)) (c .if1 .left)
-    (pass-after (a .all) (a .masks .now) (a .part .now) (a .places .now) (a .n) (a .table .now) (at-loop .loop .table) (round .round .last .1 .1 .1 .1 .1 .0) (round .round .result)
+    subst (Pass (visited (a .all) (a .masks .now) (a .part .now) (a .places .now)) lacking (a .n) (a .table .now) (round .round .last .1 .1 .1 .1 .1 .0)) (c .if1 .left)
+    (pass-after (visits-lower (a .all) (a .masks .now) (a .part .now) (a .places .now) (a .n)) (a .table .now) (at-loop .loop .table) (round .round .last .1 .1 .1 .1 .1 .0) (round .round .result)
     (start .pre .rows) (at-loop .loop .inv) (round .round .ensures))
 
 pub settle-spec : {M : Type 1} → statement M
