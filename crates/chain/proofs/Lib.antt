@@ -7,6 +7,7 @@ pub mod Links
 pub mod Answers
 pub mod Unique
 pub mod Visits
+pub mod Settling
 pub mod Words
 pub mod Calls
 pub mod Walk

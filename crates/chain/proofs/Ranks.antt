@@ -1,13 +1,13 @@
 -- Ranks by rounds: the table that the rounds end in is closed, and whatever one look at an alternative preserves holds of every rank.
 -- Both halves are about any look; what is said of one alternative serves a table that is lowered in place as well.
-use Prim.Native.Nat.{ℕ, zero, suc, _+_, _*_, _≤_, _<_}
-use mathlib.Core.Path.{_≡_, refl, sym, ap, subst}
+use Prim.Native.Nat.{ℕ, zero, suc, _*_, _≤_, _<_}
+use mathlib.Core.Path.{_≡_, refl, sym, subst}
 use mathlib.Core.Logic.{_⊎_, inl, inr, ⊎-elim}
 use mathlib.Core.Bool.{true, false}
-use mathlib.Core.List.{List, [], _∷_}
+use mathlib.Core.List.{List}
 use native.Mathlib.Omega.{arith}
 use native.Mathlib.Decide.{decLt, ℕ-discrete}
-use lib.ListN.{length, getD, set, replicate, List·getD-eq-default}
+use lib.ListN.{length, getD, replicate, length-set, List·getD-eq-default}
 use lib.Seq.{getD-set-same, getD-set-other}
 use lib.Dec.{leb, ltb}
 use borrow.Author.Tests.{leb-true, le-leb, ltb-true, ltb-false}
@@ -15,11 +15,12 @@ use Rattle.image.specs.Library.{Sequence}
 use Rattle.outcome.specs.Run.{alternativesOf, alternativeOf}
 use Rattle.outcome.proofs.Possible.{alternative-below}
 use Rattle.outcome.proofs.Tests.{passes-or-not}
+use Rattle.outcome.proofs.Visits.{Lowers}
 use Rattle.chain.specs.Scan.{listBelow, total}
 use Rattle.chain.specs.Ranks.{Ranks, Look, lowered, Closed, round, rounds, ranks, Reached}
 use Rattle.chain.specs.Answer.{chosenAlternative}
 use Rattle.chain.specs.Visits.{visited}
-use Rattle.chain.proofs.Scan.{first-found, least-start, least-le, least-cases, length-listBelow, getD-listBelow, total-constant, total-same}
+use Rattle.chain.proofs.Scan.{first-found, least-start, least-le, least-cases, length-listBelow, getD-listBelow, total-constant, total-same, total-set}
 
 -- the alternative that is chosen comes to no more than k, and no lower one does
 pub record Lowest (S : List Sequence) (look : Look) (T : Ranks) (c k i : ℕ) : Type 0 where
@@ -126,25 +127,20 @@ module _ (S : List Sequence) (look : Look) where
     start-unranked (suc n) zero = refl
     start-unranked (suc n) (suc c) = start-unranked n c
 
-    -- A visit keeps what is reached, and lowers the sum where it lowers a rank; a table that no visit lowers is closed.
+    -- a visit keeps the length, and does not raise the sum
+    pub visited-lower : (n : ℕ) → Lowers (visited S look none) total n n
+    visited-lower n =
+        record {
+          keeps = λ T c. length-set T c (lowered S look (inList T) c);
+          lowers = λ T c lt long. omega (arith, total-set T c (lowered S look (inList T) c) none (omega arith), lowered-le (inList T) c);
+        }
+
+    -- a table that no visit lowers is closed
     pub visits-closed : (T : List ℕ) → ((c : ℕ) → c < length S → inList T c ≤ lowered S look (inList T) c) → Closed S look (inList T)
     visits-closed T same c i lt =
         let h = same c (alternative-below S c i lt) in
         let h′ = lowered-look (inList T) c i lt in
         omega arith
-
-    set-total : (T : List ℕ) (c v : ℕ) → c < length T → total (set T c v) + inList T c ≡ total T + v
-    unfolding total
-    set-total [] c v lt = absurd (omega arith)
-    set-total (x ∷ T) zero v lt = omega arith
-    set-total (x ∷ T) (suc c) v lt = let h = set-total T c v (omega arith) in omega arith
-
-    pub visited-total : (T : List ℕ) (c : ℕ) → c < length T
-        → (total (visited S look none T c) ≤ total T) × (lowered S look (inList T) c < inList T c → total (visited S look none T c) < total T)
-    visited-total T c lt =
-        let h = set-total T c (lowered S look (inList T) c) lt in
-        let le = lowered-le (inList T) c in
-        (omega arith, λ fewer. omega arith)
 
     pub visited-capped : (T : List ℕ) (c : ℕ) → c < length T → ((d : ℕ) → inList T d ≤ none) → (d : ℕ) → inList (visited S look none T c) d ≤ none
     visited-capped T c lt le d = go (ℕ-discrete d c)

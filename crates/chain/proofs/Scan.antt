@@ -7,7 +7,7 @@ use mathlib.Core.Bool.{Bool, true, false, cond, _&&_, false≢true, and-assoc}
 use mathlib.Core.List.{List, [], _∷_, _++_}
 use native.Mathlib.Omega.{arith}
 use native.Mathlib.Nat.{eq-or-lt-of-le, le-of-suc-le-suc, suc-mul}
-use lib.ListN.{length, getD}
+use lib.ListN.{length, getD, set}
 use lib.Dec.{leb}
 use borrow.Author.Tests.{leb-true, le-leb, lt-leb, leb-false}
 use Rattle.outcome.proofs.Tests.{passes-or-not}
@@ -106,6 +106,12 @@ unfolding listBelow total
 total-constant k zero = omega arith
 total-constant k (suc n) = rw (total-constant k n, suc-mul n k) (omega arith)
 
+-- an index of the list needs no value for the others
+pub getD-inside : (T : List ℕ) (i d e : ℕ) → i < length T → getD T i d ≡ getD T i e
+getD-inside [] i d e lt = absurd (omega arith)
+getD-inside (x ∷ T) zero d e lt = refl
+getD-inside (x ∷ T) (suc i) d e lt = getD-inside T i d e (le-of-suc-le-suc lt)
+
 -- where each value is at most the list's, so is the sum; and where the sum is not less, no value is
 pub total-lower : (v : ℕ → ℕ) (d : ℕ) (T : List ℕ) → ((i : ℕ) → i < length T → v i ≤ getD T i d) → total (listBelow v (length T)) ≤ total T
 unfolding listBelow total
@@ -128,6 +134,13 @@ total-same v d (x ∷ T) le same i lt =
     go : (i : ℕ) → i < suc (length T) → ((j : ℕ) → j < length T → v (suc j) ≡ getD T j d) → v 0 ≡ x → v i ≡ getD (x ∷ T) i d
     go zero l rest here = here
     go (suc j) l rest here = rest j (omega arith)
+
+-- the sum with another number at an index
+pub total-set : (T : List ℕ) (c v d : ℕ) → c < length T → total (set T c v) + getD T c d ≡ total T + v
+unfolding total
+total-set [] c v d lt = absurd (omega arith)
+total-set (x ∷ T) zero v d lt = omega arith
+total-set (x ∷ T) (suc c) v d lt = let h = total-set T c v d (omega arith) in omega arith
 
 -- a count of the indices below n that pass
 abbrev one : Bool → ℕ

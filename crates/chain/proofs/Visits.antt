@@ -1,26 +1,27 @@
 -- Ranks lowered in place until no visit changes the table give the answer.
 use Prim.Native.Nat.{ℕ, suc, _≤_, _<_}
-use mathlib.Core.Path.{_≡_, refl, _∙_, ap}
+use mathlib.Core.Path.{_≡_, ap}
 use mathlib.Core.Logic.{_≢_}
 use mathlib.Core.List.{List}
 use native.Mathlib.Omega.{arith}
-use lib.ListN.{length, getD, replicate, length-set, length-replicate}
+use lib.ListN.{length, getD, replicate, length-replicate}
 use lib.Seq.{getD-set-same}
 use Rattle.image.specs.Library.{Library, Sequence}
+use Rattle.outcome.specs.Passes.{here, next}
 use Rattle.outcome.specs.Run.{alternativesOf, alternativeOf}
 use Rattle.outcome.specs.Touch.{untouched, Question}
+use Rattle.outcome.proofs.Visits.{reached-length}
 use Rattle.chain.specs.Ranks.{Ranks, Look, lowered, Closed, Reached, Linked, Passing, unranked, hasMark, untouchedLook, touchLook}
 use Rattle.chain.specs.Answer.{touchAnswer, untouchedAnswer, ranksIn, answer}
-use Rattle.chain.specs.Visits.{Visits, here, next, Settled}
-use Rattle.chain.proofs.Ranks.{start-unranked, start-reached, visits-closed, visited-capped, visited-reached}
+use Rattle.chain.specs.Visits.{Visits, Settled}
+use Rattle.chain.proofs.Ranks.{start-unranked, start-reached, visited-lower, visits-closed, visited-capped, visited-reached}
 use Rattle.chain.proofs.Depth.{depth-reached}
 use Rattle.chain.proofs.Links.{links-reached}
 use Rattle.chain.proofs.Answers.{touch-table, untouched-table}
 
 module _ (S : List Sequence) (look : Look) (none : ℕ) where
   pub visits-length : {before T : List ℕ} → Visits S look none before T → length T ≡ length before
-  visits-length here = refl
-  visits-length (next {T = T} c lt v) = length-set T c (lowered S look (λ d. getD T d none) c) ∙ visits-length v
+  visits-length = reached-length (visited-lower S look none (length S))
 
   -- no visit changes the table: no look lowers a rank
   settled-closed : (T : List ℕ) → length S ≤ length T → Settled S look none T → Closed S look (λ d. getD T d none)
@@ -34,7 +35,7 @@ module _ (S : List Sequence) (look : Look) (none : ℕ) where
   module _ (before : List ℕ) (long : length S ≤ length before) where
     visits-capped : ((c : ℕ) → getD before c none ≤ none) → {T : List ℕ} → Visits S look none before T → (c : ℕ) → getD T c none ≤ none
     visits-capped start here = start
-    visits-capped start (next {T = T} c lt v) =
+    visits-capped start (next {table = T} c lt v) =
         let e = visits-length v in
         visited-capped S look none T c (omega arith) (visits-capped start v)
 
@@ -43,7 +44,7 @@ module _ (S : List Sequence) (look : Look) (none : ℕ) where
         → P c (suc (look T (alternativeOf S c i))))
         → Reached P none (λ d. getD before d none) → {T : List ℕ} → Visits S look none before T → Reached P none (λ d. getD T d none)
     visits-reached P keeps start here = start
-    visits-reached P keeps start (next {T = T} c lt v) =
+    visits-reached P keeps start (next {table = T} c lt v) =
         let e = visits-length v in
         visited-reached S look none P keeps T c (omega arith) (visits-reached P keeps start v)
 

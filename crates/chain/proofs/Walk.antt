@@ -47,6 +47,11 @@ from-least value r (es ∷ alts) =
     least-min v r x zero = omega arith
     least-min v r x (suc n) = let h = least-min v r x n in omega arith
 
+pub lowered-low : (value : Alternative → ℕ) (r : ℕ) (alts : List Alternative) → loweredFrom value r alts ≤ r
+unfolding loweredFrom
+lowered-low value r [] = omega arith
+lowered-low value r (es ∷ alts) = omega (arith, lowered-low value (min r (suc (value es))) alts)
+
 pub lowered-from : (S : List Sequence) (look : Look) (T : Ranks) (c : ℕ) → lowered S look T c ≡ loweredFrom (look T) (T c) (alternativesOf S c)
 unfolding lowered
 lowered-from S look T c = sym (from-least (look T) (T c) (alternativesOf S c))

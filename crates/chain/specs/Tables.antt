@@ -84,6 +84,13 @@ pub record AlternativeRead (worth : Alternative → ℕ) (part : List ℕ) (at :
   pub within : r .next ≤ length part
   pub skips : alternativesFrom (drop at part) ≡ alternativesFrom (drop (r .next) part)
 
+-- what a visit of the sequences below n asks of the areas
+pub record Visitable (q : Asked) (n : ℕ) (masks table ranks part places : List ℕ) : Type 0 where
+  pub readable : Readable q masks table ranks part
+  pub ranked : n ≤ length ranks
+  pub placed : n ≤ length places
+  pub within : (c : ℕ) → c < n → getD places c 0 < length part
+
 module _ (q : Asked) (masks table part places : List ℕ) where
   -- the alternatives of sequence c, from the word after its opener on
   abbrev pub alternativesAt : ℕ → List Alternative

@@ -1,10 +1,10 @@
 -- Ranks lowered in place: a visit lowers the rank of one sequence by its alternatives, by the table as it stands. The table may be longer
 -- than the number of sequences.
-use Prim.Native.Nat.{ℕ, _<_}
-use mathlib.Core.Path.{_≡_}
+use Prim.Native.Nat.{ℕ}
 use mathlib.Core.List.{List}
 use lib.ListN.{length, getD, set}
 use Rattle.image.specs.Library.{Sequence}
+use Rattle.outcome.specs.Passes as passes
 use Rattle.chain.specs.Ranks.{Look, lowered}
 
 module _ (S : List Sequence) (look : Look) (none : ℕ) where
@@ -13,10 +13,9 @@ module _ (S : List Sequence) (look : Look) (none : ℕ) where
   visited T c = set T c (lowered S look (λ d. getD T d none) c)
 
   -- tables that visits lead to, in any order
-  pub data Visits (before : List ℕ) : List ℕ → Type 0 where
-    here : Visits before before
-    next : {T : List ℕ} (c : ℕ) → c < length S → Visits before T → Visits before (visited T c)
+  abbrev pub Visits : List ℕ → List ℕ → Type 0
+  Visits before after = passes.Reached visited (length S) before after
 
   -- no visit changes the table
   abbrev pub Settled : List ℕ → Type 0
-  Settled T = (c : ℕ) → c < length S → visited T c ≡ T
+  Settled T = passes.Settled visited (length S) T

@@ -2,4 +2,5 @@
 pub mod answer;
 pub mod entry;
 pub mod link;
+pub mod pass;
 pub mod read;

@@ -1,7 +1,5 @@
 -- `outcome::pass::settle` meets its contract: each round that changes something leaves less lacking.
 -- Assumes nothing.
-use borrow.Author.Needs.{needs}
-use native.Mathlib.Omega.{arith}
 use mathlib.Core.Path.{subst}
 use Rattle.outcome.specs.Passes.{Reached, here, Pass, lacking, visited}
 use Rattle.outcome.proofs.Visits.{visits-lower, visitable-at, reached-length, reached-on, pass-after}
