@@ -7,6 +7,8 @@ pub mod Links
 pub mod Answers
 pub mod Unique
 pub mod Visits
+pub mod Settling
+pub mod Finding
 pub mod Words
 pub mod Calls
 pub mod Choices
@@ -16,4 +18,3 @@ pub mod Describes
 pub mod Sample
 pub mod Folds
 pub mod Looks
-pub mod Settling

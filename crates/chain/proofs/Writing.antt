@@ -22,6 +22,7 @@ use Rattle.chain.specs.declared.link.Choice.{Choice}
 use Rattle.chain.specs.Answer.{Answer, none, shown}
 use Rattle.chain.specs.Reply.{Answered}
 use Rattle.chain.specs.declared.answer.Chained.{Chained}
+use Rattle.chain.proofs.Scan.{getD-inside}
 use Rattle.chain.proofs.Words.{words-length}
 use Rattle.image.specs.declared.answer.Refusal.the-variants.{ChainArea}
 use Rattle.chain.specs.declared.entry.Asked.{Asked}
@@ -142,11 +143,6 @@ module _ (q : Asked) (masks table ranks part places : List ℕ) (before : List �
 
 -- ---- the answer by the ranks
 
-getD-any : (l : List ℕ) (i d e : ℕ) → i < length l → getD l i d ≡ getD l i e
-getD-any [] i d e lt = absurd (omega arith)
-getD-any (x ∷ l) zero d e lt = refl
-getD-any (x ∷ l) (suc i) d e lt = getD-any l i d e (omega arith)
-
 module _ (q : Asked) (masks table ranks part places : List ℕ) where
   pub links-count : (k c : ℕ) → length (linksIn q masks table ranks part places k c) ≡ k
   unfolding linksIn
@@ -155,7 +151,7 @@ module _ (q : Asked) (masks table ranks part places : List ℕ) where
 
   module _ (c rank : ℕ) (listed : c < length ranks) (own : rank ≡ getD ranks c 0) where
     own-rank : inRanks q ranks c ≡ rank
-    own-rank = getD-any ranks c (q .none) 0 listed ∙ sym own
+    own-rank = getD-inside ranks c (q .none) 0 listed ∙ sym own
 
     pub answer-unranked : q .none ≤ rank → answerIn q masks table ranks part places c ≡ none
     unfolding answerIn
@@ -175,7 +171,7 @@ module _ (q : Asked) (masks table ranks part places : List ℕ) where
       → after ≡ set (set area 0 x) (0 + 1) (12 * 2 ^ 28) → after ≡ chainWords (quietLink q masks table ranks part places c ∷ []) ++ drop 2 area
   unfolding quietLink chainWords
   quiet-written c k from i x area after listed before opener choice word room put =
-      let least : k ≡ pred (inRanks q ranks c) = before ∙ ap pred (getD-any ranks c 0 (q .none) listed) in
+      let least : k ≡ pred (inRanks q ranks c) = before ∙ ap pred (getD-inside ranks c 0 (q .none) listed) in
       put ∙ put-first area x (12 * 2 ^ 28) room
       ∙ ap (λ (y : ℕ). (y ∷ 12 * 2 ^ 28 ∷ []) ++ drop 2 area)
       (word ∙ ap (choiceWord c)
