@@ -6,7 +6,7 @@ use native.Mathlib.Decide.{decLt}
 use native.Mathlib.Numerals.{add-one}
 use native.Mathlib.Omega.{arith}
 use mathlib.Core.Path.{_≡_, refl, sym, ap, ap₂, _∙_, subst}
-use mathlib.Core.Logic.{_≢_, ⊎-elim}
+use mathlib.Core.Logic.{_≢_, _⊎_, inl, inr, ⊎-elim}
 use mathlib.Core.Bool.{Bool, true, false, false≢true}
 use mathlib.Core.List.{List, [], _∷_, _++_}
 use lib.ListN.{length, getD, drop, replicate, List·getD-append, List·getD-eq-default, length-append}
@@ -16,7 +16,7 @@ use Rattle.column.proofs.Bits.{bit-none, column-none}
 use Rattle.column.proofs.Operations.{in-column}
 use Rattle.image.specs.Checked.{checked}
 use Rattle.image.specs.Library.{Library, Step, Sequence, alternativesFrom, stepsFrom, sequencesFrom, stepsPart, sequencesPart, libraryOf}
-use Rattle.image.specs.Accepted.{All, SequenceWord}
+use Rattle.image.specs.Accepted.{All, SequenceWord, Counted}
 use Rattle.image.specs.Tables.{maskOf, masks, placesFrom}
 use Rattle.image.specs.declared.answer.Head.{Head}
 use Rattle.image.specs.declared.answer.Checked.the-variants.{Accepted}
@@ -28,8 +28,21 @@ use Rattle.outcome.specs.Execution.{noStep, stepOf}
 use Rattle.outcome.specs.Possible.{columnOf, columnPossible, hasRun}
 use Rattle.outcome.specs.Run.{alternativesOf}
 use Rattle.outcome.proofs.Columns.{column-iff}
+use Rattle.outcome.proofs.Outcome.{present≢untouched, absent≢untouched}
 use Rattle.outcome.proofs.Tests.{passes-or-not}
-use Rattle.chain.specs.Described.{Described}
+use Rattle.outcome.specs.Touch.{Mark, present, absent, untouched, Question}
+use Rattle.outcome.specs.Passes.{Pass}
+use Rattle.chain.specs.Scan.{total}
+use Rattle.chain.specs.Ranks.{Look, unranked, touchLook, untouchedLook}
+use Rattle.chain.specs.Answer.{answer}
+use Rattle.chain.specs.Visits.{Visits, Settled}
+use Rattle.chain.specs.Tables.{lookIn, Readable, Visitable, alternativesAt, visitedRanks}
+use Rattle.chain.specs.Choice.{Choosable, answerIn}
+use Rattle.chain.specs.Described.{Asks, Described}
+use Rattle.chain.specs.declared.entry.Asked.{Asked}
+use Rattle.chain.proofs.Visits.{touch-good, settled-touch, settled-untouched}
+use Rattle.chain.proofs.Settling.{pass-visits, pass-settled}
+use Rattle.chain.proofs.Describes.{touch-look, quiet-look, touch-answer, quiet-answer}
 
 -- past the words of a list there is nothing
 blank-after : (xs rest : List ℕ) (k : ℕ) → Blank rest → length xs ≤ k → getD (xs ++ rest) k 0 ≡ 0
@@ -168,3 +181,85 @@ module _ (image : List ℕ) (h : Head) (accepted : checked image ≡ Accepted h)
             ap (λ (n : ℕ). alternativesFrom (drop n (sequencesPart image))) (add-one (getD ps c 0))
             ∙ place-is c (omega (arith, has .sequences)) .reads ∙ ap (λ (M : Library). alternativesOf (M .sequences) c) (sym same);
       }
+
+  -- ---- the areas are what the readers ask
+
+  module _ (q : Asked) (ranks : List ℕ) (fact : q .fact < h .facts) (wide : length ms ≡ 3072) (tall : length table ≡ 2048) (narrow : length ps ≡ 256)
+      (ranked : length ranks ≡ 256) where
+    tables-readable : Readable q ms table ranks (sequencesPart image)
+    tables-readable =
+        let f = faultless image h accepted in
+        record {
+          fact = omega (arith, f .facts-high);
+          within = λ i l.
+              let w = all-at (SequenceWord h) (sequencesPart image) (parts image h accepted .sequences) 0 i l in
+              ((λ k. omega (arith, w .step k, f .steps-high)), λ k. (omega (arith, w .sequence k, f .sequences-high), omega (arith, w .sequence k, f .sequences-high)));
+        }
+
+    pub tables-visitable : Visitable q (h .sequences) ms table ranks (sequencesPart image) ps
+    tables-visitable =
+        let f = faultless image h accepted in
+        record {
+          readable = tables-readable;
+          ranked = omega (arith, f .sequences-high);
+          placed = omega (arith, f .sequences-high);
+          within = λ c l. place-is c l .within;
+        }
+
+    pub tables-choosable : Blank rest₃ → 0 < h .sequences → Choosable q ms table ranks (sequencesPart image) ps
+    tables-choosable blank₃ some =
+        let count = parts image h accepted .sequences-opened in
+        record {
+          readable = tables-readable;
+          within = λ c.
+              elim (decLt c (h .sequences)) [
+                | yes l ↦ place-is c l .within
+                | no l ↦
+                    let first = place-is 0 some .within in
+                    omega (arith, ap (λ (x : List ℕ). getD x c 0) placed, blank-after (placesFrom 0 (sequencesPart image)) rest₃ c blank₃ (omega (arith, places-length 0 (sequencesPart image))))
+              ];
+          short = parts image h accepted .sequences-short;
+        }
+
+  -- ---- the answer
+
+  touch-or-not : (m : Mark) → (m ≢ untouched) ⊎ (m ≡ untouched)
+  touch-or-not present = inl present≢untouched
+  touch-or-not absent = inl absent≢untouched
+  touch-or-not untouched = inr refl
+
+  pub answer-found : (q : Asked) (Q : Question) → Asks L q Q → (n m : ℕ) (before ranks : List ℕ) → n ≡ h .sequences → h .sequences ≤ m
+      → before ≡ replicate m (q .none) → Pass (visitedRanks q ms table (sequencesPart image) ps) total n before ranks false → (c : ℕ) → c < h .sequences
+      → answerIn q ms table ranks (sequencesPart image) ps c ≡ answer L Q c (q .fact)
+  answer-found q Q asks n m before ranks count room start pass c lt =
+      ⊎-elim
+      (λ touch.
+      let look = touch-look L q Q ms table (sequencesPart image) ps asks tables-describe touch in
+      let good = touch-good L Q (q .fact) m ranks long touch (visits (touchLook L Q (q .fact)) look) (settled (touchLook L Q (q .fact)) look) in
+      touch-answer L q Q ms table (sequencesPart image) ps asks tables-describe ranks touch (good .reached) (good .closed) c
+      ∙ settled-touch L Q (q .fact) m ranks long touch good c)
+      (λ quiet.
+      let look = quiet-look L q Q ms table (sequencesPart image) ps asks tables-describe quiet in
+      quiet-answer L q Q ms table (sequencesPart image) ps asks tables-describe ranks quiet c (omega (arith, has .sequences))
+      ∙ settled-untouched L Q (q .fact) m ranks long quiet (visits (untouchedLook L Q (q .fact)) look) (settled (untouchedLook L Q (q .fact)) look) c)
+      (touch-or-not (Q .mark))
+    where
+      has : Counted L h
+      has = counted image h accepted
+
+      long : length (L .sequences) ≤ m
+      long = omega (arith, has .sequences)
+
+      all : n ≡ length (L .sequences)
+      all = count ∙ sym (has .sequences)
+
+      reads : (d : ℕ) → d < n → alternativesAt (sequencesPart image) ps d ≡ alternativesOf (L .sequences) d
+      reads d l = tables-describe .placed d (omega (arith, has .sequences))
+
+      visits : (look : Look) → lookIn q ms table ≡ look → Visits (L .sequences) look (unranked L) (replicate m (unranked L)) ranks
+      visits look same =
+          subst (λ (b : List ℕ). Visits (L .sequences) look (unranked L) b ranks) (start ∙ ap (replicate m) (asks .none))
+          (pass-visits q ms table (sequencesPart image) ps (L .sequences) look (unranked L) n all (asks .none) same reads pass)
+
+      settled : (look : Look) → lookIn q ms table ≡ look → Settled (L .sequences) look (unranked L) ranks
+      settled look same = pass-settled q ms table (sequencesPart image) ps (L .sequences) look (unranked L) n all (asks .none) same reads pass

@@ -48,33 +48,43 @@ module _ (S : List Sequence) (look : Look) (none : ℕ) where
         let e = visits-length v in
         visited-reached S look none P keeps T c (omega arith) (visits-reached P keeps start v)
 
--- from a table of n words without a rank, for a question that asks for a touch
-pub settled-touch : (L : Library) (q : Question) (f n : ℕ) (T : List ℕ) → q .mark ≢ untouched → length (L .sequences) ≤ n
-    → Visits (L .sequences) (touchLook L q f) (unranked L) (replicate n (unranked L)) T → Settled (L .sequences) (touchLook L q f) (unranked L) T
-    → (c : ℕ) → touchAnswer L q f (ranksIn L T) c ≡ answer L q c f
-settled-touch L q f n T touch long visits settled =
-    let count = length-replicate n (unranked L) in
-    let same = visits-length (L .sequences) (touchLook L q f) (unranked L) visits in
-    let keeps = links-reached L q f (unranked L) touch in
-    touch-table L q f touch (ranksIn L T)
-    (visits-reached (L .sequences) (touchLook L q f) (unranked L) (replicate n (unranked L)) (omega arith) (Linked L q f) keeps
-    (start-reached (L .sequences) (touchLook L q f) (unranked L) (Linked L q f) keeps n) visits)
-    (settled-closed (L .sequences) (touchLook L q f) (unranked L) T (omega arith) settled)
-    (visits-capped (L .sequences) (touchLook L q f) (unranked L) (replicate n (unranked L)) (omega arith)
-    (λ c. let e = start-unranked (L .sequences) (touchLook L q f) (unranked L) n c in omega arith) visits)
+-- ranks that are reached, that no look lowers, and none of which is above "no rank"
+pub record Good (P : ℕ → ℕ → Type 0) (L : Library) (look : Look) (T : List ℕ) : Type 0 where
+  pub reached : Reached P (unranked L) (ranksIn L T)
+  pub closed : Closed (L .sequences) look (ranksIn L T)
+  pub capped : (c : ℕ) → ranksIn L T c ≤ unranked L
 
--- and for one that asks for none
-pub settled-untouched : (L : Library) (q : Question) (f n : ℕ) (T : List ℕ) → q .mark ≡ untouched → length (L .sequences) ≤ n
-    → Visits (L .sequences) (untouchedLook L q f) (unranked L) (replicate n (unranked L)) T
-    → Settled (L .sequences) (untouchedLook L q f) (unranked L) T → (c : ℕ) → untouchedAnswer L q f (ranksIn L T) c ≡ answer L q c f
-settled-untouched L q f n T leaves long visits settled =
-    let count = length-replicate n (unranked L) in
-    let same = visits-length (L .sequences) (untouchedLook L q f) (unranked L) visits in
-    let keeps = depth-reached (L .sequences) (unranked L) (hasMark L q f) in
-    let P = Passing (L .sequences) (hasMark L q f) in
-    untouched-table L q f leaves (ranksIn L T)
-    (visits-reached (L .sequences) (untouchedLook L q f) (unranked L) (replicate n (unranked L)) (omega arith) P keeps
-    (start-reached (L .sequences) (untouchedLook L q f) (unranked L) P keeps n) visits)
-    (settled-closed (L .sequences) (untouchedLook L q f) (unranked L) T (omega arith) settled)
-    (visits-capped (L .sequences) (untouchedLook L q f) (unranked L) (replicate n (unranked L)) (omega arith)
-    (λ c. let e = start-unranked (L .sequences) (untouchedLook L q f) (unranked L) n c in omega arith) visits)
+-- visits from a table of n words without a rank, until none changes it
+module _ (L : Library) (q : Question) (f n : ℕ) (T : List ℕ) (long : length (L .sequences) ≤ n) where
+  settled-good : (P : ℕ → ℕ → Type 0) (look : Look)
+      → ((T : Ranks) → Reached P (unranked L) T → (c i : ℕ) → i < length (alternativesOf (L .sequences) c)
+      → suc (look T (alternativeOf (L .sequences) c i)) < unranked L → P c (suc (look T (alternativeOf (L .sequences) c i))))
+      → Visits (L .sequences) look (unranked L) (replicate n (unranked L)) T → Settled (L .sequences) look (unranked L) T → Good P L look T
+  settled-good P look keeps visits settled =
+      let count = length-replicate n (unranked L) in
+      let same = visits-length (L .sequences) look (unranked L) visits in
+      record {
+        reached =
+            visits-reached (L .sequences) look (unranked L) (replicate n (unranked L)) (omega arith) P keeps
+            (start-reached (L .sequences) look (unranked L) P keeps n) visits;
+        closed = settled-closed (L .sequences) look (unranked L) T (omega arith) settled;
+        capped =
+            visits-capped (L .sequences) look (unranked L) (replicate n (unranked L)) (omega arith)
+            (λ c. let e = start-unranked (L .sequences) look (unranked L) n c in omega arith) visits;
+      }
+
+  -- for a question that asks for a touch
+  pub touch-good : q .mark ≢ untouched → Visits (L .sequences) (touchLook L q f) (unranked L) (replicate n (unranked L)) T
+      → Settled (L .sequences) (touchLook L q f) (unranked L) T → Good (Linked L q f) L (touchLook L q f) T
+  touch-good touch = settled-good (Linked L q f) (touchLook L q f) (links-reached L q f (unranked L) touch)
+
+  pub settled-touch : q .mark ≢ untouched → Good (Linked L q f) L (touchLook L q f) T → (c : ℕ) → touchAnswer L q f (ranksIn L T) c ≡ answer L q c f
+  settled-touch touch good = touch-table L q f touch (ranksIn L T) (good .reached) (good .closed) (good .capped)
+
+  -- and for one that asks for none
+  pub settled-untouched : q .mark ≡ untouched → Visits (L .sequences) (untouchedLook L q f) (unranked L) (replicate n (unranked L)) T
+      → Settled (L .sequences) (untouchedLook L q f) (unranked L) T → (c : ℕ) → untouchedAnswer L q f (ranksIn L T) c ≡ answer L q c f
+  settled-untouched leaves visits settled =
+      let good =
+      settled-good (Passing (L .sequences) (hasMark L q f)) (untouchedLook L q f) (depth-reached (L .sequences) (unranked L) (hasMark L q f)) visits settled in
+      untouched-table L q f leaves (ranksIn L T) (good .reached) (good .closed) (good .capped)
