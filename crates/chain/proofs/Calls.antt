@@ -1,25 +1,30 @@
 -- Laws of the chain call: what an accepted image and numbers in range get; that an area of two words a sequence is never too small; and
 -- the area after the call.
-use Prim.Native.Nat.{ℕ, _*_, _≤_, _<_}
-use mathlib.Core.Path.{_≡_, refl, _∙_, ap}
+use Prim.Native.Nat.{ℕ, zero, suc, _*_, _%_, _≤_, _<_}
+use mathlib.Core.Path.{_≡_, refl, sym, _∙_, ap}
 use mathlib.Core.Bool.{Bool, true, false, cond}
 use mathlib.Core.List.{List}
 use native.Mathlib.Omega.{arith}
 use lib.ListN.{length, drop, length-append, length-drop}
 use lib.Dec.{leb, ltb}
-use borrow.Author.Tests.{le-leb, lt-ltb, leb-true}
+use borrow.Author.Tests.{le-leb, lt-leb, lt-ltb, le-ltb, leb-true}
 use Rattle.image.specs.Checked.{checked}
 use Rattle.image.specs.Library.{libraryOf}
 use Rattle.image.specs.declared.answer.Head.{Head}
+use Rattle.image.specs.declared.answer.Refusal.{Refusal}
 use Rattle.image.specs.declared.answer.Refusal.the-variants.{Sequence, Question, Fact, ChainArea}
 use Rattle.image.specs.declared.answer.Checked.{Checked}
 use Rattle.image.specs.declared.answer.Checked.the-variants.{Accepted, Refused}
 use Rattle.image.proofs.Accepted.{counted}
 use Rattle.outcome.specs.Run.{Item, Run}
 use Rattle.outcome.specs.Touch.{questionOf, HasOutcome}
+use Rattle.outcome.specs.Touch as touch
 use Rattle.chain.specs.Link.{Chain, chainWords}
 use Rattle.chain.specs.Answer.{Answer, none, shown, answer}
 use Rattle.chain.specs.Shows.{Shows}
+use Rattle.chain.specs.Described.{questionBy}
+use Rattle.chain.specs.Reply.{Answered, Called}
+use Rattle.chain.specs.declared.answer.Chained.{Chained}
 use Rattle.chain.specs.Call.{Reply, refused, answered, inArea, afterCheck, chained, areaAfter}
 use Rattle.chain.proofs.Words.{words-length}
 use Rattle.chain.proofs.Answers.{answer-shows, answer-none}
@@ -94,3 +99,52 @@ area-length image c q f area = go (chained image c q f (length area)) (call-room
     go (answered none) h = refl
     go (answered (shown ls)) h =
         omega (arith, length-append (chainWords ls) (drop (length (chainWords ls)) area), length-drop (length (chainWords ls)) area)
+
+-- ---- what the code does comes to the call
+
+module _ (image : List ℕ) (h : Head) (c q f : ℕ) (area : List ℕ) (accepted : checked image ≡ Accepted h) where
+  -- 9, 10 and 11, in this order
+  pub call-sequence : h .sequences ≤ c → Called image c q f area (Chained.Refused Sequence) area
+  unfolding chained
+  call-sequence le =
+      let e = le-ltb c (h .sequences) le in
+      record { answer = rw (accepted, e); area = rw (accepted, e) }
+
+  pub call-question : c < h .sequences → 5 < q → Called image c q f area (Chained.Refused Question) area
+  unfolding chained
+  call-question lt high =
+      let e = lt-ltb c (h .sequences) lt in
+      let e′ = lt-leb q 5 high in
+      record { answer = rw (accepted, e, e′); area = rw (accepted, e, e′) }
+
+  pub call-fact : c < h .sequences → q ≤ 5 → h .facts ≤ f → Called image c q f area (Chained.Refused Fact) area
+  unfolding chained
+  call-fact lt low le =
+      let e = lt-ltb c (h .sequences) lt in
+      let e′ = le-leb q 5 low in
+      let e″ = le-ltb f (h .facts) le in
+      record { answer = rw (accepted, e, e′, e″); area = rw (accepted, e, e′, e″) }
+
+  -- an answer in its area
+  pub call-found : (Q : touch.Question) (found : Chained) (after : List ℕ) → c < h .sequences → q ≤ 5 → f < h .facts → Q ≡ questionOf q
+      → Answered (answer (libraryOf image) Q c f) area found after → Called image c q f area found after
+  call-found Q found after sequence question fact same told =
+      let asked =
+      call-asked image h c q f (length area) accepted sequence question fact
+      ∙ ap (λ (x : touch.Question). inArea (length area) (answer (libraryOf image) x c f)) (sym same) in
+      record { answer = rw asked (told .answer); area = rw asked (told .area) }
+
+-- 1 to 7
+pub call-refused : (image : List ℕ) (r : Refusal) (c q f : ℕ) (area : List ℕ) → checked image ≡ Refused r → Called image c q f area (Chained.Refused r) area
+unfolding chained
+call-refused image r c q f area e = record { answer = rw e; area = rw e }
+
+-- a question by the side and the mark that its number has
+pub question-by : (q fact no-rank : ℕ) → q ≤ 5 → questionBy (record { first = leb 3 q; mark = q % 3; fact = fact; none = no-rank }) ≡ questionOf q
+question-by zero fact no-rank l = refl
+question-by (suc zero) fact no-rank l = refl
+question-by (suc (suc zero)) fact no-rank l = refl
+question-by (suc (suc (suc zero))) fact no-rank l = refl
+question-by (suc (suc (suc (suc zero)))) fact no-rank l = refl
+question-by (suc (suc (suc (suc (suc zero))))) fact no-rank l = refl
+question-by (suc (suc (suc (suc (suc (suc q)))))) fact no-rank l = absurd (omega arith)

@@ -15,15 +15,16 @@ use Rattle.column.specs.Sets.{inColumn}
 use Rattle.column.proofs.Bits.{bit-none, column-none}
 use Rattle.column.proofs.Operations.{in-column}
 use Rattle.image.specs.Checked.{checked}
+use Rattle.image.specs.Rules.{opened}
 use Rattle.image.specs.Library.{Library, Step, Sequence, alternativesFrom, stepsFrom, sequencesFrom, stepsPart, sequencesPart, libraryOf}
 use Rattle.image.specs.Accepted.{All, SequenceWord, Counted}
-use Rattle.image.specs.Tables.{maskOf, masks, placesFrom}
+use Rattle.image.specs.Tables.{maskOf, masks, placesFrom, StepsAsked, SequencesAsked}
 use Rattle.image.specs.declared.answer.Head.{Head}
 use Rattle.image.specs.declared.answer.Checked.the-variants.{Accepted}
 use Rattle.image.proofs.Accepted.{faultless, parts, counted, library-is}
 use Rattle.image.proofs.Lookup.{masks-length, row-at, places-length, Placed, place-at}
 use Rattle.image.proofs.Rows.{all-at}
-use Rattle.outcome.specs.Area.{outcomeWord, outcomeRows, outcomes, Blank}
+use Rattle.outcome.specs.Area.{outcomeWord, outcomeRows, outcomes, Blank, TableAsked}
 use Rattle.outcome.specs.Execution.{noStep, stepOf}
 use Rattle.outcome.specs.Possible.{columnOf, columnPossible, hasRun}
 use Rattle.outcome.specs.Run.{alternativesOf}
@@ -38,7 +39,7 @@ use Rattle.chain.specs.Answer.{answer}
 use Rattle.chain.specs.Visits.{Visits, Settled}
 use Rattle.chain.specs.Tables.{lookIn, Readable, Visitable, alternativesAt, visitedRanks}
 use Rattle.chain.specs.Choice.{Choosable, answerIn}
-use Rattle.chain.specs.Described.{Asks, Described}
+use Rattle.chain.specs.Described.{Asks, Described, isFirst, markNumber, sideBy, markBy, questionBy}
 use Rattle.chain.specs.declared.entry.Asked.{Asked}
 use Rattle.chain.proofs.Visits.{touch-good, settled-touch, settled-untouched}
 use Rattle.chain.proofs.Settling.{pass-visits, pass-settled}
@@ -50,7 +51,7 @@ blank-after [] rest k blank le = blank k
 blank-after (x ∷ xs) rest zero blank le = absurd (omega arith)
 blank-after (x ∷ xs) rest (suc k) blank le = blank-after xs rest k blank (omega arith)
 
-pub blank-drop : (n : ℕ) (zeros : List ℕ) → Blank zeros → Blank (drop n zeros)
+blank-drop : (n : ℕ) (zeros : List ℕ) → Blank zeros → Blank (drop n zeros)
 blank-drop n zeros blank k = getD-drop n zeros k 0 ∙ blank (n + k)
 
 mask-none : maskOf [] ≡ 0
@@ -151,64 +152,137 @@ row-bits L rest blank d j f k below =
 
 -- ---- an accepted image
 
-module _ (image : List ℕ) (h : Head) (accepted : checked image ≡ Accepted h) (ms table ps : List ℕ) (rest₁ rest₂ rest₃ : List ℕ)
-    (blank₁ : Blank rest₁) (blank₂ : Blank rest₂) (masked : ms ≡ masks (stepsFrom (stepsPart image)) ++ rest₁)
-    (filled : table ≡ outcomes (libraryOf image) ++ rest₂) (placed : ps ≡ placesFrom 0 (sequencesPart image) ++ rest₃) where
+-- what the makers of the tables ask
+module _ (image : List ℕ) (h : Head) (accepted : checked image ≡ Accepted h) where
+  pub image-long : 2 ≤ length image
+  image-long = faultless image h accepted .low
+
+  pub masks-asked : (first area : List ℕ) → first ≡ stepsPart image → length area ≡ 3072 → StepsAsked h first area
+  masks-asked first area cut long =
+      let f = faultless image h accepted in
+      let p = parts image h accepted in
+      subst (λ (x : List ℕ). StepsAsked h x area) (sym cut)
+      (record { facts = f .facts-high; words = p .steps; numbered = p .steps-numbered; opened = p .steps-opened; room = omega (arith, f .steps-high) })
+
+  pub places-asked : (part area : List ℕ) → part ≡ sequencesPart image → length area ≡ 256 → SequencesAsked h part area
+  places-asked part area cut long =
+      let f = faultless image h accepted in
+      let p = parts image h accepted in
+      subst (λ (x : List ℕ). SequencesAsked h x area) (sym cut)
+      (record { short = p .sequences-short; numbered = p .sequences-numbered; opened = p .sequences-opened; room = omega (arith, f .sequences-high) })
+
+  pub table-asked : (area : List ℕ) → length area ≡ 2048 → TableAsked h image area
+  table-asked area long = record { accepted = accepted; room = omega (arith, faultless image h accepted .sequences-high) }
+
+  pub few-sequences : h .sequences ≤ 256
+  few-sequences = faultless image h accepted .sequences-high
+
+-- the two parts of the image, and the tables made of it: masks, outcomes and places
+pub record Made (image : List ℕ) (h : Head) (first part ms table ps : List ℕ) : Type 0 where
+  pub accepted : checked image ≡ Accepted h
+  pub steps : first ≡ stepsPart image
+  pub sequences : part ≡ sequencesPart image
+  pub past-masks : List ℕ
+  pub blank-masks : Blank past-masks
+  pub masked : ms ≡ masks (stepsFrom first) ++ past-masks
+  pub past-table : List ℕ
+  pub blank-table : Blank past-table
+  pub filled : table ≡ outcomes (libraryOf image) ++ past-table
+  pub past-places : List ℕ
+  pub blank-places : Blank past-places
+  pub placed : ps ≡ placesFrom 0 part ++ past-places
+  pub wide : length ms ≡ 3072
+  pub tall : length table ≡ 2048
+  pub narrow : length ps ≡ 256
+
+-- from blank areas
+pub made-of : (image : List ℕ) (h : Head) (first part ms table ps zeros₁ zeros₂ zeros₃ : List ℕ) → checked image ≡ Accepted h
+    → first ≡ stepsPart image → part ≡ sequencesPart image → Blank zeros₁ → Blank zeros₂ → Blank zeros₃
+    → ms ≡ masks (stepsFrom first) ++ drop (3 * h .steps) zeros₁ → table ≡ outcomes (libraryOf image) ++ drop (8 * h .sequences) zeros₂
+    → ps ≡ placesFrom 0 part ++ drop (h .sequences) zeros₃ → length ms ≡ 3072 → length table ≡ 2048 → length ps ≡ 256
+    → Made image h first part ms table ps
+made-of image h first part ms table ps zeros₁ zeros₂ zeros₃ accepted steps sequences b₁ b₂ b₃ masked filled placed wide tall narrow =
+    record {
+      accepted = accepted;
+      steps = steps;
+      sequences = sequences;
+      past-masks = drop (3 * h .steps) zeros₁;
+      blank-masks = blank-drop (3 * h .steps) zeros₁ b₁;
+      masked = masked;
+      past-table = drop (8 * h .sequences) zeros₂;
+      blank-table = blank-drop (8 * h .sequences) zeros₂ b₂;
+      filled = filled;
+      past-places = drop (h .sequences) zeros₃;
+      blank-places = blank-drop (h .sequences) zeros₃ b₃;
+      placed = placed;
+      wide = wide;
+      tall = tall;
+      narrow = narrow;
+    }
+
+module _ (image : List ℕ) (h : Head) (first part ms table ps : List ℕ) (made : Made image h first part ms table ps) where
   abbrev L : Library
   L = libraryOf image
 
-  place-is : (c : ℕ) → c < h .sequences → Placed (sequencesPart image) c (getD ps c 0)
-  place-is c l =
-      let count = parts image h accepted .sequences-opened in
-      let word : getD ps c 0 ≡ getD (placesFrom 0 (sequencesPart image)) c 0 =
-      ap (λ (x : List ℕ). getD x c 0) placed
-      ∙ List·getD-append (placesFrom 0 (sequencesPart image)) rest₃ 0 c (omega (arith, places-length 0 (sequencesPart image))) in
-      subst (Placed (sequencesPart image) c) (sym word) (place-at (sequencesPart image) c (omega arith))
+  library-made : L ≡ record { facts = h .facts; steps = stepsFrom first; sequences = sequencesFrom part }
+  library-made =
+      library-is image h (made .accepted)
+      ∙ ap₂ (λ (x y : List ℕ). record { facts = h .facts; steps = stepsFrom x; sequences = sequencesFrom y }) (sym (made .steps)) (sym (made .sequences))
 
-  pub tables-describe : Described L ms table (sequencesPart image) ps
+  opened-is : opened 6 part ≡ h .sequences
+  opened-is = ap (opened 6) (made .sequences) ∙ parts image h (made .accepted) .sequences-opened
+
+  place-is : (c : ℕ) → c < h .sequences → Placed part c (getD ps c 0)
+  place-is c l =
+      let count = opened-is in
+      let word : getD ps c 0 ≡ getD (placesFrom 0 part) c 0 =
+      ap (λ (x : List ℕ). getD x c 0) (made .placed)
+      ∙ List·getD-append (placesFrom 0 part) (made .past-places) 0 c (omega (arith, places-length 0 part)) in
+      subst (Placed part c) (sym word) (place-at part c (omega arith))
+
+  pub tables-describe : Described L ms table part ps
   tables-describe =
-      let same = library-is image h accepted in
-      let has = counted image h accepted in
-      let steps : (a : ℕ) → getD (stepsFrom (stepsPart image)) a noStep ≡ stepOf L a = λ a. ap (λ (M : Library). stepOf M a) (sym same) in
-      let words = step-words (stepsFrom (stepsPart image)) rest₁ blank₁ in
+      let same = library-made in
+      let has = counted image h (made .accepted) in
+      let steps : (a : ℕ) → getD (stepsFrom first) a noStep ≡ stepOf L a = λ a. ap (λ (M : Library). stepOf M a) (sym same) in
+      let words = step-words (stepsFrom first) (made .past-masks) (made .blank-masks) in
       record {
-        narrow = omega (arith, has .facts, faultless image h accepted .facts-high);
-        needs = λ a. ap (λ (x : List ℕ). getD x (3 * a) 0) masked ∙ words a .0 ∙ ap (λ (s : Step). maskOf (s .needs)) (steps a);
-        sets = λ a. ap (λ (x : List ℕ). getD x (3 * a + 1) 0) masked ∙ words a .1 ∙ ap (λ (s : Step). maskOf (s .sets)) (steps a);
-        clears = λ a. ap (λ (x : List ℕ). getD x (3 * a + 2) 0) masked ∙ words a .2 ∙ ap (λ (s : Step). maskOf (s .clears)) (steps a);
-        rows = λ d j f k below. ap (λ (x : List ℕ). inColumn (getD x (8 * d + j) 0) f) filled ∙ row-bits L rest₂ blank₂ d j f k below;
+        narrow = omega (arith, has .facts, faultless image h (made .accepted) .facts-high);
+        needs = λ a. ap (λ (x : List ℕ). getD x (3 * a) 0) (made .masked) ∙ words a .0 ∙ ap (λ (s : Step). maskOf (s .needs)) (steps a);
+        sets = λ a. ap (λ (x : List ℕ). getD x (3 * a + 1) 0) (made .masked) ∙ words a .1 ∙ ap (λ (s : Step). maskOf (s .sets)) (steps a);
+        clears = λ a. ap (λ (x : List ℕ). getD x (3 * a + 2) 0) (made .masked) ∙ words a .2 ∙ ap (λ (s : Step). maskOf (s .clears)) (steps a);
+        rows = λ d j f k below. ap (λ (x : List ℕ). inColumn (getD x (8 * d + j) 0) f) (made .filled) ∙ row-bits L (made .past-table) (made .blank-table) d j f k below;
         placed = λ c l.
-            ap (λ (n : ℕ). alternativesFrom (drop n (sequencesPart image))) (add-one (getD ps c 0))
+            ap (λ (n : ℕ). alternativesFrom (drop n part)) (add-one (getD ps c 0))
             ∙ place-is c (omega (arith, has .sequences)) .reads ∙ ap (λ (M : Library). alternativesOf (M .sequences) c) (sym same);
       }
 
   -- ---- the areas are what the readers ask
 
-  module _ (q : Asked) (ranks : List ℕ) (fact : q .fact < h .facts) (wide : length ms ≡ 3072) (tall : length table ≡ 2048) (narrow : length ps ≡ 256)
-      (ranked : length ranks ≡ 256) where
-    tables-readable : Readable q ms table ranks (sequencesPart image)
+  module _ (q : Asked) (ranks : List ℕ) (fact : q .fact < h .facts) (ranked : length ranks ≡ 256) where
+    tables-readable : Readable q ms table ranks part
     tables-readable =
-        let f = faultless image h accepted in
+        let f = faultless image h (made .accepted) in
         record {
           fact = omega (arith, f .facts-high);
           within = λ i l.
-              let w = all-at (SequenceWord h) (sequencesPart image) (parts image h accepted .sequences) 0 i l in
-              ((λ k. omega (arith, w .step k, f .steps-high)), λ k. (omega (arith, w .sequence k, f .sequences-high), omega (arith, w .sequence k, f .sequences-high)));
+              let w = all-at (SequenceWord h) part (subst (All (SequenceWord h)) (sym (made .sequences)) (parts image h (made .accepted) .sequences)) 0 i l in
+              ((λ k. omega (arith, w .step k, f .steps-high, made .wide)), λ k. (omega (arith, w .sequence k, f .sequences-high, made .tall), omega (arith, w .sequence k, f .sequences-high)));
         }
 
-    pub tables-visitable : Visitable q (h .sequences) ms table ranks (sequencesPart image) ps
+    pub tables-visitable : Visitable q (h .sequences) ms table ranks part ps
     tables-visitable =
-        let f = faultless image h accepted in
+        let f = faultless image h (made .accepted) in
         record {
           readable = tables-readable;
           ranked = omega (arith, f .sequences-high);
-          placed = omega (arith, f .sequences-high);
+          placed = omega (arith, f .sequences-high, made .narrow);
           within = λ c l. place-is c l .within;
         }
 
-    pub tables-choosable : Blank rest₃ → 0 < h .sequences → Choosable q ms table ranks (sequencesPart image) ps
-    tables-choosable blank₃ some =
-        let count = parts image h accepted .sequences-opened in
+    pub tables-choosable : 0 < h .sequences → Choosable q ms table ranks part ps
+    tables-choosable some =
+        let count = opened-is in
         record {
           readable = tables-readable;
           within = λ c.
@@ -216,9 +290,9 @@ module _ (image : List ℕ) (h : Head) (accepted : checked image ≡ Accepted h)
                 | yes l ↦ place-is c l .within
                 | no l ↦
                     let first = place-is 0 some .within in
-                    omega (arith, ap (λ (x : List ℕ). getD x c 0) placed, blank-after (placesFrom 0 (sequencesPart image)) rest₃ c blank₃ (omega (arith, places-length 0 (sequencesPart image))))
+                    omega (arith, ap (λ (x : List ℕ). getD x c 0) (made .placed), blank-after (placesFrom 0 part) (made .past-places) c (made .blank-places) (omega (arith, places-length 0 part)))
               ];
-          short = parts image h accepted .sequences-short;
+          short = omega (arith, ap length (made .sequences), parts image h (made .accepted) .sequences-short);
         }
 
   -- ---- the answer
@@ -228,24 +302,45 @@ module _ (image : List ℕ) (h : Head) (accepted : checked image ≡ Accepted h)
   touch-or-not absent = inl absent≢untouched
   touch-or-not untouched = inr refl
 
+  -- the question that the code is asked
+  mark-number : (m : ℕ) → m ≤ 2 → m ≡ markNumber (markBy m)
+  mark-number zero l = refl
+  mark-number (suc zero) l = refl
+  mark-number (suc (suc zero)) l = refl
+  mark-number (suc (suc (suc m))) l = absurd (omega arith)
+
+  first-is : (b : Bool) → b ≡ isFirst (sideBy b)
+  first-is false = refl
+  first-is true = refl
+
+  pub asks-by : (q : Asked) → q .mark ≤ 2 → q .fact < h .facts → q .none ≡ h .sequences + 2 → Asks L q (questionBy q)
+  asks-by q low fact no-rank =
+      let has = counted image h (made .accepted) in
+      record {
+        first = first-is (q .first);
+        mark = mark-number (q .mark) low;
+        none = omega (arith, has .sequences);
+        fact = omega (arith, has .facts);
+      }
+
   pub answer-found : (q : Asked) (Q : Question) → Asks L q Q → (n m : ℕ) (before ranks : List ℕ) → n ≡ h .sequences → h .sequences ≤ m
-      → before ≡ replicate m (q .none) → Pass (visitedRanks q ms table (sequencesPart image) ps) total n before ranks false → (c : ℕ) → c < h .sequences
-      → answerIn q ms table ranks (sequencesPart image) ps c ≡ answer L Q c (q .fact)
+      → before ≡ replicate m (q .none) → Pass (visitedRanks q ms table part ps) total n before ranks false → (c : ℕ) → c < h .sequences
+      → answerIn q ms table ranks part ps c ≡ answer L Q c (q .fact)
   answer-found q Q asks n m before ranks count room start pass c lt =
       ⊎-elim
       (λ touch.
-      let look = touch-look L q Q ms table (sequencesPart image) ps asks tables-describe touch in
+      let look = touch-look L q Q ms table part ps asks tables-describe touch in
       let good = touch-good L Q (q .fact) m ranks long touch (visits (touchLook L Q (q .fact)) look) (settled (touchLook L Q (q .fact)) look) in
-      touch-answer L q Q ms table (sequencesPart image) ps asks tables-describe ranks touch (good .reached) (good .closed) c
+      touch-answer L q Q ms table part ps asks tables-describe ranks touch (good .reached) (good .closed) c
       ∙ settled-touch L Q (q .fact) m ranks long touch good c)
       (λ quiet.
-      let look = quiet-look L q Q ms table (sequencesPart image) ps asks tables-describe quiet in
-      quiet-answer L q Q ms table (sequencesPart image) ps asks tables-describe ranks quiet c (omega (arith, has .sequences))
+      let look = quiet-look L q Q ms table part ps asks tables-describe quiet in
+      quiet-answer L q Q ms table part ps asks tables-describe ranks quiet c (omega (arith, has .sequences))
       ∙ settled-untouched L Q (q .fact) m ranks long quiet (visits (untouchedLook L Q (q .fact)) look) (settled (untouchedLook L Q (q .fact)) look) c)
       (touch-or-not (Q .mark))
     where
       has : Counted L h
-      has = counted image h accepted
+      has = counted image h (made .accepted)
 
       long : length (L .sequences) ≤ m
       long = omega (arith, has .sequences)
@@ -253,13 +348,13 @@ module _ (image : List ℕ) (h : Head) (accepted : checked image ≡ Accepted h)
       all : n ≡ length (L .sequences)
       all = count ∙ sym (has .sequences)
 
-      reads : (d : ℕ) → d < n → alternativesAt (sequencesPart image) ps d ≡ alternativesOf (L .sequences) d
+      reads : (d : ℕ) → d < n → alternativesAt part ps d ≡ alternativesOf (L .sequences) d
       reads d l = tables-describe .placed d (omega (arith, has .sequences))
 
       visits : (look : Look) → lookIn q ms table ≡ look → Visits (L .sequences) look (unranked L) (replicate m (unranked L)) ranks
       visits look same =
           subst (λ (b : List ℕ). Visits (L .sequences) look (unranked L) b ranks) (start ∙ ap (replicate m) (asks .none))
-          (pass-visits q ms table (sequencesPart image) ps (L .sequences) look (unranked L) n all (asks .none) same reads pass)
+          (pass-visits q ms table part ps (L .sequences) look (unranked L) n all (asks .none) same reads pass)
 
       settled : (look : Look) → lookIn q ms table ≡ look → Settled (L .sequences) look (unranked L) ranks
-      settled look same = pass-settled q ms table (sequencesPart image) ps (L .sequences) look (unranked L) n all (asks .none) same reads pass
+      settled look same = pass-settled q ms table part ps (L .sequences) look (unranked L) n all (asks .none) same reads pass

@@ -3,10 +3,13 @@
 use Prim.Native.Nat.{ℕ, _+_, _*_, _≤_, _<_}
 use mathlib.Core.Path.{_≡_}
 use mathlib.Core.Bool.{Bool, true, false}
-use mathlib.Core.List.{List}
+use mathlib.Core.List.{List, [], _∷_}
 use lib.ListN.{length, getD}
 use Rattle.column.specs.Sets.{inColumn}
+use Rattle.image.specs.Checked.{checked}
 use Rattle.image.specs.Library.{Library}
+use Rattle.image.specs.declared.answer.Head.{Head}
+use Rattle.image.specs.declared.answer.Checked.the-variants.{Accepted}
 use Rattle.image.specs.Tables.{maskOf}
 use Rattle.outcome.specs.Run.{alternativesOf}
 use Rattle.outcome.specs.Execution.{stepOf}
@@ -41,3 +44,22 @@ pub record Described (L : Library) (masks table part places : List ℕ) : Type 0
   pub clears : (a : ℕ) → getD masks (3 * a + 2) 0 ≡ maskOf (stepOf L a .clears)
   pub rows : (d j f : ℕ) → j < 8 → f < L .facts → inColumn (getD table (8 * d + j) 0) f ≡ columnPossible L j d f
   pub placed : (c : ℕ) → c < length (L .sequences) → alternativesAt part places c ≡ alternativesOf (L .sequences) c
+
+-- the question that the code is asked
+abbrev pub sideBy : Bool → Side
+sideBy false = last
+sideBy true = first
+
+abbrev pub markBy : ℕ → Mark
+markBy m = getD (present ∷ absent ∷ untouched ∷ []) m untouched
+
+abbrev pub questionBy : Asked → Question
+questionBy q = record { side = sideBy (q .first); mark = markBy (q .mark) }
+
+-- what the search for an answer asks: an accepted image, and a sequence, a mark and a fact that there are
+pub record FindAsked (h : Head) (image : List ℕ) (q : Asked) (c : ℕ) : Type 0 where
+  pub accepted : checked image ≡ Accepted h
+  pub sequence : c < h .sequences
+  pub mark : q .mark ≤ 2
+  pub fact : q .fact < h .facts
+  pub none : q .none ≡ h .sequences + 2

@@ -4,6 +4,9 @@ use mathlib.Core.Path.{_≡_}
 use mathlib.Core.List.{List}
 use lib.ListN.{length}
 use Rattle.image.specs.Answer.{refusalAnswer}
+use Rattle.image.specs.Checked.{checked}
+use Rattle.image.specs.declared.answer.Head.{Head}
+use Rattle.image.specs.declared.answer.Checked.the-variants.{Accepted}
 use Rattle.chain.specs.Answer.{Answer, none, shown}
 use Rattle.chain.specs.Call.{Reply, refused, answered, inArea, chained, areaAfter}
 use Rattle.chain.specs.declared.answer.Chained.{Chained}
@@ -25,6 +28,10 @@ chainAnswer (Chained.Refused r) = refusalAnswer r
 pub record Answered (a : Answer) (before : List ℕ) (found : Chained) (after : List ℕ) : Type 0 where
   pub answer : found ≡ chainedAs (inArea (length before) a)
   pub area : after ≡ areaAfter (inArea (length before) a) before
+
+-- the check accepts the image with this head
+abbrev pub accepts : List ℕ → Head → Type 0
+accepts image h = checked image ≡ Accepted h
 
 -- what the chain call does: its answer, and the area after it
 pub record Called (image : List ℕ) (c q f : ℕ) (before : List ℕ) (found : Chained) (after : List ℕ) : Type 0 where
