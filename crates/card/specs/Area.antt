@@ -17,5 +17,5 @@ pub record Written (image area : List ℕ) (n : ℕ) : Type 0 where
   pub past : (i : ℕ) → cardWords * n ≤ i → getD (cardArea image area) i 0 ≡ getD area i 0
   pub long : length (cardArea image area) ≡ length area
   -- what the words say
-  pub cards : (c : ℕ) → Card (libraryOf image) c
-  pub runs : (c : ℕ) → Runs (libraryOf image) c
+  pub cards : (c : ℕ) → Card (libraryOf image) c (cardWord (libraryOf image) c)
+  pub runs : (c : ℕ) → Runs (libraryOf image) c (cardWord (libraryOf image) c)
