@@ -24,7 +24,7 @@ use Rattle.outcome.proofs.Columns.{question-iff, hasRun-iff, hasEmptyRun-iff, b
 use Rattle.outcome.proofs.Published.{published-columns}
 use Rattle.outcome.proofs.Execution.{kept}
 use Rattle.card.specs.Card.{cardWords, may, always, changeable, flags, card, maySet, mayClear}
-use Rattle.card.specs.Meaning.{cardWord, Lacks, HasRun, NoRun, Columns, Flags, Blank, Card, Kept, Always, needed, set, cleared, Missing, Runs}
+use Rattle.card.specs.Meaning.{cardWord, Lacks, HasRun, NoRun, Columns, Flags, Blank, Card, Kept, Always, needed, set, cleared, place, Missing, Runs}
 
 -- ---- a word, one fact at a time
 
@@ -207,3 +207,55 @@ module _ (L : Library) (c : ℕ) where
 
   pub runs-right : Runs L c (cardWord L c)
   runs-right = record { kept = runs-kept; missing = missing-right }
+
+-- ---- words found elsewhere that are the same
+
+module _ (L : Library) (c : ℕ) (word : ℕ → ℕ) (same : (k : ℕ) → k < cardWords → word k ≡ cardWord L c k) where
+  pub card-same : Card L c (cardWord L c) → Card L c word
+  card-same card =
+      let flags = card .flags in
+      record {
+        columns = λ run f.
+            let columns = card .columns run f in
+            record {
+              always-needed = rw (same 1 (omega arith)) (columns .always-needed);
+              may-need = rw (same 2 (omega arith)) (columns .may-need);
+              may-set = rw (same 3 (omega arith)) (columns .may-set);
+              may-clear = rw (same 4 (omega arith)) (columns .may-clear);
+              always-set = rw (same 5 (omega arith)) (columns .always-set);
+              always-cleared = rw (same 6 (omega arith)) (columns .always-cleared);
+            };
+        facts-only = λ k f l m u. rw (same k m) (card .facts-only k f l m u);
+        blank = (
+          (λ none. card .blank .0 (λ k l. sym (same k l) ∙ none k l)),
+          λ none k l. same k l ∙ card .blank .1 none k l,
+        );
+        flags =
+            record {
+              run = rw (same 0 (omega arith)) (flags .run);
+              empty-run = rw (same 0 (omega arith)) (flags .empty-run);
+              count = rw (same 0 (omega arith), same 3 (omega arith), same 4 (omega arith)) (flags .count);
+              between = rw (same 0 (omega arith)) (flags .between);
+              above = rw (same 0 (omega arith)) (flags .above);
+            };
+      }
+
+  place-low : (a : Always) → place a < cardWords
+  place-low needed = omega arith
+  place-low set = omega arith
+  place-low cleared = omega arith
+
+  pub runs-same : Runs L c (cardWord L c) → Runs L c word
+  runs-same runs =
+      record {
+        kept = λ w r s ex f.
+            let kept = runs .kept w r s ex f in
+            record {
+              needed = rw (same 1 (omega arith)) (kept .needed);
+              set = rw (same 5 (omega arith)) (kept .set);
+              cleared = rw (same 6 (omega arith)) (kept .cleared);
+              gained = rw (same 3 (omega arith)) (kept .gained);
+              lost = rw (same 4 (omega arith)) (kept .lost);
+            };
+        missing = λ a f. rw (same (place a) (place-low a)) (runs .missing a f);
+      }

@@ -8,6 +8,7 @@ pub mod Answer
 pub mod Unique
 pub mod Visits
 pub mod Words
+pub mod Fits
 pub mod Call
 pub mod Walk
 pub mod Sample
