@@ -11,6 +11,7 @@ use borrow.Author.Tests.{le-leb, lt-ltb, leb-true}
 use Rattle.image.specs.Checked.{checked}
 use Rattle.image.specs.Library.{libraryOf}
 use Rattle.image.specs.declared.answer.Head.{Head}
+use Rattle.image.specs.declared.answer.Refusal.{Refusal}
 use Rattle.image.specs.declared.answer.Refusal.the-variants.{Sequence, Question, Fact, ChainArea}
 use Rattle.image.specs.declared.answer.Checked.{Checked}
 use Rattle.image.specs.declared.answer.Checked.the-variants.{Accepted, Refused}
@@ -94,3 +95,31 @@ area-length image c q f area = go (chained image c q f (length area)) (call-room
     go (answered none) h = refl
     go (answered (shown ls)) h =
         omega (arith, length-append (chainWords ls) (drop (length (chainWords ls)) area), length-drop (length (chainWords ls)) area)
+
+-- where the call answers, the image is accepted, and it is the answer to the question
+cond-answered : (b : Bool) (x : Reply) (r : Refusal) (a : Answer) → cond b x (refused r) ≡ answered a → x ≡ answered a
+cond-answered true x r a e = e
+cond-answered false x r a e = let no : _≡_ {A = ℕ} 0 1 = cc in absurd (omega arith)
+
+area-answered : (room : ℕ) (found a : Answer) → inArea room found ≡ answered a → found ≡ a
+area-answered room none a e = cc
+area-answered room (shown ls) a e =
+    let whole = cond-answered (leb (length (chainWords ls)) room) (answered (shown ls)) ChainArea a e in
+    cc
+
+pub call-answered : (image : List ℕ) (c q f room : ℕ) (a : Answer) → chained image c q f room ≡ answered a
+    → (h : Head) × (checked image ≡ Accepted h) × (answer (libraryOf image) (questionOf q) c f ≡ a)
+unfolding chained
+call-answered image c q f room a e = go (checked image) refl e
+  where
+    go : (k : Checked) → checked image ≡ k → afterCheck k image c q f room ≡ answered a
+        → (h : Head) × (checked image ≡ Accepted h) × (answer (libraryOf image) (questionOf q) c f ≡ a)
+    go (Refused r) known told = let no : _≡_ {A = ℕ} 0 1 = cc in absurd (omega arith)
+    go (Accepted h) known told =
+        let reply = inArea room (answer (libraryOf image) (questionOf q) c f) in
+        let fact = cond (ltb f (h .facts)) reply (refused Fact) in
+        let question = cond (leb q 5) fact (refused Question) in
+        let first = cond-answered (ltb c (h .sequences)) question Sequence a told in
+        let second = cond-answered (leb q 5) fact Question a first in
+        let third = cond-answered (ltb f (h .facts)) reply Fact a second in
+        (h, known, area-answered room (answer (libraryOf image) (questionOf q) c f) a third)
