@@ -37,7 +37,7 @@ use Rattle.chain.proofs.Words.{words-length}
 use Rattle.chain.proofs.Answer.{answer-shows}
 use Rattle.chain.proofs.Call.{call-shows, call-answered}
 use Rattle.chain.proofs.Fits.{accepted-fits}
-use Rattle.dulimoven.specs.Demands.{Engine, engine, Left, leftBy, Refuses, Demand1, count, Ready, Demand2, Asks, Sees, Gets, Shown, Demand3, Demands}
+use Rattle.dulimoven.specs.Demands.{Engine, engine, Left, leftBy, Refuses, Demand1, count, Ready, Demand2, Asks, Sees, Proves, Shown, Demand3, Demands}
 
 -- ---- demand 1
 
@@ -96,9 +96,10 @@ cards-kept image area high =
 -- a chain that is answered has a link, and no more than 256
 few-links : (image : List ℕ) (c q f room : ℕ) (ls : Chain) → chained image c q f room ≡ answered (shown ls) → (1 ≤ length ls) × (length ls ≤ 256)
 few-links image c q f room ls e =
-    let (h, accepted, known) = call-answered image c q f room (shown ls) e in
-    let shows = answer-shows (libraryOf image) (questionOf q) c f ls known in
-    (one ls (shows .about), omega (arith, shows .few, counted image h accepted .sequences, faultless image h accepted .sequences-high))
+    let call = call-answered image c q f room (shown ls) e in
+    let shows = answer-shows (libraryOf image) (questionOf q) c f ls (call .known) in
+    let size = counted image (call .head) (call .accepted) .sequences in
+    (one ls (shows .about), omega (arith, shows .few, size, faultless image (call .head) (call .accepted) .sequences-high))
   where
     one : (ms : Chain) → About c ms → 1 ≤ length ms
     one [] about = absurd about
@@ -210,7 +211,7 @@ asked-low cleared q asks = ⊎-elim (λ e. omega arith) (λ e. omega arith) asks
 gets : (image : List ℕ) (h : Head) → checked image ≡ Checked.Accepted h → (c : ℕ) → c < count (libraryOf image) → (a : Always)
     (f : Fact (libraryOf image)) (w : List Item) → Run (libraryOf image) c w → (q : ℕ) → Asks a q
     → HasOutcome (libraryOf image) (questionOf q) (f .0) w → (area : List ℕ) → 2 * count (libraryOf image) ≤ length area
-    → Gets (libraryOf image) c a (f .0) q area (engine .chain image c q (f .0) area)
+    → (links : Chain) × Sees area (engine .chain image c q (f .0) area) links × Proves (libraryOf image) c a (f .0) q links
 gets image h accepted c l a f w run q asks o area room =
     let L = libraryOf image in
     let size = counted image h accepted in
@@ -219,18 +220,20 @@ gets image h accepted c l a f w run q asks o area room =
     let facts = size .facts in
     let (ls, told, shows) =
     call-shows image h c q (f .0) (length area) accepted (omega arith) (asked-low a q asks) (omega arith) (omega arith) w run o in
-    record {
-      links = ls;
-      sees =
-          record {
-            number = ap replyNumber told;
-            area = ap (λ (k : Reply). areaAfter k area) told ∙ ap (λ (n : ℕ). chainWords ls ++ drop n area) (words-length ls);
-            fits = accepted-fits image h (questionOf q) (f .0) ls (shows .run) accepted (shows .stands);
-          };
-      few = shows .few;
-      some = (shows .run, shows .stands, shows .runs (shows .run) (shows .stands) .0);
-      every = λ v stands. let r = shows .runs v stands in (r .0, outcome-breaks L a q (f .0) v asks (r .1));
-    }
+    let here = shows .runs (shows .run) (shows .stands) in
+    (
+      ls,
+      record {
+        number = ap replyNumber told;
+        area = ap (λ (k : Reply). areaAfter k area) told ∙ ap (λ (n : ℕ). chainWords ls ++ drop n area) (words-length ls);
+        fits = accepted-fits image h (questionOf q) (f .0) ls (shows .run) accepted (shows .stands);
+      },
+      record {
+        few = shows .few;
+        some = (shows .run, shows .stands, here .0, here .1);
+        every = λ v stands. let r = shows .runs v stands in (r .0, outcome-breaks L a q (f .0) v asks (r .1));
+      },
+    )
 
 pub runs : Demand3 engine
 runs =

@@ -119,14 +119,12 @@ pub record Sees (before : List ℕ) (left : Left) (links : Chain) : Type 0 where
   pub area : left .area ≡ chainWords links ++ drop (2 * length links) before
   pub fits : All Fits links
 
--- what a question that is asked about a broken rule gets
-pub record Gets (L : Library) (c : ℕ) (a : Always) (f q : ℕ) (before : List ℕ) (left : Left) : Type 0 where
-  pub links : Chain
-  pub sees : Sees before left links
+-- the chain shows that sequence c breaks the rule of column a for fact f, by question q
+pub record Proves (L : Library) (c : ℕ) (a : Always) (f q : ℕ) (links : Chain) : Type 0 where
   -- "a chain of no more links than the library has sequences"
   pub few : length links ≤ count L
-  -- "The chain stands for at least one run of that sequence"
-  pub some : (w : List Item) × StandsFor L (questionOf q) f links w × Run L c w
+  -- "The chain stands for at least one run of that sequence", and "Every chain stands for at least one run with its outcome"
+  pub some : (w : List Item) × StandsFor L (questionOf q) f links w × Run L c w × HasOutcome L (questionOf q) f w
   -- "and every run it stands for is one of that sequence's and breaks the rule"
   pub every : (w : List Item) → StandsFor L (questionOf q) f links w → Run L c w × Breaks L a f w
 
@@ -146,7 +144,7 @@ pub record Shown (L : Library) (c : ℕ) (word : ℕ → ℕ) (chain : ℕ → �
   -- than the library has sequences. The chain stands for at least one run of that sequence, and every run it stands for is one of that
   -- sequence's and breaks the rule."
   pub answer : (a : Always) (f : Fact L) (w : List Item) → Run L c w → (q : ℕ) → Asks a q → HasOutcome L (questionOf q) (f .0) w
-      → (area : List ℕ) → 2 * count L ≤ length area → Gets L c a (f .0) q area (chain q (f .0) area)
+      → (area : List ℕ) → 2 * count L ≤ length area → (links : Chain) × Sees area (chain q (f .0) area) links × Proves L c a (f .0) q links
 
 pub record Demand3 (e : Engine) : Type 0 where
   -- "For every accepted library, however its sequences nest or call themselves"
