@@ -103,6 +103,11 @@ changeable-count L c =
     (λ f l. ap₂ _||_ (sym (in-column (L .facts) (λ (g : ℕ). possibleOutcome L lastSet c g) f l))
     (sym (in-column (L .facts) (λ (g : ℕ). possibleOutcome L lastCleared c g) f l)))
 
+-- "bits 8 to 14"
+pub flags-count : (L : Library) (c : ℕ) → cardWord L c 0 / 2 ^ 8 ≡ changeable L c
+unfolding card flags
+flags-count L c = omega (arith, byte-bound (hasRun L c), byte-bound (hasEmptyRun L c))
+
 flags-right : (L : Library) → L .facts ≤ 64 → (c : ℕ) → Flags L c (cardWord L c)
 unfolding card flags changeable
 flags-right L high c =
@@ -110,14 +115,13 @@ flags-right L high c =
     let empty = hasEmptyRun L c in
     let n = changeable L c in
     let few : n ≤ 64 = omega (arith, count-le (L .facts) (λ (f : ℕ). possibleOutcome L lastSet c f || possibleOutcome L lastCleared c f)) in
-    let whole : flags L c / 2 ^ 8 ≡ n = omega (arith, byte-bound run, byte-bound empty) in
     let low : bit (flags L c) 0 ≡ boolByte run = bit-zero (flags L c) ∙ omega (arith, byte-bound run, byte-bound empty) in
     let second : bit (flags L c) 1 ≡ boolByte empty =
     bit-suc (flags L c) 0 ∙ bit-zero (flags L c / 2) ∙ omega (arith, byte-bound run, byte-bound empty) in
     record {
       run = Iff·trans ((λ e. byte-true run .0 (sym low ∙ e)), λ e. low ∙ byte-true run .1 e) (hasRun-iff L c);
       empty-run = Iff·trans ((λ e. byte-true empty .0 (sym second ∙ e)), λ e. second ∙ byte-true empty .1 e) (hasEmptyRun-iff L c);
-      count = whole ∙ changeable-count L c;
+      count = flags-count L c ∙ changeable-count L c;
       between = λ k l u. middle-bits (boolByte run) (boolByte empty) n k (byte-bound run) (byte-bound empty) l u;
       above = λ k l. bit-high 15 (flags L c) k (omega (arith, few, byte-bound run, byte-bound empty)) l;
     }

@@ -160,7 +160,7 @@ total =
 -- ---- demand 2
 
 -- an accepted image with room in the area has its cards written
-written : (image area : List ℕ) → Ready image area → Written image area (count (libraryOf image))
+pub written : (image area : List ℕ) → Ready image area → Written image area (count (libraryOf image))
 written image area ready =
     let h = ready .head in
     let room = ready .room in
