@@ -79,11 +79,11 @@ module _ (image area : List ℕ) (n : ℕ) (answer : cardsOf image area ≡ Card
       let after : cardArea image area ≡ cards L ++ drop (cardWords * n) area = ap (λ (a : Cards). areaAfter a image area) answer in
       let words : (c k : ℕ) → c < n → k < cardWords → partWord (cardArea image area) c k ≡ cardWord L c k =
       λ c k l u.
-          let inside : cardWords * c + k < length (cards L) = omega arith in
-          ap (λ (a : List ℕ). getD a (cardWords * c + k) 0) after
-          ∙ List·getD-append (cards L) (drop (cardWords * n) area) 0 (cardWords * c + k) inside
-          ∙ card-at L 0 all c k (omega (arith, has .sequences)) u
-          ∙ ap (λ (d : ℕ). cardWord L d k) (zero-add c) in
+      let inside : cardWords * c + k < length (cards L) = omega arith in
+      ap (λ (a : List ℕ). getD a (cardWords * c + k) 0) after
+      ∙ List·getD-append (cards L) (drop (cardWords * n) area) 0 (cardWords * c + k) inside
+      ∙ card-at L 0 all c k (omega (arith, has .sequences)) u
+      ∙ ap (λ (d : ℕ). cardWord L d k) (zero-add c) in
       record {
         words = words;
         past = λ i l.

@@ -34,8 +34,7 @@ module _ (L : Library) (q : Question) (f : ℕ) (size : Small L) where
   stands-fits [] w stands = absurd stands
   stands-fits (touchLink c i p ∷ ls) w (lt, k) =
       let room = size .entries c i in
-      let here = k .listed in
-      (
+      let here = k .listed in (
         (omega (arith, in-library (L .sequences) c i lt, size .sequences), omega (arith, size .alternatives c), omega arith),
         after-fits ls (λ u. StandsFor L q f ls u) (stands-fits ls) (entryAt (alternativeOf (L .sequences) c i) p) (k .given) (k .touching),
       )

@@ -65,8 +65,7 @@ check-told image = go (checked image) refl
     go : (k : Checked) → checked image ≡ k → Refuses (checkedAnswer k) ↔ ((r : Refusal) × (k ≡ Checked.Refused r))
     go (Checked.Refused r) e = ((λ high. (r, refl)), λ told. refusal-high r)
     go (Checked.Accepted h) e =
-        let good = faultless image h e in
-        (
+        let good = faultless image h e in (
           (λ high. absurd (omega (arith, good .facts-high, good .steps-high, good .sequences-high))),
           λ (r, told). let no : _≡_ {A = ℕ} 0 1 = cc in absurd (omega arith),
         )
@@ -220,8 +219,7 @@ gets image h accepted c l a f w run q asks o area room =
     let facts = size .facts in
     let (ls, told, shows) =
     call-shows image h c q (f .0) (length area) accepted (omega arith) (asked-low a q asks) (omega arith) (omega arith) w run o in
-    let here = shows .runs (shows .run) (shows .stands) in
-    (
+    let here = shows .runs (shows .run) (shows .stands) in (
       ls,
       record {
         number = ap replyNumber told;

@@ -20,14 +20,15 @@ use Rattle.outcome.proofs.Outcome.{present≢untouched}
 use Rattle.card.specs.Answer.{cardArea, cardsOf, cardsAnswer}
 use Rattle.card.specs.Area.{partWord}
 use Rattle.card.specs.Card.{card, cards, changeable}
-use Rattle.card.specs.Meaning.{Always, needed, set, cleared, place}
+use Rattle.card.specs.Meaning.{Always, needed, set, cleared, place, cardWord}
 use Rattle.card.proofs.Meaning.{flags-count}
-use Rattle.chain.specs.Link.{Link, touchLink, untouchedLink, Chain}
+use Rattle.chain.specs.Link.{Link, touchLink, untouchedLink, Chain, Fits}
 use Rattle.chain.specs.Answer.{shown}
 use Rattle.chain.specs.Call.{answered, chained, replyNumber}
 use Rattle.dulimoven.specs.Samples.{L, selfCall, clearThenNeed, pulse}
 use Rattle.dulimoven.specs.Demands.{Engine, engine, Refuses, count, Ready, Demand1, Demand2, Sees, Proves, Demand3}
 use Rattle.dulimoven.specs.Wrong.{BlankColumn, OneCard, Untouched, NoneAtOnce, AlwaysTwelve, SameLink, InventedLinks, InventedCount, RefusesAll, RefusesAllCards, RefusesAllChains}
+use Rattle.dulimoven.specs.Wrong.{blankCards, lazyCards, fixedChain, fixedLink, noImage}
 use Rattle.dulimoven.proofs.Demands.{written, runs}
 use Rattle.dulimoven.proofs.Fixed.{cards-fixed, area-fixed, links-told, chain-shown}
 
@@ -239,3 +240,67 @@ same-link (untouchedLink c i) e wrong d =
     let told = wrong L 1 0 0 (zeros 6) (touchLink 1 0 0 ∷ touchLink 0 0 0 ∷ []) chain-L in
     let same = links-told (zeros 6) (e .chain L 1 0 0 (zeros 6)) links (untouchedLink c i ∷ []) sees told in
     untouched-unasked (libraryOf L) 1 0 c i cleared (subst (Proves (libraryOf L) 1 cleared 0 0) same proves)
+
+-- ---- each way is one that some engine goes
+
+blank-word : (n i : ℕ) → getD (zeros n) i 0 ≡ 0
+blank-word zero i = refl
+blank-word (suc n) zero = refl
+blank-word (suc n) (suc i) = blank-word n i
+
+pub blank-goes : (a : Always) → BlankColumn a blankCards
+blank-goes a image area ready c l = blank-word (length area) (7 * c + place a)
+
+pub one-card-goes : OneCard blankCards
+one-card-goes image area ready c d k l m u = blank-word (length area) (7 * c + k) ∙ sym (blank-word (length area) (7 * d + k))
+
+pub untouched-goes : Untouched lazyCards
+untouched-goes image area ready = refl
+
+pub invented-count-goes : InventedCount blankCards
+invented-count-goes =
+    record {
+      image = L;
+      area = zeros 21;
+      ready = ready-L;
+      sequence = 0;
+      low = omega (arith, counted L _ accepted-L .sequences);
+      invented = λ same.
+          let right = flags-count (libraryOf L) 0 in
+          let word : cardWord (libraryOf L) 0 0 ≡ 0x103 =
+          sym (written L (zeros 21) ready-L .words 0 0 (omega (arith, counted L _ accepted-L .sequences)) (omega arith))
+          ∙ ap (λ (a : List ℕ). partWord a 0 0) cards-L in
+          let blank = blank-word (length (zeros 21)) 0 in
+          omega arith;
+    }
+
+pub none-goes : NoneAtOnce (fixedChain 0)
+none-goes image c q f area a told = refl
+
+pub twelve-goes : AlwaysTwelve (fixedChain (12 * 2 ^ 32))
+twelve-goes image c q f area ls told = refl
+
+pub same-link-goes : (l : Link) → Fits l → SameLink l (fixedLink l)
+same-link-goes l fits image c q f area ls told = record { number = refl; area = refl; fits = (fits, tt) }
+
+pub invented-links-goes : InventedLinks (fixedLink (touchLink 0 0 0))
+invented-links-goes =
+    let size : length (zeros 2) ≡ 2 = refl in
+    record {
+      image = selfCall;
+      sequence = 0;
+      fact = 0;
+      question = 2;
+      column = set;
+      asks = inr refl;
+      area = zeros 2;
+      room = omega (arith, counted selfCall _ accepted-selfCall .sequences);
+      right = untouchedLink 0 1 ∷ [];
+      told = chain-selfCall;
+      links = touchLink 0 0 0 ∷ [];
+      sees = same-link-goes (touchLink 0 0 0) (omega arith, omega arith, omega arith) selfCall 0 2 0 (zeros 2) (untouchedLink 0 1 ∷ []) chain-selfCall;
+      invented = touch-unasked (libraryOf selfCall) 0 0 0 0 0 set;
+    }
+
+pub refuses-goes : RefusesAll noImage
+refuses-goes image = omega arith

@@ -82,7 +82,7 @@ pub record Demand1 (e : Engine) : Type 0 where
 
 -- ---- demand 2
 
--- how many sequences the library has
+-- how many sequences the library has: the head's C (`counted` of the reader)
 abbrev pub count : Library → ℕ
 count L = length (L .sequences)
 

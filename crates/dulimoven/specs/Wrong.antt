@@ -3,16 +3,16 @@
 use Prim.Native.Nat.{ℕ, _*_, _/_, _^_, _≤_, _<_}
 use mathlib.Core.Path.{_≡_}
 use mathlib.Core.Logic.{_≢_}
-use mathlib.Core.List.{List, [], _∷_}
-use lib.ListN.{length}
+use mathlib.Core.List.{List, [], _∷_, _++_}
+use lib.ListN.{length, drop, replicate}
 use Rattle.image.specs.Library.{libraryOf}
 use Rattle.card.specs.Card.{cardWords, changeable}
 use Rattle.card.specs.Area.{partWord}
 use Rattle.card.specs.Meaning.{Always, place}
-use Rattle.chain.specs.Link.{Link, Chain}
+use Rattle.chain.specs.Link.{Link, Chain, chainWords}
 use Rattle.chain.specs.Answer.{Answer, shown}
 use Rattle.chain.specs.Call.{answered, chained}
-use Rattle.dulimoven.specs.Demands.{Engine, Refuses, Ready, count, Asks, Sees, Proves}
+use Rattle.dulimoven.specs.Demands.{Engine, Left, engine, Refuses, Ready, count, Asks, Sees, Proves}
 
 -- "blank "always" columns": one of them is blank on every card
 abbrev pub BlankColumn : Always → Engine → Type 0
@@ -81,3 +81,34 @@ RefusesAllCards e = (image area : List ℕ) → Refuses (e .cards image area .nu
 
 abbrev pub RefusesAllChains : Engine → Type 0
 RefusesAllChains e = (image : List ℕ) (c q f : ℕ) (area : List ℕ) → Refuses (e .chain image c q f area .number)
+
+-- ---- engines that are wrong in these ways: the right engine with another call in the place of one of its own
+
+abbrev pub withCheck : (List ℕ → ℕ) → Engine
+withCheck check = record { check = check; cards = engine .cards; chain = engine .chain }
+
+abbrev pub withCards : (List ℕ → List ℕ → Left) → Engine
+withCards cards = record { check = engine .check; cards = cards; chain = engine .chain }
+
+abbrev pub withChain : (List ℕ → ℕ → ℕ → ℕ → List ℕ → Left) → Engine
+withChain chain = record { check = engine .check; cards = engine .cards; chain = chain }
+
+-- the right number, and an area of which every word is 0
+abbrev pub blankCards : Engine
+blankCards = withCards (λ image area. record { number = engine .cards image area .number; area = replicate (length area) 0 })
+
+-- the right number, and the area as it was
+abbrev pub lazyCards : Engine
+lazyCards = withCards (λ image area. record { number = engine .cards image area .number; area = area })
+
+-- a number, whatever is asked, and the area as it was
+abbrev pub fixedChain : ℕ → Engine
+fixedChain n = withChain (λ image c q f area. record { number = n; area = area })
+
+-- a link, whatever is asked
+abbrev pub fixedLink : Link → Engine
+fixedLink l = withChain (λ image c q f area. record { number = 1; area = chainWords (l ∷ []) ++ drop 2 area })
+
+-- refusal 1, whatever the image
+abbrev pub noImage : Engine
+noImage = withCheck (λ image. 2 ^ 32)
