@@ -1,9 +1,9 @@
 -- The engine that the contracts describe meets the three demands.
 -- Assumes nothing.
-use Prim.Native.Nat.{ℕ, zero, suc, _+_, _*_, _^_, _≤_, _<_}
+use Prim.Native.Nat.{ℕ, _*_, _≤_, _<_}
 use native.Mathlib.Omega.{arith}
 use mathlib.Core.Path.{_≡_, refl, sym, ap, _∙_}
-use mathlib.Core.Logic.{_↔_, _⊎_, inl, inr, ⊎-elim}
+use mathlib.Core.Logic.{_↔_, inl, inr, ⊎-elim}
 use mathlib.Core.List.{List, [], _∷_, _++_}
 use mathlib.Core.Bool.{Bool, cond}
 use lib.ListN.{length, drop}
@@ -29,15 +29,14 @@ use Rattle.card.specs.Meaning.{Always, needed, set, cleared, Breaks}
 use Rattle.card.specs.declared.answer.Cards.{Cards}
 use Rattle.card.proofs.Area.{filled, written-right}
 use Rattle.chain.specs.Link.{Chain, chainWords}
-use Rattle.chain.specs.Stands.{About, StandsFor}
-use Rattle.chain.specs.Answer.{Answer, none, shown}
-use Rattle.chain.specs.Shows.{Shows}
+use Rattle.chain.specs.Stands.{About}
+use Rattle.chain.specs.Answer.{none, shown}
 use Rattle.chain.specs.Call.{Reply, refused, answered, chained, areaAfter, replyNumber}
 use Rattle.chain.proofs.Words.{words-length}
 use Rattle.chain.proofs.Answer.{answer-shows}
 use Rattle.chain.proofs.Call.{call-shows, call-answered}
 use Rattle.chain.proofs.Fits.{accepted-fits}
-use Rattle.dulimoven.specs.Demands.{Engine, engine, Left, leftBy, Refuses, Demand1, count, Ready, Demand2, Asks, Sees, Proves, Shown, Demand3, Demands}
+use Rattle.dulimoven.specs.Demands.{engine, Refuses, Demand1, count, Ready, Demand2, Asks, Sees, Proves, Demand3, Demands}
 
 -- ---- demand 1
 

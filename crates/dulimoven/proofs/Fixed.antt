@@ -5,9 +5,9 @@ use Prim.Native.Nat.{ℕ, _+_, _*_, _/_, _%_, _≤_, _<_}
 use native.Mathlib.Nat.{mod-lt, zero-lt-suc}
 use native.Mathlib.Omega.{arith}
 use native.Mathlib.Decide.{decLt}
-use mathlib.Core.Path.{_≡_, refl, sym, ap, ap₂, _∙_, subst}
+use mathlib.Core.Path.{_≡_, sym, ap, ap₂, _∙_}
 use mathlib.Core.Logic.{by-cases}
-use mathlib.Core.List.{List, _++_}
+use mathlib.Core.List.{List}
 use lib.ListN.{length, getD, drop, take, replicate, length-replicate}
 use lib.Seq.{take-append-seam, ext-getD}
 use Rattle.image.specs.Checked.{checked}
@@ -27,7 +27,7 @@ use Rattle.chain.specs.Call.{answered, chained}
 use Rattle.chain.proofs.Words.{words-length, words-same}
 use Rattle.chain.proofs.Answer.{answer-shows}
 use Rattle.chain.proofs.Call.{call-answered}
-use Rattle.dulimoven.specs.Demands.{Engine, engine, Left, count, Ready, Demand2, Asks, Sees, Proves, Demand3}
+use Rattle.dulimoven.specs.Demands.{Engine, Left, count, Ready, Demand2, Asks, Sees, Proves, Demand3}
 use Rattle.dulimoven.proofs.Demands.{columns}
 
 -- ---- demand 2

@@ -1,6 +1,6 @@
 -- No engine that is wrong in one of the ways of specs/Wrong meets the demand that names it.
 -- Assumes nothing.
-use Prim.Native.Nat.{ℕ, zero, suc, _+_, _*_, _/_, _^_, _≤_, _<_}
+use Prim.Native.Nat.{ℕ, zero, suc, _+_, _*_, _/_, _^_, _<_}
 use native.Mathlib.Omega.{arith}
 use mathlib.Core.Path.{_≡_, refl, sym, ap, subst, _∙_}
 use mathlib.Core.Logic.{inl, inr}
@@ -19,14 +19,14 @@ use Rattle.outcome.specs.Possible.{possible}
 use Rattle.outcome.proofs.Outcome.{present≢untouched}
 use Rattle.card.specs.Answer.{cardArea, cardsOf, cardsAnswer}
 use Rattle.card.specs.Area.{partWord}
-use Rattle.card.specs.Card.{card, cards, changeable}
+use Rattle.card.specs.Card.{card, cards}
 use Rattle.card.specs.Meaning.{Always, needed, set, cleared, place, cardWord}
 use Rattle.card.proofs.Meaning.{flags-count}
 use Rattle.chain.specs.Link.{Link, touchLink, untouchedLink, Chain, Fits}
 use Rattle.chain.specs.Answer.{shown}
 use Rattle.chain.specs.Call.{answered, chained, replyNumber}
 use Rattle.dulimoven.specs.Samples.{L, selfCall, clearThenNeed, pulse}
-use Rattle.dulimoven.specs.Demands.{Engine, engine, Refuses, count, Ready, Demand1, Demand2, Sees, Proves, Demand3}
+use Rattle.dulimoven.specs.Demands.{Engine, count, Ready, Demand1, Demand2, Sees, Proves, Demand3}
 use Rattle.dulimoven.specs.Wrong.{BlankColumn, OneCard, Untouched, NoneAtOnce, AlwaysTwelve, SameLink, InventedLinks, InventedCount, RefusesAll, RefusesAllCards, RefusesAllChains}
 use Rattle.dulimoven.specs.Wrong.{blankCards, lazyCards, fixedChain, fixedLink, noImage}
 use Rattle.dulimoven.proofs.Demands.{written, runs}

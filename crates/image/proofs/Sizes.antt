@@ -1,13 +1,13 @@
 -- The sizes of an accepted image's library: each list is read off the words after its opener, and there are few words.
 -- Assumes nothing.
-use Prim.Native.Nat.{ℕ, zero, suc, _-_, _≤_, _<_}
+use Prim.Native.Nat.{ℕ, zero, suc, _-_, _≤_}
 use native.Mathlib.Omega.{arith}
 use mathlib.Core.Path.{_≡_}
 use mathlib.Core.Bool.{Bool, true, false, cond}
 use mathlib.Core.List.{List, [], _∷_}
 use lib.ListN.{length, getD}
 use Rattle.image.specs.Word.{payload, isKind, isEntry}
-use Rattle.image.specs.Library.{Entry, step, call, Alternative, Sequence, entriesFrom, alternativesFrom, sequencesFrom, sequencesPart, libraryOf}
+use Rattle.image.specs.Library.{step, call, entriesFrom, alternativesFrom, sequencesFrom, sequencesPart, libraryOf}
 use Rattle.image.specs.Checked.{checked}
 use Rattle.image.specs.Accepted.{Small}
 use Rattle.image.specs.declared.answer.Head.{Head}
