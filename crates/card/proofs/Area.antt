@@ -20,9 +20,9 @@ use Rattle.image.proofs.Accepted.{faultless, counted}
 use Rattle.card.specs.Card.{cardWords, card, cardsFrom, cards}
 use Rattle.card.specs.Answer.{answered, cardsOf, areaAfter, cardArea}
 use Rattle.card.specs.Meaning.{cardWord}
-use Rattle.card.specs.Area.{Written}
+use Rattle.card.specs.Area.{partWord, Written}
 use Rattle.card.specs.declared.answer.Cards.{Cards}
-use Rattle.card.proofs.Meaning.{card-right, runs-right}
+use Rattle.card.proofs.Meaning.{card-right, runs-right, card-same, runs-same}
 
 length-card : (L : Library) (c : ℕ) → length (card L c) ≡ cardWords
 unfolding card
@@ -77,13 +77,15 @@ module _ (image area : List ℕ) (n : ℕ) (answer : cardsOf image area ≡ Card
       let few : L .facts ≤ 64 = omega (arith, has .facts, faultless image h accepted .facts-high) in
       let size : length (cards L) ≡ cardWords * n = omega (arith, length-cards L, has .sequences) in
       let after : cardArea image area ≡ cards L ++ drop (cardWords * n) area = ap (λ (a : Cards). areaAfter a image area) answer in
+      let words : (c k : ℕ) → c < n → k < cardWords → partWord (cardArea image area) c k ≡ cardWord L c k =
+      λ c k l u.
+      let inside : cardWords * c + k < length (cards L) = omega arith in
+      ap (λ (a : List ℕ). getD a (cardWords * c + k) 0) after
+      ∙ List·getD-append (cards L) (drop (cardWords * n) area) 0 (cardWords * c + k) inside
+      ∙ card-at L 0 all c k (omega (arith, has .sequences)) u
+      ∙ ap (λ (d : ℕ). cardWord L d k) (zero-add c) in
       record {
-        words = λ c k l u.
-            let inside : cardWords * c + k < length (cards L) = omega arith in
-            ap (λ (a : List ℕ). getD a (cardWords * c + k) 0) after
-            ∙ List·getD-append (cards L) (drop (cardWords * n) area) 0 (cardWords * c + k) inside
-            ∙ card-at L 0 all c k (omega (arith, has .sequences)) u
-            ∙ ap (λ (d : ℕ). cardWord L d k) (zero-add c);
+        words = words;
         past = λ i l.
             let beyond : i ≡ length (cards L) + (i - cardWords * n) = omega arith in
             let back : cardWords * n + (i - cardWords * n) ≡ i = omega arith in
@@ -92,6 +94,6 @@ module _ (image area : List ℕ) (n : ℕ) (answer : cardsOf image area ≡ Card
             ∙ getD-drop (cardWords * n) area (i - cardWords * n) 0
             ∙ ap (λ (j : ℕ). getD area j 0) back;
         long = ap length after ∙ omega (arith, length-append (cards L) (drop (cardWords * n) area), length-drop (cardWords * n) area);
-        cards = card-right L few;
-        runs = runs-right L;
+        cards = λ c l. card-same L c (partWord (cardArea image area) c) (λ k u. words c k l u) (card-right L few c);
+        runs = λ c l. runs-same L c (partWord (cardArea image area) c) (λ k u. words c k l u) (runs-right L c);
       }

@@ -6,8 +6,7 @@ use native.Mathlib.Omega.{arith}
 use mathlib.Core.Path.{_≡_, refl, sym, ap, ap₂, _∙_}
 use mathlib.Core.Logic.{_↔_, _≢_, ⊎-elim, Iff·trans}
 use mathlib.Core.Bool.{Bool, true, false, not, _&&_, _||_, true≢false}
-use mathlib.Core.List.{List, [], _∷_}
-use lib.ListN.{getD}
+use mathlib.Core.List.{List}
 use mir.Val.{boolByte}
 use Rattle.column.specs.Column.{bit}
 use Rattle.column.specs.Sets.{inColumn, countBelow}
@@ -23,8 +22,8 @@ use Rattle.outcome.proofs.Outcome.{present≢untouched, absent≢untouched}
 use Rattle.outcome.proofs.Columns.{question-iff, hasRun-iff, hasEmptyRun-iff, blank-columns, always-iff, missing-iff}
 use Rattle.outcome.proofs.Published.{published-columns}
 use Rattle.outcome.proofs.Execution.{kept}
-use Rattle.card.specs.Card.{may, always, changeable, flags, card, maySet, mayClear}
-use Rattle.card.specs.Meaning.{cardWord, HasRun, Columns, Flags, blank, Card, Kept, Missing, Runs}
+use Rattle.card.specs.Card.{cardWords, may, always, changeable, flags, card, maySet, mayClear}
+use Rattle.card.specs.Meaning.{cardWord, Lacks, HasRun, NoRun, Columns, Flags, Blank, Card, Kept, Always, needed, set, cleared, place, Missing, Runs}
 
 -- ---- a word, one fact at a time
 
@@ -42,7 +41,7 @@ always-lacks L q c f = bit-null (L .facts) (λ (g : ℕ). alwaysOutcome L q c g)
 
 -- ---- demand 2
 
-columns-right : (L : Library) (c : ℕ) → HasRun L c → (f : Fact L) → Columns L c f
+columns-right : (L : Library) (c : ℕ) → HasRun L c → (f : Fact L) → Columns L c (cardWord L c) f
 unfolding card
 columns-right L c run f =
     let p = published-columns L c f (hasRun-iff L c .1 run) in
@@ -63,16 +62,16 @@ always-high : (L : Library) (q : Question) (c f : ℕ) → L .facts ≤ f → bi
 unfolding always
 always-high L q c f u = column-high (L .facts) (λ (g : ℕ). alwaysOutcome L q c g) f u
 
-facts-only : (L : Library) (c k f : ℕ) → 1 ≤ k → L .facts ≤ f → bit (cardWord L c k) f ≡ 0
+facts-only : (L : Library) (c k f : ℕ) → 1 ≤ k → k < cardWords → L .facts ≤ f → Lacks (cardWord L c) k f
 unfolding card
-facts-only L c zero f l u = absurd (omega arith)
-facts-only L c (suc zero) f l u = always-high L firstNeeded c f u
-facts-only L c (suc (suc zero)) f l u = may-high L firstNeeded c f u
-facts-only L c (suc (suc (suc zero))) f l u = may-high L lastSet c f u
-facts-only L c (suc (suc (suc (suc zero)))) f l u = may-high L lastCleared c f u
-facts-only L c (suc (suc (suc (suc (suc zero))))) f l u = always-high L lastSet c f u
-facts-only L c (suc (suc (suc (suc (suc (suc zero)))))) f l u = always-high L lastCleared c f u
-facts-only L c (suc (suc (suc (suc (suc (suc (suc k))))))) f l u = bit-none f
+facts-only L c zero f l m u = absurd (omega arith)
+facts-only L c (suc zero) f l m u = always-high L firstNeeded c f u
+facts-only L c (suc (suc zero)) f l m u = may-high L firstNeeded c f u
+facts-only L c (suc (suc (suc zero))) f l m u = may-high L lastSet c f u
+facts-only L c (suc (suc (suc (suc zero)))) f l m u = may-high L lastCleared c f u
+facts-only L c (suc (suc (suc (suc (suc zero))))) f l m u = always-high L lastSet c f u
+facts-only L c (suc (suc (suc (suc (suc (suc zero)))))) f l m u = always-high L lastCleared c f u
+facts-only L c (suc (suc (suc (suc (suc (suc (suc k))))))) f l m u = absurd (omega arith)
 
 byte-bound : (b : Bool) → boolByte b ≤ 1
 byte-bound true = omega arith
@@ -103,21 +102,25 @@ changeable-count L c =
     (λ f l. ap₂ _||_ (sym (in-column (L .facts) (λ (g : ℕ). possibleOutcome L lastSet c g) f l))
     (sym (in-column (L .facts) (λ (g : ℕ). possibleOutcome L lastCleared c g) f l)))
 
-flags-right : (L : Library) → L .facts ≤ 64 → (c : ℕ) → Flags L c
-unfolding flags changeable
+-- "bits 8 to 14"
+pub flags-count : (L : Library) (c : ℕ) → cardWord L c 0 / 2 ^ 8 ≡ changeable L c
+unfolding card flags
+flags-count L c = omega (arith, byte-bound (hasRun L c), byte-bound (hasEmptyRun L c))
+
+flags-right : (L : Library) → L .facts ≤ 64 → (c : ℕ) → Flags L c (cardWord L c)
+unfolding card flags changeable
 flags-right L high c =
     let run = hasRun L c in
     let empty = hasEmptyRun L c in
     let n = changeable L c in
     let few : n ≤ 64 = omega (arith, count-le (L .facts) (λ (f : ℕ). possibleOutcome L lastSet c f || possibleOutcome L lastCleared c f)) in
-    let whole : flags L c / 2 ^ 8 ≡ n = omega (arith, byte-bound run, byte-bound empty) in
     let low : bit (flags L c) 0 ≡ boolByte run = bit-zero (flags L c) ∙ omega (arith, byte-bound run, byte-bound empty) in
     let second : bit (flags L c) 1 ≡ boolByte empty =
     bit-suc (flags L c) 0 ∙ bit-zero (flags L c / 2) ∙ omega (arith, byte-bound run, byte-bound empty) in
     record {
       run = Iff·trans ((λ e. byte-true run .0 (sym low ∙ e)), λ e. low ∙ byte-true run .1 e) (hasRun-iff L c);
       empty-run = Iff·trans ((λ e. byte-true empty .0 (sym second ∙ e)), λ e. second ∙ byte-true empty .1 e) (hasEmptyRun-iff L c);
-      count = whole ∙ changeable-count L c;
+      count = flags-count L c ∙ changeable-count L c;
       between = λ k l u. middle-bits (boolByte run) (boolByte empty) n k (byte-bound run) (byte-bound empty) l u;
       above = λ k l. bit-high 15 (flags L c) k (omega (arith, few, byte-bound run, byte-bound empty)) l;
     }
@@ -148,32 +151,33 @@ module _ (L : Library) (c : ℕ) (none : hasRun L c ≡ false) where
       ∙ count-none (L .facts) in
       omega (arith, ap boolByte none, ap boolByte empty, count)
 
-  card-blank : card L c ≡ blank
+  card-blank : Blank (cardWord L c)
   unfolding card
-  card-blank i =
-      flags-blank i ∷ always-blank firstNeeded i ∷ may-blank firstNeeded i ∷ may-blank lastSet i ∷ may-blank lastCleared i
-      ∷ always-blank lastSet i ∷ always-blank lastCleared i ∷ []
+  card-blank zero l = flags-blank
+  card-blank (suc zero) l = always-blank firstNeeded
+  card-blank (suc (suc zero)) l = may-blank firstNeeded
+  card-blank (suc (suc (suc zero))) l = may-blank lastSet
+  card-blank (suc (suc (suc (suc zero)))) l = may-blank lastCleared
+  card-blank (suc (suc (suc (suc (suc zero))))) l = always-blank lastSet
+  card-blank (suc (suc (suc (suc (suc (suc zero)))))) l = always-blank lastCleared
+  card-blank (suc (suc (suc (suc (suc (suc (suc k))))))) l = absurd (omega arith)
 
-no-run : (L : Library) (c : ℕ) → ((w : List Item) → ¬ Run L c w) → hasRun L c ≡ false
+no-run : (L : Library) (c : ℕ) → NoRun L c → hasRun L c ≡ false
 no-run L c none =
     ⊎-elim (λ e. let r = hasRun-iff L c .0 e in absurd (none (r .0) (r .1))) (λ e. e) (passes-or-not (hasRun L c))
 
-flags-zero : (L : Library) (c : ℕ) → card L c ≡ blank → flags L c ≡ 0
-unfolding card
-flags-zero L c e = ap (λ (l : List ℕ). getD l 0 0) e
-
-pub card-right : (L : Library) → L .facts ≤ 64 → (c : ℕ) → Card L c
+pub card-right : (L : Library) → L .facts ≤ 64 → (c : ℕ) → Card L c (cardWord L c)
 card-right L high c =
     record {
       columns = columns-right L c;
       facts-only = facts-only L c;
-      flags = flags-right L high c;
       blank = (
         (λ e w r. let one = flags-right L high c .run .1 (w, r) in
-            let zero-bit : bit (flags L c) 0 ≡ 0 = ap (λ (n : ℕ). bit n 0) (flags-zero L c e) ∙ bit-none 0 in
+            let zero-bit : bit (cardWord L c 0) 0 ≡ 0 = ap (λ (n : ℕ). bit n 0) (e 0 (omega arith)) ∙ bit-none 0 in
             omega arith),
         λ none. card-blank L c (no-run L c none),
       );
+      flags = flags-right L high c;
     }
 
 -- ---- demand 3 over the words of a card
@@ -186,7 +190,7 @@ module _ (L : Library) (c : ℕ) where
   may-run : (q : Question) (w : List Item) → Run L c w → (f : Fact L) → HasOutcome L q (f .0) w → bit (may L q c) (f .0) ≡ 1
   may-run q w r f o = may-holds L q c f .1 (question-iff L q c (f .0) .1 (w, r, o))
 
-  runs-kept : (w : List Item) → Run L c w → (s : State L) → Executes L w s → (f : Fact L) → Kept L c w s f
+  runs-kept : (w : List Item) → Run L c w → (s : State L) → Executes L w s → (f : Fact L) → Kept L (cardWord L c) w s f
   unfolding card
   runs-kept w r s ex f =
       let k = kept L f w s ex in
@@ -198,14 +202,63 @@ module _ (L : Library) (c : ℕ) where
         lost = λ q e. may-run lastCleared w r f (k .lost q e);
       }
 
-  missing-right : (f : Fact L) → Missing L c f
+  missing-right : (a : Always) (f : Fact L) → Missing L c (cardWord L c) a f
   unfolding card
-  missing-right f =
+  missing-right needed f = Iff·trans (always-lacks L firstNeeded c f) (missing-iff L firstNeeded c (f .0) present≢untouched)
+  missing-right set f = Iff·trans (always-lacks L lastSet c f) (missing-iff L lastSet c (f .0) present≢untouched)
+  missing-right cleared f = Iff·trans (always-lacks L lastCleared c f) (missing-iff L lastCleared c (f .0) absent≢untouched)
+
+  pub runs-right : Runs L c (cardWord L c)
+  runs-right = record { kept = runs-kept; missing = missing-right }
+
+-- ---- words found elsewhere that are the same
+
+module _ (L : Library) (c : ℕ) (word : ℕ → ℕ) (same : (k : ℕ) → k < cardWords → word k ≡ cardWord L c k) where
+  pub card-same : Card L c (cardWord L c) → Card L c word
+  card-same card =
+      let flags = card .flags in
       record {
-        always-needed = Iff·trans (always-lacks L firstNeeded c f) (missing-iff L firstNeeded c (f .0) present≢untouched);
-        always-set = Iff·trans (always-lacks L lastSet c f) (missing-iff L lastSet c (f .0) present≢untouched);
-        always-cleared = Iff·trans (always-lacks L lastCleared c f) (missing-iff L lastCleared c (f .0) absent≢untouched);
+        columns = λ run f.
+            let columns = card .columns run f in
+            record {
+              always-needed = rw (same 1 (omega arith)) (columns .always-needed);
+              may-need = rw (same 2 (omega arith)) (columns .may-need);
+              may-set = rw (same 3 (omega arith)) (columns .may-set);
+              may-clear = rw (same 4 (omega arith)) (columns .may-clear);
+              always-set = rw (same 5 (omega arith)) (columns .always-set);
+              always-cleared = rw (same 6 (omega arith)) (columns .always-cleared);
+            };
+        facts-only = λ k f l m u. rw (same k m) (card .facts-only k f l m u);
+        blank = (
+          (λ none. card .blank .0 (λ k l. sym (same k l) ∙ none k l)),
+          λ none k l. same k l ∙ card .blank .1 none k l,
+        );
+        flags =
+            record {
+              run = rw (same 0 (omega arith)) (flags .run);
+              empty-run = rw (same 0 (omega arith)) (flags .empty-run);
+              count = rw (same 0 (omega arith), same 3 (omega arith), same 4 (omega arith)) (flags .count);
+              between = rw (same 0 (omega arith)) (flags .between);
+              above = rw (same 0 (omega arith)) (flags .above);
+            };
       }
 
-  pub runs-right : Runs L c
-  runs-right = record { kept = runs-kept; missing = missing-right }
+  place-low : (a : Always) → place a < cardWords
+  place-low needed = omega arith
+  place-low set = omega arith
+  place-low cleared = omega arith
+
+  pub runs-same : Runs L c (cardWord L c) → Runs L c word
+  runs-same runs =
+      record {
+        kept = λ w r s ex f.
+            let kept = runs .kept w r s ex f in
+            record {
+              needed = rw (same 1 (omega arith)) (kept .needed);
+              set = rw (same 5 (omega arith)) (kept .set);
+              cleared = rw (same 6 (omega arith)) (kept .cleared);
+              gained = rw (same 3 (omega arith)) (kept .gained);
+              lost = rw (same 4 (omega arith)) (kept .lost);
+            };
+        missing = λ a f. rw (same (place a) (place-low a)) (runs .missing a f);
+      }

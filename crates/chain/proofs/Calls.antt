@@ -7,7 +7,7 @@ use mathlib.Core.List.{List}
 use native.Mathlib.Omega.{arith}
 use lib.ListN.{length, drop, length-append, length-drop}
 use lib.Dec.{leb, ltb}
-use borrow.Author.Tests.{le-leb, lt-leb, lt-ltb, le-ltb, leb-true}
+use borrow.Author.Tests.{le-leb, lt-leb, lt-ltb, le-ltb, leb-true, ltb-true}
 use Rattle.image.specs.Checked.{checked}
 use Rattle.image.specs.Library.{libraryOf}
 use Rattle.image.specs.declared.answer.Head.{Head}
@@ -99,6 +99,47 @@ area-length image c q f area = go (chained image c q f (length area)) (call-room
     go (answered none) h = refl
     go (answered (shown ls)) h =
         omega (arith, length-append (chainWords ls) (drop (length (chainWords ls)) area), length-drop (length (chainWords ls)) area)
+
+-- where the call answers, the image is accepted, the numbers are in range, and it is the answer to the question
+pub record Answers (image : List ℕ) (c q f : ℕ) (a : Answer) : Type 0 where
+  pub head : Head
+  pub accepted : checked image ≡ Accepted head
+  pub sequence : c < head .sequences
+  pub question : q ≤ 5
+  pub fact : f < head .facts
+  pub known : answer (libraryOf image) (questionOf q) c f ≡ a
+
+cond-answered : (b : Bool) (x : Reply) (r : Refusal) (a : Answer) → cond b x (refused r) ≡ answered a → (b ≡ true) × (x ≡ answered a)
+cond-answered true x r a e = (refl, e)
+cond-answered false x r a e = let no : _≡_ {A = ℕ} 0 1 = cc in absurd (omega arith)
+
+area-answered : (room : ℕ) (found a : Answer) → inArea room found ≡ answered a → found ≡ a
+area-answered room none a e = cc
+area-answered room (shown ls) a e =
+    let whole = cond-answered (leb (length (chainWords ls)) room) (answered (shown ls)) ChainArea a e .1 in
+    cc
+
+pub call-answered : (image : List ℕ) (c q f room : ℕ) (a : Answer) → chained image c q f room ≡ answered a → Answers image c q f a
+unfolding chained
+call-answered image c q f room a e = go (checked image) refl e
+  where
+    go : (k : Checked) → checked image ≡ k → afterCheck k image c q f room ≡ answered a → Answers image c q f a
+    go (Refused r) known told = let no : _≡_ {A = ℕ} 0 1 = cc in absurd (omega arith)
+    go (Accepted h) known told =
+        let reply = inArea room (answer (libraryOf image) (questionOf q) c f) in
+        let fact = cond (ltb f (h .facts)) reply (refused Fact) in
+        let question = cond (leb q 5) fact (refused Question) in
+        let first = cond-answered (ltb c (h .sequences)) question Sequence a told in
+        let second = cond-answered (leb q 5) fact Question a (first .1) in
+        let third = cond-answered (ltb f (h .facts)) reply Fact a (second .1) in
+        record {
+          head = h;
+          accepted = known;
+          sequence = ltb-true c (h .sequences) (first .0);
+          question = leb-true q 5 (second .0);
+          fact = ltb-true f (h .facts) (third .0);
+          known = area-answered room (answer (libraryOf image) (questionOf q) c f) a (third .1);
+        }
 
 -- ---- what the code does comes to the call
 

@@ -9,6 +9,7 @@ pub mod Unique
 pub mod Visits
 pub mod Words
 pub mod Calls
+pub mod Fits
 pub mod Walk
 pub mod Folds
 pub mod Looks

@@ -5,7 +5,7 @@ use mathlib.Core.List.{[], _∷_, _++_, append-assoc}
 use native.Mathlib.Omega.{arith}
 use lib.ListN.{length, length-append}
 use Rattle.image.specs.Accepted.{All}
-use Rattle.chain.specs.Link.{Link, touchLink, untouchedLink, Chain, choiceWord, linkWords, chainWords}
+use Rattle.chain.specs.Link.{Link, touchLink, untouchedLink, Chain, choiceWord, linkWords, Fits, chainWords}
 
 link-length : (l : Link) → length (linkWords l) ≡ 2
 link-length (touchLink c i p) = refl
@@ -22,11 +22,6 @@ unfolding chainWords
 words-append [] ms = refl
 words-append (l ∷ ls) ms =
     ap (λ ws. linkWords l ++ ws) (words-append ls ms) ∙ sym (append-assoc (linkWords l) (chainWords ls) (chainWords ms))
-
--- the numbers of a link have room in its words: "bits 0 to 7 the sequence, bits 8 to 20 the alternative", the position in a payload
-abbrev pub Fits : Link → Type 0
-Fits (touchLink c i p) = (c < 2 ^ 8) × (i < 2 ^ 13) × (p < 2 ^ 28)
-Fits (untouchedLink c i) = (c < 2 ^ 8) × (i < 2 ^ 13)
 
 choice-same : (c i d j : ℕ) → c < 2 ^ 8 → d < 2 ^ 8 → choiceWord c i ≡ choiceWord d j → (c ≡ d) × (i ≡ j)
 choice-same c i d j lc ld e = (omega arith, omega arith)

@@ -1,1 +1,3 @@
 pub mod Samples
+pub mod Demands
+pub mod Wrong

@@ -7,3 +7,4 @@ pub mod Lookup
 pub mod Read
 pub mod Sum
 pub mod Walk
+pub mod Sizes

@@ -71,3 +71,9 @@ pub record Counted (l : Library) (h : Head) : Type 0 where
   pub sequences : length (l .sequences) ≡ h .sequences
   pub below : All (Below (h .facts)) (l .steps)
   pub named : All (All (All (Named h))) (l .sequences)
+
+-- no sequence has as many alternatives, and no alternative as many entries, as an image may have words
+pub record Small (l : Library) : Type 0 where
+  pub sequences : length (l .sequences) ≤ 256
+  pub alternatives : (c : ℕ) → length (getD (l .sequences) c []) < 8192
+  pub entries : (c i : ℕ) → length (getD (getD (l .sequences) c []) i []) < 8192

@@ -1,0 +1,91 @@
+-- What the demands fix: every word of the card area by demand 2, and by demand 3 that the links which a caller reads in the area show what
+-- was asked.
+-- Assumes nothing.
+use Prim.Native.Nat.{ℕ, _+_, _*_, _/_, _%_, _≤_, _<_}
+use native.Mathlib.Nat.{mod-lt, zero-lt-suc}
+use native.Mathlib.Omega.{arith}
+use native.Mathlib.Decide.{decLt}
+use mathlib.Core.Path.{_≡_, sym, ap, ap₂, _∙_}
+use mathlib.Core.Logic.{by-cases}
+use mathlib.Core.List.{List}
+use lib.ListN.{length, getD, drop, take, replicate, length-replicate}
+use lib.Seq.{take-append-seam, ext-getD}
+use Rattle.image.specs.Checked.{checked}
+use Rattle.image.specs.Library.{libraryOf}
+use Rattle.image.specs.declared.answer.Head.{Head}
+use Rattle.image.specs.declared.answer.Checked.{Checked}
+use Rattle.image.proofs.Accepted.{counted}
+use Rattle.outcome.specs.Touch.{questionOf}
+use Rattle.card.specs.Answer.{cardArea}
+use Rattle.card.specs.Area.{partWord}
+use Rattle.card.specs.Card.{cardWords}
+use Rattle.card.specs.Meaning.{Always}
+use Rattle.card.proofs.Unique.{card-unique}
+use Rattle.chain.specs.Link.{Chain, chainWords}
+use Rattle.chain.specs.Answer.{shown}
+use Rattle.chain.specs.Call.{answered, chained}
+use Rattle.chain.proofs.Words.{words-length, words-same}
+use Rattle.chain.proofs.Answers.{answer-shows}
+use Rattle.chain.proofs.Calls.{call-answered}
+use Rattle.dulimoven.specs.Demands.{Engine, Left, count, Ready, Demand2, Asks, Sees, Proves, Demand3}
+use Rattle.dulimoven.proofs.Demands.{columns}
+
+-- ---- demand 2
+
+module _ (e : Engine) (d : Demand2 e) (image area : List ℕ) (ready : Ready image area) where
+  pub cards-fixed : (c k : ℕ) → c < count (libraryOf image) → k < cardWords
+      → partWord (e .cards image area .area) c k ≡ partWord (cardArea image area) c k
+  cards-fixed c k l u =
+      card-unique (libraryOf image) c (partWord (e .cards image area .area) c) (partWord (cardArea image area) c) (d .card image area ready c l)
+      (columns .card image area ready c l) k u
+
+  pub area-fixed : e .cards image area .area ≡ cardArea image area
+  area-fixed =
+      ext-getD 0 (e .cards image area .area) (cardArea image area) (d .long image area ready ∙ sym (columns .long image area ready))
+      (λ i l. by-cases (decLt i (cardWords * count (libraryOf image))) (inside i)
+      (λ high. let from : cardWords * count (libraryOf image) ≤ i = omega arith in
+      d .past image area ready i from ∙ sym (columns .past image area ready i from)))
+    where
+      inside : (i : ℕ) → i < cardWords * count (libraryOf image) → getD (e .cards image area .area) i 0 ≡ getD (cardArea image area) i 0
+      inside i l =
+          let place : i ≡ cardWords * (i / 7) + i % 7 = omega arith in
+          ap (λ (j : ℕ). getD (e .cards image area .area) j 0) place
+          ∙ cards-fixed (i / 7) (i % 7) (omega arith) (mod-lt i (zero-lt-suc 6))
+          ∙ ap (λ (j : ℕ). getD (cardArea image area) j 0) (sym place)
+
+-- ---- demand 3
+
+-- the words in the area tell the links
+pub links-told : (before : List ℕ) (left : Left) (ls ms : Chain) → Sees before left ls → Sees before left ms → ls ≡ ms
+links-told before left ls ms one two =
+    let same : length ls ≡ length ms = sym (one .number) ∙ two .number in
+    let size : length (chainWords ls) ≡ length (chainWords ms) = omega (arith, words-length ls, words-length ms) in
+    words-same ls ms (one .fits) (two .fits)
+    (sym (take-append-seam (chainWords ls) (drop (2 * length ls) before))
+    ∙ ap₂ (λ (n : ℕ) (ws : List ℕ). take n ws) size (sym (one .area) ∙ two .area)
+    ∙ take-append-seam (chainWords ms) (drop (2 * length ms) before))
+
+-- a card area with room for an accepted image
+pub some-area : List ℕ → List ℕ
+some-area image = replicate (cardWords * count (libraryOf image)) 0
+
+pub ready-for : (image : List ℕ) (h : Head) → checked image ≡ Checked.Accepted h → Ready image (some-area image)
+unfolding some-area
+ready-for image h accepted =
+    record { head = h; accepted = accepted; room = omega (arith, length-replicate {A = ℕ} (cardWords * count (libraryOf image)) 0) }
+
+-- by demand 3 a question about a broken rule that has a chain gets one that shows it
+pub chain-shown : (e : Engine) → Demand3 e → (image : List ℕ) (c q f : ℕ) (a : Always) → Asks a q → (area : List ℕ)
+    → 2 * count (libraryOf image) ≤ length area → (right : Chain) → chained image c q f (length area) ≡ answered (shown right)
+    → (links : Chain) × Sees area (e .chain image c q f area) links × Proves (libraryOf image) c a f q links
+chain-shown e d image c q f a asks area room right told =
+    let call = call-answered image c q f (length area) (shown right) told in
+    let size = counted image (call .head) (call .accepted) in
+    let sequences = size .sequences in
+    let facts = size .facts in
+    let sequence = call .sequence in
+    let fact = call .fact in
+    let shows = answer-shows (libraryOf image) (questionOf q) c f right (call .known) in
+    let (run, outcome) = shows .runs (shows .run) (shows .stands) in
+    d .shown image (some-area image) (ready-for image (call .head) (call .accepted)) c (omega arith) .answer a (f, omega arith) (shows .run) run q asks
+    outcome area room

@@ -1,0 +1,306 @@
+-- No engine that is wrong in one of the ways of specs/Wrong meets the demand that names it.
+-- Assumes nothing.
+use Prim.Native.Nat.{ℕ, zero, suc, _+_, _*_, _/_, _^_, _<_}
+use native.Mathlib.Omega.{arith}
+use mathlib.Core.Path.{_≡_, refl, sym, ap, subst, _∙_}
+use mathlib.Core.Logic.{inl, inr}
+use mathlib.Core.List.{List, [], _∷_}
+use lib.ListN.{length, getD, replicate}
+use Rattle.column.specs.Column.{bit}
+use Rattle.column.proofs.Bits.{bit-zero, bit-none}
+use Rattle.image.specs.Answer.{checkedAnswer}
+use Rattle.image.specs.Checked.{scan, checked}
+use Rattle.image.specs.Library.{Library, has, libraryOf}
+use Rattle.image.specs.Rules.{opened, lastOf}
+use Rattle.image.specs.Word.{total}
+use Rattle.image.specs.declared.answer.Checked.{Checked}
+use Rattle.image.proofs.Accepted.{counted}
+use Rattle.outcome.specs.Possible.{possible}
+use Rattle.outcome.proofs.Outcome.{present≢untouched}
+use Rattle.card.specs.Answer.{cardArea, cardsOf, cardsAnswer}
+use Rattle.card.specs.Area.{partWord}
+use Rattle.card.specs.Card.{card, cards}
+use Rattle.card.specs.Meaning.{Always, needed, set, cleared, place, cardWord}
+use Rattle.card.proofs.Meaning.{flags-count}
+use Rattle.chain.specs.Link.{Link, touchLink, untouchedLink, Chain, Fits}
+use Rattle.chain.specs.Answer.{shown}
+use Rattle.chain.specs.Call.{answered, chained, replyNumber}
+use Rattle.dulimoven.specs.Samples.{L, selfCall, clearThenNeed, pulse}
+use Rattle.dulimoven.specs.Demands.{Engine, count, Ready, Demand1, Demand2, Sees, Proves, Demand3}
+use Rattle.dulimoven.specs.Wrong.{BlankColumn, OneCard, Untouched, NoneAtOnce, AlwaysTwelve, SameLink, InventedLinks, InventedCount, RefusesAll, RefusesAllCards, RefusesAllChains}
+use Rattle.dulimoven.specs.Wrong.{blankCards, lazyCards, fixedChain, fixedLink, noImage}
+use Rattle.dulimoven.proofs.Demands.{written, runs}
+use Rattle.dulimoven.proofs.Fixed.{cards-fixed, area-fixed, links-told, chain-shown}
+
+-- ---- the samples, by computation
+
+abbrev zeros : ℕ → List ℕ
+zeros n = replicate n 0
+
+accepted-L : checked L ≡ Checked.Accepted (record { facts = 3; steps = 3; sequences = 3 })
+unfolding checked scan total opened lastOf
+accepted-L = refl
+
+accepted-selfCall : checked selfCall ≡ Checked.Accepted (record { facts = 1; steps = 0; sequences = 1 })
+unfolding checked scan total opened lastOf
+accepted-selfCall = refl
+
+accepted-clearThenNeed : checked clearThenNeed ≡ Checked.Accepted (record { facts = 1; steps = 2; sequences = 1 })
+unfolding checked scan total opened lastOf
+accepted-clearThenNeed = refl
+
+accepted-pulse : checked pulse ≡ Checked.Accepted (record { facts = 1; steps = 1; sequences = 1 })
+unfolding checked scan total opened lastOf
+accepted-pulse = refl
+
+cards-L : cardArea L (zeros 21)
+    ≡ 0x103 ∷ 0 ∷ 0 ∷ 1 ∷ 0 ∷ 0 ∷ 0 ∷ 0x201 ∷ 0 ∷ 1 ∷ 3 ∷ 0 ∷ 2 ∷ 0 ∷ 0 ∷ 0 ∷ 0 ∷ 0 ∷ 0 ∷ 0 ∷ 0 ∷ []
+unfolding checked scan total opened lastOf libraryOf has possible cards card
+cards-L = refl
+
+filled-L : cardsAnswer (cardsOf L (zeros 21)) ≡ 3
+unfolding checked scan total opened lastOf
+filled-L = refl
+
+cards-clearThenNeed : cardArea clearThenNeed (zeros 7) ≡ 0x101 ∷ 1 ∷ 1 ∷ 0 ∷ 1 ∷ 0 ∷ 1 ∷ []
+unfolding checked scan total opened lastOf libraryOf has possible cards card
+cards-clearThenNeed = refl
+
+cards-pulse : cardArea pulse (zeros 7) ≡ 0x101 ∷ 0 ∷ 0 ∷ 1 ∷ 0 ∷ 1 ∷ 0 ∷ []
+unfolding checked scan total opened lastOf libraryOf has possible cards card
+cards-pulse = refl
+
+chain-selfCall : chained selfCall 0 2 0 (length (zeros 2)) ≡ answered (shown (untouchedLink 0 1 ∷ []))
+unfolding chained total opened lastOf has possible
+chain-selfCall = refl
+
+chain-L : chained L 1 0 0 (length (zeros 6)) ≡ answered (shown (touchLink 1 0 0 ∷ touchLink 0 0 0 ∷ []))
+unfolding chained total opened lastOf has possible
+chain-L = refl
+
+ready-L : Ready L (zeros 21)
+ready-L =
+    let size : length (zeros 21) ≡ 21 = refl in
+    record { head = _; accepted = accepted-L; room = omega (arith, counted L _ accepted-L .sequences) }
+
+ready-clearThenNeed : Ready clearThenNeed (zeros 7)
+ready-clearThenNeed =
+    let size : length (zeros 7) ≡ 7 = refl in
+    record { head = _; accepted = accepted-clearThenNeed; room = omega (arith, counted clearThenNeed _ accepted-clearThenNeed .sequences) }
+
+ready-pulse : Ready pulse (zeros 7)
+ready-pulse =
+    let size : length (zeros 7) ≡ 7 = refl in
+    record { head = _; accepted = accepted-pulse; room = omega (arith, counted pulse _ accepted-pulse .sequences) }
+
+-- ---- demand 1
+
+-- "refusing all images"
+pub refuses-all : (e : Engine) → RefusesAll e → ¬ Demand1 e
+refuses-all e wrong d =
+    let right : e .check L ≡ 786819 = d .check L ∙ ap checkedAnswer accepted-L in
+    let high = wrong L in
+    omega arith
+
+pub refuses-all-cards : (e : Engine) → RefusesAllCards e → ¬ Demand1 e
+refuses-all-cards e wrong d =
+    let right : e .cards L (zeros 21) .number ≡ 3 = d .cards L (zeros 21) ∙ filled-L in
+    let high = wrong L (zeros 21) in
+    omega arith
+
+pub refuses-all-chains : (e : Engine) → RefusesAllChains e → ¬ Demand1 e
+refuses-all-chains e wrong d =
+    let right : e .chain selfCall 0 2 0 (zeros 2) .number ≡ 1 = d .chain selfCall 0 2 0 (zeros 2) ∙ ap replyNumber chain-selfCall in
+    let high = wrong selfCall 0 2 0 (zeros 2) in
+    omega arith
+
+-- "12 whatever the area"
+pub always-twelve : (e : Engine) → AlwaysTwelve e → ¬ Demand1 e
+always-twelve e wrong d =
+    let right : e .chain selfCall 0 2 0 (zeros 2) .number ≡ 1 = d .chain selfCall 0 2 0 (zeros 2) ∙ ap replyNumber chain-selfCall in
+    let twelve = wrong selfCall 0 2 0 (zeros 2) (untouchedLink 0 1 ∷ []) chain-selfCall in
+    omega arith
+
+-- ---- demand 2
+
+-- "one card for every sequence": the cards of sequences 0 and 2 of L
+pub one-card : (e : Engine) → OneCard e → ¬ Demand2 e
+one-card e wrong d =
+    let size = counted L _ accepted-L .sequences in
+    let first = cards-fixed e d L (zeros 21) ready-L 0 0 (omega arith) (omega arith) in
+    let third = cards-fixed e d L (zeros 21) ready-L 2 0 (omega arith) (omega arith) in
+    let same = wrong L (zeros 21) ready-L 0 2 0 (omega arith) (omega arith) (omega arith) in
+    let one : partWord (cardArea L (zeros 21)) 0 0 ≡ 0x103 = ap (λ (a : List ℕ). partWord a 0 0) cards-L in
+    let none : partWord (cardArea L (zeros 21)) 2 0 ≡ 0 = ap (λ (a : List ℕ). partWord a 2 0) cards-L in
+    omega arith
+
+-- "an untouched area"
+pub untouched : (e : Engine) → Untouched e → ¬ Demand2 e
+untouched e wrong d =
+    let fixed = area-fixed e d L (zeros 21) ready-L in
+    let same = wrong L (zeros 21) ready-L in
+    let word : _≡_ {A = ℕ} 0 0x103 = ap (λ (a : List ℕ). getD a 0 0) (sym same ∙ fixed ∙ cards-L) in
+    omega arith
+
+-- "an invented .. fact count"
+pub invented-count : (e : Engine) → InventedCount e → ¬ Demand2 e
+invented-count e wrong d =
+    wrong .invented
+    (ap (λ (n : ℕ). n / 2 ^ 8) (cards-fixed e d (wrong .image) (wrong .area) (wrong .ready) (wrong .sequence) 0 (wrong .low) (omega arith))
+    ∙ ap (λ (n : ℕ). n / 2 ^ 8) (written (wrong .image) (wrong .area) (wrong .ready) .words (wrong .sequence) 0 (wrong .low) (omega arith))
+    ∙ flags-count (libraryOf (wrong .image)) (wrong .sequence))
+
+-- ---- demand 3
+
+-- an "always" column that is blank on a card has no fact of the right one
+module _ (a : Always) (e : Engine) (wrong : BlankColumn a e) (d : Demand3 e) where
+  blank-right : (image area : List ℕ) → Ready image area → (c : ℕ) → c < count (libraryOf image) → (f : ℕ) → f < libraryOf image .facts
+      → bit (partWord (cardArea image area) c (place a)) f ≡ 0
+  blank-right image area ready c l f low =
+      let lacks : bit (partWord (e .cards image area .area) c (place a)) f ≡ 0 =
+      ap (λ (n : ℕ). bit n f) (wrong image area ready c l) ∙ bit-none f in
+      runs .shown image area ready c l .missing a (f, low) .1 (d .shown image area ready c l .missing a (f, low) .0 lacks)
+
+-- "blank "always" columns"
+pub blank-column : (a : Always) (e : Engine) → BlankColumn a e → ¬ Demand3 e
+blank-column needed e wrong d =
+    let size = counted clearThenNeed _ accepted-clearThenNeed in
+    let zero-bit = blank-right needed e wrong d clearThenNeed (zeros 7) ready-clearThenNeed 0 (omega (arith, size .sequences)) 0 (omega (arith, size .facts)) in
+    let one-bit = ap (λ (l : List ℕ). bit (partWord l 0 1) 0) cards-clearThenNeed ∙ bit-zero 1 in
+    omega arith
+blank-column set e wrong d =
+    let size = counted pulse _ accepted-pulse in
+    let zero-bit = blank-right set e wrong d pulse (zeros 7) ready-pulse 0 (omega (arith, size .sequences)) 0 (omega (arith, size .facts)) in
+    let one-bit = ap (λ (l : List ℕ). bit (partWord l 0 5) 0) cards-pulse ∙ bit-zero 1 in
+    omega arith
+blank-column cleared e wrong d =
+    let size = counted clearThenNeed _ accepted-clearThenNeed in
+    let zero-bit = blank-right cleared e wrong d clearThenNeed (zeros 7) ready-clearThenNeed 0 (omega (arith, size .sequences)) 0 (omega (arith, size .facts)) in
+    let one-bit = ap (λ (l : List ℕ). bit (partWord l 0 6) 0) cards-clearThenNeed ∙ bit-zero 1 in
+    omega arith
+
+-- the question of the sample with the endless sequence
+shown-selfCall : (e : Engine) → Demand3 e
+    → (links : Chain) × Sees (zeros 2) (e .chain selfCall 0 2 0 (zeros 2)) links × Proves (libraryOf selfCall) 0 set 0 2 links
+shown-selfCall e d =
+    let room : length (zeros 2) ≡ 2 = refl in
+    chain-shown e d selfCall 0 2 0 set (inr refl) (zeros 2) (omega (arith, counted selfCall _ accepted-selfCall .sequences)) (untouchedLink 0 1 ∷ [])
+    chain-selfCall
+
+-- a chain without a link stands for no run
+no-links : (K : Library) (c : ℕ) (a : Always) (f q : ℕ) (links : Chain) → length links ≡ 0 → ¬ Proves K c a f q links
+no-links K c a f q [] e p = p .some .1
+no-links K c a f q (l ∷ ls) e p = omega arith
+
+-- ""none" before looking"
+pub none-at-once : (e : Engine) → NoneAtOnce e → ¬ Demand3 e
+none-at-once e wrong d =
+    let (links, sees, proves) = shown-selfCall e d in
+    let none = wrong selfCall 0 2 0 (zeros 2) (shown (untouchedLink 0 1 ∷ [])) chain-selfCall in
+    no-links (libraryOf selfCall) 0 set 0 2 links (sym (sees .number) ∙ none) proves
+
+-- "12 whatever the area"
+pub twelve-unshown : (e : Engine) → AlwaysTwelve e → ¬ Demand3 e
+twelve-unshown e wrong d =
+    let (links, sees, proves) = shown-selfCall e d in
+    let twelve = wrong selfCall 0 2 0 (zeros 2) (untouchedLink 0 1 ∷ []) chain-selfCall in
+    let number = sees .number in
+    let few = proves .few in
+    omega (arith, counted selfCall _ accepted-selfCall .sequences)
+
+-- "an invented link": links that do not show what was asked, in any area
+pub invented-links : (e : Engine) → InventedLinks e → ¬ Demand3 e
+invented-links e wrong d =
+    let (links, sees, proves) =
+    chain-shown e d (wrong .image) (wrong .sequence) (wrong .question) (wrong .fact) (wrong .column) (wrong .asks) (wrong .area) (wrong .room)
+    (wrong .right) (wrong .told) in
+    let same = links-told (wrong .area) (e .chain (wrong .image) (wrong .sequence) (wrong .question) (wrong .fact) (wrong .area)) links (wrong .links) sees (wrong .sees) in
+    wrong .invented (subst (Proves (libraryOf (wrong .image)) (wrong .sequence) (wrong .column) (wrong .fact) (wrong .question)) same proves)
+
+-- one link of kind 11 does not answer question 2, one of kind 12 does not answer question 0
+touch-unasked : (K : Library) (c f d i p : ℕ) (a : Always) → ¬ Proves K c a f 2 (touchLink d i p ∷ [])
+touch-unasked K c f d i p a proves = let (w, (lt, k), run, outcome) = proves .some in k .touch refl
+
+untouched-unasked : (K : Library) (c f d i : ℕ) (a : Always) → ¬ Proves K c a f 0 (untouchedLink d i ∷ [])
+untouched-unasked K c f d i a proves =
+    let (w, (lt, ends, given, leaves), run, outcome) = proves .some in
+    present≢untouched (sym outcome ∙ leaves)
+
+-- and one and the same link to every question
+pub same-link : (l : Link) (e : Engine) → SameLink l e → ¬ Demand3 e
+same-link (touchLink c i p) e wrong d =
+    let (links, sees, proves) = shown-selfCall e d in
+    let told = wrong selfCall 0 2 0 (zeros 2) (untouchedLink 0 1 ∷ []) chain-selfCall in
+    let same = links-told (zeros 2) (e .chain selfCall 0 2 0 (zeros 2)) links (touchLink c i p ∷ []) sees told in
+    touch-unasked (libraryOf selfCall) 0 0 c i p set (subst (Proves (libraryOf selfCall) 0 set 0 2) same proves)
+same-link (untouchedLink c i) e wrong d =
+    let room : length (zeros 6) ≡ 6 = refl in
+    let (links, sees, proves) =
+    chain-shown e d L 1 0 0 cleared (inl refl) (zeros 6) (omega (arith, counted L _ accepted-L .sequences)) (touchLink 1 0 0 ∷ touchLink 0 0 0 ∷ []) chain-L in
+    let told = wrong L 1 0 0 (zeros 6) (touchLink 1 0 0 ∷ touchLink 0 0 0 ∷ []) chain-L in
+    let same = links-told (zeros 6) (e .chain L 1 0 0 (zeros 6)) links (untouchedLink c i ∷ []) sees told in
+    untouched-unasked (libraryOf L) 1 0 c i cleared (subst (Proves (libraryOf L) 1 cleared 0 0) same proves)
+
+-- ---- each way is one that some engine goes
+
+blank-word : (n i : ℕ) → getD (zeros n) i 0 ≡ 0
+blank-word zero i = refl
+blank-word (suc n) zero = refl
+blank-word (suc n) (suc i) = blank-word n i
+
+pub blank-goes : (a : Always) → BlankColumn a blankCards
+blank-goes a image area ready c l = blank-word (length area) (7 * c + place a)
+
+pub one-card-goes : OneCard blankCards
+one-card-goes image area ready c d k l m u = blank-word (length area) (7 * c + k) ∙ sym (blank-word (length area) (7 * d + k))
+
+pub untouched-goes : Untouched lazyCards
+untouched-goes image area ready = refl
+
+pub invented-count-goes : InventedCount blankCards
+invented-count-goes =
+    record {
+      image = L;
+      area = zeros 21;
+      ready = ready-L;
+      sequence = 0;
+      low = omega (arith, counted L _ accepted-L .sequences);
+      invented = λ same.
+          let right = flags-count (libraryOf L) 0 in
+          let word : cardWord (libraryOf L) 0 0 ≡ 0x103 =
+          sym (written L (zeros 21) ready-L .words 0 0 (omega (arith, counted L _ accepted-L .sequences)) (omega arith))
+          ∙ ap (λ (a : List ℕ). partWord a 0 0) cards-L in
+          let blank = blank-word (length (zeros 21)) 0 in
+          omega arith;
+    }
+
+pub none-goes : NoneAtOnce (fixedChain 0)
+none-goes image c q f area a told = refl
+
+pub twelve-goes : AlwaysTwelve (fixedChain (12 * 2 ^ 32))
+twelve-goes image c q f area ls told = refl
+
+pub same-link-goes : (l : Link) → Fits l → SameLink l (fixedLink l)
+same-link-goes l fits image c q f area ls told = record { number = refl; area = refl; fits = (fits, tt) }
+
+pub invented-links-goes : InventedLinks (fixedLink (touchLink 0 0 0))
+invented-links-goes =
+    let size : length (zeros 2) ≡ 2 = refl in
+    record {
+      image = selfCall;
+      sequence = 0;
+      fact = 0;
+      question = 2;
+      column = set;
+      asks = inr refl;
+      area = zeros 2;
+      room = omega (arith, counted selfCall _ accepted-selfCall .sequences);
+      right = untouchedLink 0 1 ∷ [];
+      told = chain-selfCall;
+      links = touchLink 0 0 0 ∷ [];
+      sees = same-link-goes (touchLink 0 0 0) (omega arith, omega arith, omega arith) selfCall 0 2 0 (zeros 2) (untouchedLink 0 1 ∷ []) chain-selfCall;
+      invented = touch-unasked (libraryOf selfCall) 0 0 0 0 0 set;
+    }
+
+pub refuses-goes : RefusesAll noImage
+refuses-goes image = omega arith

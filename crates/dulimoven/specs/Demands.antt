@@ -1,0 +1,159 @@
+-- The three demands, as one statement over what a caller of the three calls sees: the numbers that they answer, and the words in the areas
+-- that were lent to them. The sentences are quoted from the demands and from document 01.
+use Prim.Native.Nat.{ℕ, _*_, _^_, _≤_, _<_}
+use mathlib.Core.Path.{_≡_}
+use mathlib.Core.Logic.{_↔_, _⊎_}
+use mathlib.Core.List.{List, _++_}
+use lib.ListN.{length, getD, drop}
+use Rattle.image.specs.Accepted.{All}
+use Rattle.image.specs.Answer.{checkedAnswer}
+use Rattle.image.specs.Checked.{checked}
+use Rattle.image.specs.Library.{Library, libraryOf}
+use Rattle.image.specs.declared.answer.Head.{Head}
+use Rattle.image.specs.declared.answer.Refusal.{Refusal}
+use Rattle.image.specs.declared.answer.Checked.{Checked}
+use Rattle.outcome.specs.Run.{Item, Run}
+use Rattle.outcome.specs.Execution.{Fact, State, Executes}
+use Rattle.outcome.specs.Touch.{questionOf, HasOutcome}
+use Rattle.card.specs.Card.{cardWords}
+use Rattle.card.specs.Answer.{cardsOf, cardArea, cardsAnswer}
+use Rattle.card.specs.Area.{partWord}
+use Rattle.card.specs.Meaning.{Card, Kept, Always, needed, set, cleared, Breaks, Missing}
+use Rattle.card.specs.declared.answer.Cards.{Cards}
+use Rattle.chain.specs.Link.{Chain, chainWords, Fits}
+use Rattle.chain.specs.Stands.{StandsFor}
+use Rattle.chain.specs.Answer.{none}
+use Rattle.chain.specs.Call.{Reply, refused, answered, chained, areaAfter, replyNumber}
+
+-- ---- what a caller sees
+
+-- what a call leaves: the number that it answers, and the area that was lent to it
+pub record Left : Type 0 where
+  pub number : ℕ
+  pub area : List ℕ
+
+-- the three calls
+pub record Engine : Type 0 where
+  pub check : (image : List ℕ) → ℕ
+  pub cards : (image area : List ℕ) → Left
+  pub chain : (image : List ℕ) (sequence question fact : ℕ) (area : List ℕ) → Left
+
+-- what the chain call leaves by its contract
+abbrev pub leftBy : Reply → List ℕ → Left
+leftBy r area = record { number = replyNumber r; area = areaAfter r area }
+
+-- the three calls as their contracts say them
+abbrev pub engine : Engine
+engine =
+    record {
+      check = λ image. checkedAnswer (checked image);
+      cards = λ image area. record { number = cardsAnswer (cardsOf image area); area = cardArea image area };
+      chain = λ image c q f area. leftBy (chained image c q f (length area)) area;
+    }
+
+-- "N × 2^32 + P for refusal N at position P": a refusal is a number from 2^32 on
+abbrev pub Refuses : ℕ → Type 0
+Refuses n = 2 ^ 32 ≤ n
+
+-- ---- demand 1
+
+pub record Demand1 (e : Engine) : Type 0 where
+  -- "A caller may hand over every list of words, every area and every number, and the call ends with an acceptance, .. or the first refusal
+  -- in document 01 that applies"
+  pub check : (image : List ℕ) → e .check image ≡ checkedAnswer (checked image)
+  -- ".. cards, .."
+  pub cards : (image area : List ℕ) → e .cards image area .number ≡ cardsAnswer (cardsOf image area)
+  -- ".. a chain, "none", .."
+  pub chain : (image : List ℕ) (c q f : ℕ) (area : List ℕ)
+      → e .chain image c q f area .number ≡ replyNumber (chained image c q f (length area))
+  -- "a refusal changes no word of a lent area"
+  pub cards-kept : (image area : List ℕ) → Refuses (e .cards image area .number) → e .cards image area .area ≡ area
+  pub chain-kept : (image : List ℕ) (c q f : ℕ) (area : List ℕ) → Refuses (e .chain image c q f area .number)
+      → e .chain image c q f area .area ≡ area
+  -- ""none" writes nothing", "0 there for "none""
+  pub none-kept : (image : List ℕ) (c q f : ℕ) (area : List ℕ) → e .chain image c q f area .number ≡ 0 → e .chain image c q f area .area ≡ area
+  -- the caller can tell a refusal from what is none, and "none" from a chain
+  pub check-told : (image : List ℕ) → Refuses (e .check image) ↔ ((r : Refusal) × (checked image ≡ Checked.Refused r))
+  pub cards-told : (image area : List ℕ) → Refuses (e .cards image area .number) ↔ ((r : Refusal) × (cardsOf image area ≡ Cards.Refused r))
+  pub chain-told : (image : List ℕ) (c q f : ℕ) (area : List ℕ)
+      → Refuses (e .chain image c q f area .number) ↔ ((r : Refusal) × (chained image c q f (length area) ≡ refused r))
+  pub none-told : (image : List ℕ) (c q f : ℕ) (area : List ℕ)
+      → (e .chain image c q f area .number ≡ 0) ↔ (chained image c q f (length area) ≡ answered none)
+
+-- ---- demand 2
+
+-- how many sequences the library has: the head's C (`counted` of the reader)
+abbrev pub count : Library → ℕ
+count L = length (L .sequences)
+
+-- "For every accepted library", with a card area that has room: "7 × C words"
+pub record Ready (image area : List ℕ) : Type 0 where
+  pub head : Head
+  pub accepted : checked image ≡ Checked.Accepted head
+  pub room : cardWords * count (libraryOf image) ≤ length area
+
+pub record Demand2 (e : Engine) : Type 0 where
+  -- "each card's columns hold a fact if the published definition of relaxed preconditions and effects puts it there, and only then, over
+  -- all finite runs; a sequence without a run has a blank card, and flags and count are those of document 01": the words are found in the
+  -- sequence's own part of the area
+  pub card : (image area : List ℕ) → Ready image area → (c : ℕ) → c < count (libraryOf image)
+      → Card (libraryOf image) c (partWord (e .cards image area .area) c)
+  -- "words past 7 × C stay"
+  pub past : (image area : List ℕ) → Ready image area → (i : ℕ) → cardWords * count (libraryOf image) ≤ i
+      → getD (e .cards image area .area) i 0 ≡ getD area i 0
+  pub long : (image area : List ℕ) → Ready image area → length (e .cards image area .area) ≡ length area
+
+-- ---- demand 3
+
+-- "The column's two questions, numbered under "Chains", are 4 and 5 for "always needed", 1 and 2 for "always set", 0 and 2 for "always
+-- cleared"."
+abbrev pub Asks : Always → ℕ → Type 0
+Asks needed q = (q ≡ 4) ⊎ (q ≡ 5)
+Asks set q = (q ≡ 1) ⊎ (q ≡ 2)
+Asks cleared q = (q ≡ 0) ⊎ (q ≡ 2)
+
+-- the caller sees these links: their number is the answer, their words are in the area, "Words past the chain stay"; each number of a link
+-- has room in its bits, so that the words tell the links
+pub record Sees (before : List ℕ) (left : Left) (links : Chain) : Type 0 where
+  pub number : left .number ≡ length links
+  pub area : left .area ≡ chainWords links ++ drop (2 * length links) before
+  pub fits : All Fits links
+
+-- the chain shows that sequence c breaks the rule of column a for fact f, by question q
+pub record Proves (L : Library) (c : ℕ) (a : Always) (f q : ℕ) (links : Chain) : Type 0 where
+  -- "a chain of no more links than the library has sequences"
+  pub few : length links ≤ count L
+  -- "The chain stands for at least one run of that sequence", and "Every chain stands for at least one run with its outcome"
+  pub some : (w : List Item) × StandsFor L (questionOf q) f links w × Run L c w × HasOutcome L (questionOf q) f w
+  -- "and every run it stands for is one of that sequence's and breaks the rule"
+  pub every : (w : List Item) → StandsFor L (questionOf q) f links w → Run L c w × Breaks L a f w
+
+-- demand 3 of sequence c, where `word` is its card and `chain` answers a question about it: question, fact, area
+pub record Shown (L : Library) (c : ℕ) (word : ℕ → ℕ) (chain : ℕ → ℕ → List ℕ → Left) : Type 0 where
+  -- "for every run of a sequence and whichever facts stand at the start: if the run executes from there, each fact in "always needed" stood
+  -- at the start, each in "always set" stands at the end, and none in "always cleared" does. A fact that stands at the end and not at the
+  -- start is in "may set", one that stands at the start and not at the end in "may clear"."
+  pub kept : (w : List Item) → Run L c w → (s : State L) → Executes L w s → (f : Fact L) → Kept L word w s f
+  -- "A fact is missing from one of these three "always" columns exactly when the sequence has no run, or has one, executing or not, that
+  -- breaks the column's rule."
+  pub missing : (a : Always) (f : Fact L) → Missing L c word a f
+  -- "Each run that breaks it has the outcome of one of the column's two questions in document 01."
+  pub outcome : (a : Always) (f : Fact L) (w : List Item) → Run L c w → Breaks L a (f .0) w
+      → (q : ℕ) × Asks a q × HasOutcome L (questionOf q) (f .0) w
+  -- "That question, asked of that sequence and fact with an area of at least two words for each sequence, gets a chain of no more links
+  -- than the library has sequences. The chain stands for at least one run of that sequence, and every run it stands for is one of that
+  -- sequence's and breaks the rule."
+  pub answer : (a : Always) (f : Fact L) (w : List Item) → Run L c w → (q : ℕ) → Asks a q → HasOutcome L (questionOf q) (f .0) w
+      → (area : List ℕ) → 2 * count L ≤ length area → (links : Chain) × Sees area (chain q (f .0) area) links × Proves L c a (f .0) q links
+
+pub record Demand3 (e : Engine) : Type 0 where
+  -- "For every accepted library, however its sequences nest or call themselves"
+  pub shown : (image area : List ℕ) → Ready image area → (c : ℕ) → c < count (libraryOf image)
+      → Shown (libraryOf image) c (partWord (e .cards image area .area) c) (e .chain image c)
+
+-- ---- all three
+
+pub record Demands (e : Engine) : Type 0 where
+  pub total : Demand1 e
+  pub columns : Demand2 e
+  pub runs : Demand3 e
