@@ -156,7 +156,7 @@ module _ (L : Library) (q : Asked) (Q : Question) (masks table part places : Lis
     quiet-answer quiet c lt =
         let look = quiet-look quiet in
         let alternative : alternativeFrom (lookIn q masks table (inRanks q ranks)) (pred (inRanks q ranks c)) 0 (alternativesAt part places c)
-            ≡ chosenAlternative (L .sequences) (untouchedLook L Q f) T (pred (T c)) c =
+        ≡ chosenAlternative (L .sequences) (untouchedLook L Q f) T (pred (T c)) c =
         ap₂ (λ (n : ℕ) (alts : List Alternative). alternativeFrom (lookIn q masks table (λ d. getD ranks d n)) (pred (getD ranks c n)) 0 alts) (asks .none) (described .placed c lt)
         ∙ ap (λ (l : Look). alternativeFrom (l T) (pred (T c)) 0 (alternativesOf (L .sequences) c)) look
         ∙ sym (alternative-from (L .sequences) (untouchedLook L Q f) T (pred (T c)) c) in

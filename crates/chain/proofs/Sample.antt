@@ -11,7 +11,8 @@ use Rattle.outcome.specs.Possible.{possible}
 use Rattle.outcome.proofs.Sample.{libraryL}
 use Rattle.chain.specs.Link.{touchLink, untouchedLink}
 use Rattle.chain.specs.Answer.{none, shown, answer}
-use Rattle.chain.specs.Call.{Reply, chained, areaAfter, replyNumber}
+use Rattle.chain.specs.Call.{Reply, chained, areaAfter}
+use Rattle.chain.specs.Reply.{replyNumber}
 
 -- the questions of the starred samples, over library L itself
 answers-L : answer libraryL lastUntouched 1 0 ∷ answer libraryL lastSet 1 0 ∷ answer libraryL lastCleared 1 1 ∷ answer libraryL lastUntouched 2 0 ∷ []

@@ -1,11 +1,10 @@
--- The chain call over every input: its answer, the words in the area after it, and the number that the C side gets (document 01,
--- "Turned down, in checking order", "Chains").
+-- The chain call over every input: its answer, and the words in the area after it (document 01, "Turned down, in checking order",
+-- "Chains").
 use Prim.Native.Nat.{ℕ}
 use mathlib.Core.Bool.{cond}
 use mathlib.Core.List.{List, _++_}
 use lib.ListN.{length, drop}
 use lib.Dec.{leb, ltb}
-use Rattle.image.specs.Answer.{refusalAnswer}
 use Rattle.image.specs.Checked.{checked}
 use Rattle.image.specs.Library.{Library, libraryOf}
 use Rattle.image.specs.declared.answer.Head.{Head}
@@ -49,10 +48,3 @@ abbrev pub areaAfter : Reply → List ℕ → List ℕ
 areaAfter (refused r) area = area
 areaAfter (answered none) area = area
 areaAfter (answered (shown ls)) area = chainWords ls ++ drop (length (chainWords ls)) area
-
--- "It gets one 64-bit number: N × 2^32 + P for refusal N at position P, otherwise .. the number of links from the chain, 0 there for
--- "none"."
-abbrev pub replyNumber : Reply → ℕ
-replyNumber (refused r) = refusalAnswer r
-replyNumber (answered none) = 0
-replyNumber (answered (shown ls)) = length ls

@@ -24,6 +24,10 @@ chainAnswer (Chained.Shown links) = links .count
 chainAnswer Chained.None = 0
 chainAnswer (Chained.Refused r) = refusalAnswer r
 
+-- the number for what the call comes to
+abbrev pub replyNumber : Reply → ℕ
+replyNumber r = chainAnswer (chainedAs r)
+
 -- an answer in its area: what is told of it, and the area after
 pub record Answered (a : Answer) (before : List ℕ) (found : Chained) (after : List ℕ) : Type 0 where
   pub answer : found ≡ chainedAs (inArea (length before) a)

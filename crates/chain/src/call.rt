@@ -38,16 +38,7 @@ fn find(h: Head, image: &[u32], q: Asked, c: u32, area: &mut [u32]) -> Chained
     write_places(h, part, &mut places);
     outcome_table(h, image, &mut table);
     finishing_order(part, &places[..n], &mut next, &mut stack, &mut order);
-    settle(
-        q,
-        &masks,
-        &table,
-        part,
-        &places,
-        &order[..n],
-        &mut ranks,
-        n,
-    );
+    settle(q, &masks, &table, part, &places, &order[..n], &mut ranks, n);
     write_chain(q, &masks, &table, &ranks, part, &places, area, c)
 }
 

@@ -62,7 +62,12 @@ fn write_links(
     while 0 < k {
         k -= 1;
         let link = chosen_link(q, masks, table, ranks, part, after_opener(places, d), k);
-        put_link(area, at, choice_word(d, link.alternative), 2952790016 + link.position);
+        put_link(
+            area,
+            at,
+            choice_word(d, link.alternative),
+            2952790016 + link.position,
+        );
         at += 2;
         d = link.entry;
     }

@@ -31,7 +31,8 @@ use Rattle.card.proofs.Area.{filled, written-right}
 use Rattle.chain.specs.Link.{Chain, chainWords}
 use Rattle.chain.specs.Stands.{About}
 use Rattle.chain.specs.Answer.{none, shown}
-use Rattle.chain.specs.Call.{Reply, refused, answered, chained, areaAfter, replyNumber}
+use Rattle.chain.specs.Call.{Reply, refused, answered, chained, areaAfter}
+use Rattle.chain.specs.Reply.{replyNumber}
 use Rattle.chain.proofs.Words.{words-length}
 use Rattle.chain.proofs.Answers.{answer-shows}
 use Rattle.chain.proofs.Calls.{call-shows, call-answered}

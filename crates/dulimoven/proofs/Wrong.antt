@@ -24,7 +24,8 @@ use Rattle.card.specs.Meaning.{Always, needed, set, cleared, place, cardWord}
 use Rattle.card.proofs.Meaning.{flags-count}
 use Rattle.chain.specs.Link.{Link, touchLink, untouchedLink, Chain, Fits}
 use Rattle.chain.specs.Answer.{shown}
-use Rattle.chain.specs.Call.{answered, chained, replyNumber}
+use Rattle.chain.specs.Call.{answered, chained}
+use Rattle.chain.specs.Reply.{replyNumber}
 use Rattle.dulimoven.specs.Samples.{L, selfCall, clearThenNeed, pulse}
 use Rattle.dulimoven.specs.Demands.{Engine, count, Ready, Demand1, Demand2, Sees, Proves, Demand3}
 use Rattle.dulimoven.specs.Wrong.{BlankColumn, OneCard, Untouched, NoneAtOnce, AlwaysTwelve, SameLink, InventedLinks, InventedCount, RefusesAll, RefusesAllCards, RefusesAllChains}

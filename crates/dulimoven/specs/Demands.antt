@@ -23,7 +23,8 @@ use Rattle.card.specs.declared.answer.Cards.{Cards}
 use Rattle.chain.specs.Link.{Chain, chainWords, Fits}
 use Rattle.chain.specs.Stands.{StandsFor}
 use Rattle.chain.specs.Answer.{none}
-use Rattle.chain.specs.Call.{Reply, refused, answered, chained, areaAfter, replyNumber}
+use Rattle.chain.specs.Call.{Reply, refused, answered, chained, areaAfter}
+use Rattle.chain.specs.Reply.{replyNumber}
 
 -- ---- what a caller sees
 

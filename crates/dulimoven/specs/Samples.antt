@@ -15,7 +15,8 @@ use Rattle.outcome.specs.Possible.{possible}
 use Rattle.card.specs.Card.{card, cards}
 use Rattle.card.specs.Answer.{cardsOf, cardArea, cardsAnswer}
 use Rattle.chain.specs.Link.{chainWords}
-use Rattle.chain.specs.Call.{Reply, chained, areaAfter, replyNumber}
+use Rattle.chain.specs.Call.{Reply, chained, areaAfter}
+use Rattle.chain.specs.Reply.{replyNumber}
 
 -- "Library L, 20 words in hexadecimal, F = A = C = 3"
 abbrev pub L : List ℕ

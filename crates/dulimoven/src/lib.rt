@@ -3,6 +3,9 @@ ghost use mathlib.Core.Path.{_≡_};
 ghost use Rattle.image.specs.Answer.{checkedAnswer};
 ghost use Rattle.image.specs.Checked.{checked};
 ghost use Rattle.card.specs.Answer.{cardsOf, cardArea, cardsAnswer};
+ghost use Rattle.chain.specs.Call.{chained, areaAfter};
+ghost use Rattle.chain.specs.Reply.{replyNumber};
+ghost use lib.ListN.{length};
 
 // The check: the head's payload for an accepted image, or N × 2^32 + P for refusal N at position P.
 #[no_mangle]
@@ -20,4 +23,20 @@ pub extern "C" fn dulimoven_cards(image: &[u32], area: &mut [u64]) -> u64
     ensures area { λ _. ⌜ now (area .exit) ≡ cardArea (now (image .entry)) (now (area .entry)) ⌝ }
 {
     card::answer::cards_answer(card::call::cards(image, area))
+}
+
+// The chain: the number of links with their words written, two a link, 0 for "none", or N × 2^32 + P for refusal N at position P; "none" and a
+// refusal leave the area as it was.
+#[no_mangle]
+pub extern "C" fn dulimoven_chain(
+    image: &[u32],
+    sequence: u64,
+    question: u64,
+    fact: u64,
+    area: &mut [u32],
+) -> u64
+    ensures answer { λ r. ⌜ r ≡ replyNumber (chained (now (image .entry)) sequence question fact (length (now (area .entry)))) ⌝ }
+    ensures area { λ _. ⌜ now (area .exit) ≡ areaAfter (chained (now (image .entry)) sequence question fact (length (now (area .entry)))) (now (area .entry)) ⌝ }
+{
+    chain::answer::chain_answer(chain::call::chain(image, sequence, question, fact, area))
 }
