@@ -7,10 +7,14 @@ use native.Mathlib.Numerals.{add-one}
 use mathlib.Core.Path.{_≡_, refl, sym, ap, ap₂, _∙_}
 use mathlib.Core.List.{List, [], _∷_, _++_}
 use lib.ListN.{length, getD, drop, length-append}
+use lib.Dec.{ltb}
+use borrow.Author.Tests.{eqb-true}
+use mathlib.Core.Bool.{true, _&&_, _||_}
+use mathlib.Core.Logic.{⊎-elim}
 use mir.Val.{boolByte}
 use lib.Seq.{drop-cons, drop-length}
-use Rattle.image.specs.Word.{isKind}
-use Rattle.image.specs.Rules.{opened, lastOf, earlier, faultAt}
+use Rattle.image.specs.Word.{kind, payload, isKind, isEntry}
+use Rattle.image.specs.Rules.{opened, lastOf, earlier, entryRight, faultAt}
 use Rattle.image.specs.Checked.{atWord, scan}
 use Rattle.image.specs.Walk.{after, ended, walk}
 use Rattle.image.specs.declared.answer.Head.{Head}
@@ -20,12 +24,28 @@ use Rattle.image.specs.declared.answer.Checked.the-variants.{Refused}
 use Rattle.image.specs.declared.rules.Earlier.{Earlier}
 use Rattle.image.specs.declared.rules.Fault.{Fault}
 use Rattle.image.specs.declared.rules.Fault.the-variants.{Found, Nothing}
-use Rattle.image.proofs.Bools.{byte-le}
+use Rattle.image.proofs.Bools.{byte-le, and-left, and-right, or-cases}
 
 walk-drop : (h : Head) (e : Earlier) (p i : ℕ) (ws : List ℕ) → i < length ws
     → walk h e p (drop i ws) ≡ atWord (faultAt h e p (getD ws i 0)) (walk h (after e (getD ws i 0)) (p + 1) (drop (i + 1) ws))
 unfolding walk
 walk-drop h e p i ws l = rw (add-one i, add-one p) (ap (walk h e p) (drop-cons ws i 0 l))
+
+-- an entry that is right has no fault
+pub right-faultless : (h : Head) (e : Earlier) (p w : ℕ) → entryRight h (e .last) w ≡ true → Nothing ≡ faultAt h e p w
+right-faultless h e p w right =
+    let after-one = and-left (isKind 7 (e .last) || isEntry (e .last)) _ right in
+    let named = and-right (isKind 7 (e .last) || isEntry (e .last)) _ right in
+    ⊎-elim
+    (λ (step : isKind 8 w && ltb (payload w) (h .steps) ≡ true).
+    let k = eqb-true (kind w) 8 (and-left (isKind 8 w) (ltb (payload w) (h .steps)) step) in
+    let low = and-right (isKind 8 w) (ltb (payload w) (h .steps)) step in
+    rw (k, after-one, low))
+    (λ (call : isKind 9 w && ltb (payload w) (h .sequences) ≡ true).
+    let k = eqb-true (kind w) 9 (and-left (isKind 9 w) (ltb (payload w) (h .sequences)) call) in
+    let low = and-right (isKind 9 w) (ltb (payload w) (h .sequences)) call in
+    rw (k, after-one, low))
+    (or-cases (isKind 8 w && ltb (payload w) (h .steps)) (isKind 9 w && ltb (payload w) (h .sequences)) named)
 
 -- what holds at the head of a loop that reads a part from position p₀ on, where e₀ stands for the words before the part
 pub record Reading (h : Head) (e₀ : Earlier) (p₀ : ℕ) (part : List ℕ) (e : Earlier) (i : ℕ) : Type 0 where

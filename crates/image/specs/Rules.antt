@@ -63,3 +63,8 @@ inOrder e w = whereKind (isFact w && isFact (e .last)) (ltb (e .last) w)
 abbrev pub faultAt : Head → Earlier → ℕ → ℕ → Fault
 faultAt h e p w =
     cond (mayStand h e w) (cond (payloadRight h e w) (cond (inOrder e w) Nothing (Found (FactOrder p))) (Found (Payload p))) (Found (Kind p))
+
+-- an entry after a kind 7 or another entry that names what the head counts: it has no fault
+abbrev pub entryRight : Head → ℕ → ℕ → Bool
+entryRight h last w =
+    (isKind 7 last || isEntry last) && (isKind 8 w && ltb (payload w) (h .steps) || isKind 9 w && ltb (payload w) (h .sequences))

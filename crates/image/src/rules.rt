@@ -3,7 +3,7 @@ use crate::answer::Head;
 use crate::answer::Refusal;
 ghost use mathlib.Core.Path.{_≡_};
 ghost use Prim.Native.Nat.{_+_, _<_};
-ghost use Rattle.image.specs.Rules.{mayStand, payloadRight, inOrder, faultAt};
+ghost use Rattle.image.specs.Rules.{mayStand, payloadRight, inOrder, entryRight, faultAt};
 ghost use Rattle.image.specs.Walk.{after};
 
 // What the rules ask of the words before a word: how many steps and sequences they open, and the word right before it.
@@ -55,8 +55,20 @@ fn in_order(e: Earlier, w: u32) -> bool
     !(((k == 2) | (k == 3) | (k == 4)) & ((l == 2) | (l == 3) | (l == 4))) | (e.last < w)
 }
 
-// The lowest refusal of 4 to 6 that a word at position `p` meets.
-pub fn fault_at(h: Head, e: Earlier, p: u32, w: u32) -> Fault
+// Whether a word is an entry after a kind 7 or another entry and names what the head counts, and so has no fault: of such words there are
+// most, and this is quick to see.
+fn entry_right(h: Head, last: u32, w: u32) -> bool
+    ensures { λ r. ⌜ r ≡ entryRight h last w ⌝ }
+{
+    let k = w / 268435456;
+    let p = w % 268435456;
+    let l = last / 268435456;
+    ((l == 7) | ((l == 8) | (l == 9)))
+        & (((k == 8) & (p < h.steps)) | ((k == 9) & (p < h.sequences)))
+}
+
+// The lowest refusal of 4 to 6 that a word at position `p` meets, by each rule.
+fn first_fault(h: Head, e: Earlier, p: u32, w: u32) -> Fault
     ensures { λ r. ⌜ r ≡ faultAt h e p w ⌝ }
 {
     if !may_stand(h, e, w) {
@@ -69,6 +81,16 @@ pub fn fault_at(h: Head, e: Earlier, p: u32, w: u32) -> Fault
         return Fault::Found(Refusal::FactOrder(p));
     }
     Fault::Nothing
+}
+
+// The lowest refusal of 4 to 6 that a word at position `p` meets.
+pub fn fault_at(h: Head, e: Earlier, p: u32, w: u32) -> Fault
+    ensures { λ r. ⌜ r ≡ faultAt h e p w ⌝ }
+{
+    if entry_right(h, e.last, w) {
+        return Fault::Nothing;
+    }
+    first_fault(h, e, p, w)
 }
 
 // What the rules ask of the words up to and with `w`.

@@ -1,45 +1,28 @@
--- `image::rules::fault_at` meets its contract: at each return the tests that led there say which case of `faultAt` holds.
+-- `image::rules::fault_at` meets its contract: an entry that is right has no fault, and any other word the first that it meets.
 -- Assumes nothing.
 use borrow.Author.Needs.{needs}
-use borrow.Author.Tests.{not-true, not-false}
 use mathlib.Core.Path.{sym, _∙_}
+use Rattle.image.proofs.Walk.{right-faultless}
 use Rattle.image.proofs.rules.fault_at.Statement.{statement}
 use Rattle.image.proofs.rules.fault_at.Tie as tie
 use Rattle.image.proofs.rules.fault_at.Reads as reads
 use Rattle.image.proofs.rules.fault_at.Lts as lts
-use Rattle.image.proofs.rules.in_order.Reads as in-order-reads
-use Rattle.image.proofs.rules.may_stand.Reads as may-stand-reads
-use Rattle.image.proofs.rules.payload_right.Reads as payload-right-reads
+use Rattle.image.proofs.rules.entry_right.Reads as entry-right-reads
+use Rattle.image.proofs.rules.first_fault.Reads as first-fault-reads
 
-may-stand-requires : tie.Need-may-stand-requires
-may-stand-requires c κs = search needs
+entry-right-requires : tie.Need-entry-right-requires
+entry-right-requires c κs = search needs
 
 returns : tie.Need-returns
-returns c = simp (sym (c .before .may-stand .ensures) ∙ not-true _ (c .if1 .taken))
+returns c =
+    let a = c .before .before .args in
+    right-faultless (a .h) (a .e) (a .p) (a .w) (sym (c .before .entry-right .ensures) ∙ c .if1 .taken)
 
-payload-right-requires : tie.Need-payload-right-requires
-payload-right-requires c κs = search needs
+first-fault-requires : tie.Need-first-fault-requires
+first-fault-requires c κs = search needs
 
 returns-2 : tie.Need-returns-2
-returns-2 c = let g = c .before .before in simp (sym (g .before .may-stand .ensures) ∙ not-false _ (g .if1 .left), sym (c .before .payload-right .ensures) ∙ not-true _ (c .if2 .taken))
-
-in-order-requires : tie.Need-in-order-requires
-in-order-requires c κs = search needs
-
-returns-3 : tie.Need-returns-3
-returns-3 c = let g = c .before .before in let f = g .before .before in simp (sym (f .before .may-stand .ensures) ∙ not-false _ (f .if1 .left), sym (g .before .payload-right .ensures) ∙ not-false _ (g .if2 .left), sym (c .before .in-order .ensures) ∙ not-true _ (c .if3 .taken))
-
-returns-4 : tie.Need-returns-4
-returns-4 c = let g = c .before .before in let f = g .before .before in simp (sym (f .before .may-stand .ensures) ∙ not-false _ (f .if1 .left), sym (g .before .payload-right .ensures) ∙ not-false _ (g .if2 .left), sym (c .before .in-order .ensures) ∙ not-false _ (c .if3 .left))
+returns-2 c = search needs
 
 pub fault-at-spec : {M : Type 1} → statement M
-fault-at-spec =
-    tie.close
-    (tie.spec
-    may-stand-requires
-    returns
-    payload-right-requires
-    returns-2
-    in-order-requires
-    returns-3
-    returns-4)
+fault-at-spec = tie.close (tie.spec entry-right-requires returns first-fault-requires returns-2)
