@@ -3,7 +3,7 @@
 -- row with what its alternatives give.
 use Prim.Native.Nat.{ℕ, _+_, _-_, _*_, _^_, _≤_, _<_}
 use mathlib.Core.Path.{_≡_}
-use mathlib.Core.Bool.{Bool, true, false}
+use mathlib.Core.Bool.{Bool, true, false, cond}
 use mathlib.Core.List.{List, [], _∷_}
 use lib.ListN.{length, getD, drop}
 use Rattle.outcome.specs.Words.{noRow, orRows, rowIn, withRow}
@@ -35,6 +35,33 @@ module _ (visit : List ℕ → ℕ → List ℕ) where
       pub reached : Reached n before after
       pub falls : changed ≡ true → weight after < weight before
       pub settled : changed ≡ false → Settled n after
+
+    -- what a pass over the numbers that an order names promises: otherwise no visit of one of them changes anything
+    pub record Swept (n : ℕ) (order before after : List ℕ) (changed : Bool) : Type 0 where
+      pub reached : Reached n before after
+      pub falls : changed ≡ true → weight after < weight before
+      pub settled : changed ≡ false → (i : ℕ) → i < length order → getD order i 0 < n → visit after (getD order i 0) ≡ after
+
+-- the order names number c
+pub record Named (order : List ℕ) (c : ℕ) : Type 0 where
+  pub place : ℕ
+  pub within : place < length order
+  pub number : getD order place 0 ≡ c
+
+-- each number below n
+abbrev pub Complete : List ℕ → ℕ → Type 0
+Complete order n = (c : ℕ) → c < n → Named order c
+
+-- the marks of numbers: each that is marked is named
+abbrev pub Marked : List ℕ → List ℕ → Type 0
+Marked order seen = (c : ℕ) → getD seen c 0 ≡ 1 → Named order c
+
+abbrev pub AllMarked : List ℕ → ℕ → Type 0
+AllMarked seen n = (c : ℕ) → c < n → getD seen c 0 ≡ 1
+
+-- the place that comes at turn i: first to last, or last to first
+abbrev pub placeOf : Bool → ℕ → ℕ → ℕ
+placeOf forward len i = cond forward i (len - 1 - i)
 
 -- how much the words lack to the greatest number: what falls while the table grows
 unfoldable pub lacking : List ℕ → ℕ

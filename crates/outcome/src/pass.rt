@@ -1,15 +1,16 @@
-// Passes over the table until nothing changes. Only the last look must be complete: a pass over all sequences that changes nothing shows that
-// the table has all that is possible. The passes before it go over the sequences in an order that makes them few.
+// Passes over the table until nothing changes, in an order that makes them few and against it in turn. A pass over all sequences that changes
+// nothing shows that the table has all that is possible; so it is tested first that the order names them all.
 use crate::read::read_sequence;
 use crate::row::put_row;
 use crate::row::row_at;
 use crate::row::same;
 use crate::row::united;
 ghost use mathlib.Core.Path.{_≡_};
-ghost use mathlib.Core.Bool.{false};
+ghost use mathlib.Core.Bool.{true, false};
 ghost use Prim.Native.Nat.{_+_, _*_, _≤_, _<_};
-ghost use lib.ListN.{length, getD};
-ghost use Rattle.outcome.specs.Passes.{Visit, Reached, Pass, lacking, Visitable, visited};
+ghost use lib.ListN.{length, getD, set};
+ghost use Rattle.outcome.specs.Area.{Blank};
+ghost use Rattle.outcome.specs.Passes.{Visit, Pass, Swept, Complete, Marked, AllMarked, placeOf, lacking, Visitable, visited};
 
 // Unites the row of sequence `c` with what its alternatives give. Answers whether that changed it.
 fn visit(
@@ -52,8 +53,92 @@ fn plain_pass(
     changed
 }
 
-// Visits the sequences that `order` names, first to last and then last to first; other numbers are passed over.
-fn sweep(
+// Marks number `c` where it has a mark.
+fn mark_one(seen: &mut [u32], c: usize)
+    ensures { λ _. ⌜ now (seen .exit) ≡ set (now (seen .entry)) c 1 ⌝ }
+{
+    if c < seen.len() {
+        seen[c] = 1;
+    }
+}
+
+// Marks each number that `order` names.
+fn mark(order: &[usize], seen: &mut [u32])
+    requires { ⌜ Blank (now seen) ⌝ }
+    ensures { λ _. ⌜ Marked (now (order .entry)) (now (seen .exit)) ⌝ }
+{
+    let mut i = 0;
+    while i < order.len() {
+        mark_one(seen, order[i]);
+        i += 1;
+    }
+}
+
+// Whether each number below `n` is marked.
+fn all_marked(seen: &[u32], n: usize) -> bool
+    ensures { λ r. ⌜ (r ≡ true → AllMarked (now (seen .entry)) n) ⌝ }
+{
+    if seen.len() < n {
+        return false;
+    }
+    let mut c = 0;
+    while c < n {
+        if seen[c] != 1 {
+            return false;
+        }
+        c += 1;
+    }
+    true
+}
+
+// Whether `order` names each number below `n`.
+pub fn complete(order: &[usize], n: usize) -> bool
+    ensures { λ r. ⌜ (r ≡ true → Complete (now (order .entry)) n) ⌝ }
+{
+    let mut seen = [0u32; 256];
+    mark(order, &mut seen);
+    all_marked(&seen, n)
+}
+
+// The place in an order of `len` numbers that comes at turn `i`: first to last, or last to first.
+pub fn place_of(forward: bool, len: usize, i: usize) -> usize
+    requires { ⌜ i < len ⌝ }
+    ensures { λ r. ⌜ (r ≡ placeOf forward len i) × (r < len) ⌝ }
+{
+    if forward {
+        return i;
+    }
+    len - 1 - i
+}
+
+// Visits the sequences that `order` names, first to last or last to first; other numbers are passed over. Answers whether anything changed.
+fn pass(
+    all: u64,
+    masks: &[u64],
+    part: &[u32],
+    places: &[u32],
+    order: &[usize],
+    forward: bool,
+    table: &mut [u64],
+    n: usize,
+) -> bool
+    requires { ⌜ Visitable n (now masks) (now part) (now places) (now table) ⌝ }
+    ensures { λ r. ⌜ Swept (visited all (now (masks .entry)) (now (part .entry)) (now (places .entry))) lacking n (now (order .entry)) (now (table .entry)) (now (table .exit)) r ⌝ }
+{
+    let mut changed = false;
+    let mut i = 0;
+    while i < order.len() {
+        let c = order[place_of(forward, order.len(), i)];
+        i += 1;
+        if c < n {
+            changed = visit(all, masks, part, places, table, n, c) | changed;
+        }
+    }
+    changed
+}
+
+// Passes in the order and against it, in turn, until one changes nothing.
+fn settle_in_order(
     all: u64,
     masks: &[u64],
     part: &[u32],
@@ -62,39 +147,31 @@ fn sweep(
     table: &mut [u64],
     n: usize,
 )
-    requires { ⌜ Visitable n (now masks) (now part) (now places) (now table) ⌝ }
-    ensures { λ _. ⌜ Reached (visited all (now (masks .entry)) (now (part .entry)) (now (places .entry))) n (now (table .entry)) (now (table .exit)) ⌝ }
+    requires { ⌜ Visitable n (now masks) (now part) (now places) (now table) × Complete (now order) n ⌝ }
+    ensures { λ _. ⌜ Pass (visited all (now (masks .entry)) (now (part .entry)) (now (places .entry))) lacking n (now (table .entry)) (now (table .exit)) false ⌝ }
 {
-    let end = 2 * order.len();
-    let mut i = 0;
-    while i < end {
-        let at = if i < order.len() { i } else { end - 1 - i };
-        let c = order[at];
-        i += 1;
-        if c < n {
-            visit(all, masks, part, places, table, n, c);
-        }
+    let mut forward = true;
+    while pass(all, masks, part, places, order, forward, table, n) {
+        forward = !forward;
     }
 }
 
-// Visits in the order and against it, and then a pass over all sequences.
-fn round(
+// Passes in the order of the numbers until one changes nothing.
+fn settle_plainly(
     all: u64,
     masks: &[u64],
     part: &[u32],
     places: &[u32],
-    order: &[usize],
     table: &mut [u64],
     n: usize,
-) -> bool
+)
     requires { ⌜ Visitable n (now masks) (now part) (now places) (now table) ⌝ }
-    ensures { λ r. ⌜ Pass (visited all (now (masks .entry)) (now (part .entry)) (now (places .entry))) lacking n (now (table .entry)) (now (table .exit)) r ⌝ }
+    ensures { λ _. ⌜ Pass (visited all (now (masks .entry)) (now (part .entry)) (now (places .entry))) lacking n (now (table .entry)) (now (table .exit)) false ⌝ }
 {
-    sweep(all, masks, part, places, order, table, n);
-    plain_pass(all, masks, part, places, table, n)
+    while plain_pass(all, masks, part, places, table, n) {}
 }
 
-// Rounds until nothing changes.
+// Passes until nothing changes.
 pub fn settle(
     all: u64,
     masks: &[u64],
@@ -107,5 +184,9 @@ pub fn settle(
     requires { ⌜ Visitable n (now masks) (now part) (now places) (now table) ⌝ }
     ensures { λ _. ⌜ Pass (visited all (now (masks .entry)) (now (part .entry)) (now (places .entry))) lacking n (now (table .entry)) (now (table .exit)) false ⌝ }
 {
-    while round(all, masks, part, places, order, table, n) {}
+    if complete(order, n) {
+        settle_in_order(all, masks, part, places, order, table, n);
+    } else {
+        settle_plainly(all, masks, part, places, table, n);
+    }
 }

@@ -1,57 +1,44 @@
--- `outcome::pass::settle` meets its contract: each round that changes something leaves less lacking.
+-- `outcome::pass::settle` meets its contract, by the order where it is complete.
 -- Assumes nothing.
-use mathlib.Core.Path.{subst}
-use Rattle.outcome.specs.Passes.{Reached, here, Pass, lacking, visited}
-use Rattle.outcome.proofs.Visits.{visits-lower, visitable-at, reached-length, reached-on, pass-after}
+use borrow.Author.Needs.{needs}
+use native.Mathlib.Omega.{arith}
 use Rattle.outcome.proofs.pass.settle.Statement.{statement}
 use Rattle.outcome.proofs.pass.settle.Tie as tie
 use Rattle.outcome.proofs.pass.settle.Reads as reads
 use Rattle.outcome.proofs.pass.settle.Lts as lts
-use Rattle.outcome.proofs.pass.round.Reads as round-reads
+use Rattle.outcome.proofs.pass.complete.Reads as complete-reads
+use Rattle.outcome.proofs.pass.settle_in_order.Reads as settle-in-order-reads
+use Rattle.outcome.proofs.pass.settle_plainly.Reads as settle-plainly-reads
 
-abbrev Inv-loop : tie.InvT-loop
-Inv-loop all masks part places order table₀ n table = Reached (visited all masks part places) n table₀ table
+complete-requires : tie.Need-complete-requires
+complete-requires c κs = search needs
 
-abbrev μ-loop : tie.MeasureT-loop
-μ-loop all masks part places order table₀ n table = lacking table
+settle-in-order-requires : tie.Need-settle-in-order-requires
+settle-in-order-requires c κs = (c .before .before .before .before .before .before .before .before .pre, c .before .before .complete .ensures (c .before .if1 .taken))
 
-loop-holds : tie.Need-loop-holds Inv-loop μ-loop
-loop-holds c = here
+settle-plainly-requires : tie.Need-settle-plainly-requires
+settle-plainly-requires c κs = search needs
 
-round-requires : tie.Need-round-requires Inv-loop μ-loop
-round-requires c κs =
-    let at-loop = c .before in
-    let start = at-loop .before .before .before .before .before .before in
-    let a = start .args in
-    visitable-at (at-loop .loop .table) (reached-length (visits-lower (a .all) (a .masks .now) (a .part .now) (a .places .now) (a .n)) (at-loop .loop .inv)) (start .pre)
+same-length : tie.Need-same-length
+same-length c = search needs
 
-loop-less : tie.Need-loop-less Inv-loop μ-loop
-loop-less c = c .before .before .before .round .ensures .falls (c .if1 .taken)
+returns : tie.Need-returns
+returns c = search needs
 
-loop-again : tie.Need-loop-again Inv-loop μ-loop
-loop-again c =
-    let round = c .before .before .before in
-    let at-loop = round .before .before in
-    reached-on (at-loop .loop .inv) (round .round .ensures .reached)
+same-length-2 : tie.Need-same-length-2
+same-length-2 c = search needs
 
-same-length : tie.Need-same-length Inv-loop μ-loop
-same-length c =
-    let round = c .before .before .before in
-    let at-loop = round .before .before in
-    let a = at-loop .before .before .before .before .before .before .args in
-    reached-length (visits-lower (a .all) (a .masks .now) (a .part .now) (a .places .now) (a .n)) (reached-on (at-loop .loop .inv) (round .round .ensures .reached))
-
-returns : tie.Need-returns Inv-loop μ-loop
-returns c =
-    let round = c .before .before .before in
-    let at-loop = round .before .before in
-    let start = at-loop .before .before .before .before .before .before in
-    let a = start .args in
-    subst (Pass (visited (a .all) (a .masks .now) (a .part .now) (a .places .now)) lacking (a .n) (a .table .now) (round .round .last .1 .1 .1 .1 .1 .0)) (c .if1 .left)
-    (pass-after (visits-lower (a .all) (a .masks .now) (a .part .now) (a .places .now) (a .n)) (a .table .now) (at-loop .loop .table) (round .round .last .1 .1 .1 .1 .1 .0) (round .round .result)
-    (start .pre .rows) (at-loop .loop .inv) (round .round .ensures))
+returns-2 : tie.Need-returns-2
+returns-2 c = search needs
 
 pub settle-spec : {M : Type 1} → statement M
 settle-spec =
     tie.close
-    (tie.spec Inv-loop μ-loop loop-holds round-requires loop-less loop-again same-length returns)
+    (tie.spec
+    complete-requires
+    settle-in-order-requires
+    settle-plainly-requires
+    same-length
+    returns
+    same-length-2
+    returns-2)
