@@ -1,9 +1,11 @@
 // Ranks lowered in place until no visit changes them, by passes like those of the outcome table.
 use crate::entry::Asked;
 use crate::read::lowered_rank;
+use outcome::pass::complete;
+use outcome::pass::place_of;
 ghost use mathlib.Core.Bool.{false};
 ghost use Prim.Native.Nat.{_<_};
-ghost use Rattle.outcome.specs.Passes.{Visit, Reached, Pass};
+ghost use Rattle.outcome.specs.Passes.{Visit, Pass, Swept, Complete};
 ghost use Rattle.chain.specs.Scan.{total};
 ghost use Rattle.chain.specs.Tables.{Visitable, visitedRanks};
 
@@ -50,8 +52,35 @@ fn plain_pass(
     changed
 }
 
-// Visits the sequences that `order` names, first to last and then last to first; other numbers are passed over.
-fn sweep(
+// Visits the sequences that `order` names, first to last or last to first; other numbers are passed over. Answers whether anything changed.
+fn pass(
+    q: Asked,
+    masks: &[u64],
+    table: &[u64],
+    part: &[u32],
+    places: &[u32],
+    order: &[usize],
+    forward: bool,
+    ranks: &mut [u32],
+    n: usize,
+) -> bool
+    requires { ⌜ Visitable q n (now masks) (now table) (now ranks) (now part) (now places) ⌝ }
+    ensures { λ r. ⌜ Swept (visitedRanks q (now (masks .entry)) (now (table .entry)) (now (part .entry)) (now (places .entry))) total n (now (order .entry)) (now (ranks .entry)) (now (ranks .exit)) r ⌝ }
+{
+    let mut changed = false;
+    let mut i = 0;
+    while i < order.len() {
+        let c = order[place_of(forward, order.len(), i)];
+        i += 1;
+        if c < n {
+            changed = visit(q, masks, table, part, places, ranks, n, c) | changed;
+        }
+    }
+    changed
+}
+
+// Passes in the order and against it, in turn, until one changes nothing.
+fn settle_in_order(
     q: Asked,
     masks: &[u64],
     table: &[u64],
@@ -61,40 +90,32 @@ fn sweep(
     ranks: &mut [u32],
     n: usize,
 )
-    requires { ⌜ Visitable q n (now masks) (now table) (now ranks) (now part) (now places) ⌝ }
-    ensures { λ _. ⌜ Reached (visitedRanks q (now (masks .entry)) (now (table .entry)) (now (part .entry)) (now (places .entry))) n (now (ranks .entry)) (now (ranks .exit)) ⌝ }
+    requires { ⌜ Visitable q n (now masks) (now table) (now ranks) (now part) (now places) × Complete (now order) n ⌝ }
+    ensures { λ _. ⌜ Pass (visitedRanks q (now (masks .entry)) (now (table .entry)) (now (part .entry)) (now (places .entry))) total n (now (ranks .entry)) (now (ranks .exit)) false ⌝ }
 {
-    let end = 2 * order.len();
-    let mut i = 0;
-    while i < end {
-        let at = if i < order.len() { i } else { end - 1 - i };
-        let c = order[at];
-        i += 1;
-        if c < n {
-            visit(q, masks, table, part, places, ranks, n, c);
-        }
+    let mut forward = true;
+    while pass(q, masks, table, part, places, order, forward, ranks, n) {
+        forward = !forward;
     }
 }
 
-// Visits in the order and against it, and then a pass over all sequences.
-fn round(
+// Passes in the order of the numbers until one changes nothing.
+fn settle_plainly(
     q: Asked,
     masks: &[u64],
     table: &[u64],
     part: &[u32],
     places: &[u32],
-    order: &[usize],
     ranks: &mut [u32],
     n: usize,
-) -> bool
+)
     requires { ⌜ Visitable q n (now masks) (now table) (now ranks) (now part) (now places) ⌝ }
-    ensures { λ r. ⌜ Pass (visitedRanks q (now (masks .entry)) (now (table .entry)) (now (part .entry)) (now (places .entry))) total n (now (ranks .entry)) (now (ranks .exit)) r ⌝ }
+    ensures { λ _. ⌜ Pass (visitedRanks q (now (masks .entry)) (now (table .entry)) (now (part .entry)) (now (places .entry))) total n (now (ranks .entry)) (now (ranks .exit)) false ⌝ }
 {
-    sweep(q, masks, table, part, places, order, ranks, n);
-    plain_pass(q, masks, table, part, places, ranks, n)
+    while plain_pass(q, masks, table, part, places, ranks, n) {}
 }
 
-// Rounds until nothing changes.
+// Passes until nothing changes.
 pub fn settle(
     q: Asked,
     masks: &[u64],
@@ -108,5 +129,9 @@ pub fn settle(
     requires { ⌜ Visitable q n (now masks) (now table) (now ranks) (now part) (now places) ⌝ }
     ensures { λ _. ⌜ Pass (visitedRanks q (now (masks .entry)) (now (table .entry)) (now (part .entry)) (now (places .entry))) total n (now (ranks .entry)) (now (ranks .exit)) false ⌝ }
 {
-    while round(q, masks, table, part, places, order, ranks, n) {}
+    if complete(order, n) {
+        settle_in_order(q, masks, table, part, places, order, ranks, n);
+    } else {
+        settle_plainly(q, masks, table, part, places, ranks, n);
+    }
 }
