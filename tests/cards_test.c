@@ -59,21 +59,6 @@ static void cards(const char *name, size_t length, uint64_t expected)
     }
 }
 
-static void build(const uint32_t *given, size_t count)
-{
-    size_t i;
-    start();
-    for (i = 0; i < count; i++)
-        put(given[i]);
-    put(sum_word());
-}
-
-#define BUILD(...)                                     \
-    do {                                               \
-        static const uint32_t given[] = {__VA_ARGS__}; \
-        build(given, COUNT(given));                    \
-    } while (0)
-
 #define EXPECT(from, ...)                              \
     do {                                               \
         static const uint64_t given[] = {__VA_ARGS__}; \
