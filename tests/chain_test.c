@@ -35,7 +35,7 @@ static void chain(const char *name, uint64_t sequence, uint64_t question,
     }
     for (i = 0; i < count; i++)
         expected_area[GUARD + i] = given[i];
-    memcpy(copy, area, sizeof area);
+    keep();
     answer = dulimoven_chain(area + GUARD, words, sequence, question, fact,
                              chain_area + GUARD, length);
     ran++;
@@ -44,10 +44,7 @@ static void chain(const char *name, uint64_t sequence, uint64_t question,
         printf("%s: expected %" PRIx64 ", answered %" PRIx64 "\n", name,
                expected, answer);
     }
-    if (memcmp(copy, area, sizeof area) != 0) {
-        failed++;
-        printf("%s: the call changed the image or a word beside it\n", name);
-    }
+    kept(name);
     for (i = 0; i < CHAIN_AREA; i++) {
         if (chain_area[i] == expected_area[i])
             continue;

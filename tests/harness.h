@@ -72,6 +72,20 @@ static inline void put(uint32_t word)
         area[GUARD + words++] = word;
 }
 
+/* Before a call, and after it: no word of the image or beside it is changed. */
+static inline void keep(void)
+{
+    memcpy(copy, area, sizeof area);
+}
+
+static inline void kept(const char *name)
+{
+    if (memcmp(copy, area, sizeof area) == 0)
+        return;
+    failed++;
+    printf("%s: the call changed the image or a word beside it\n", name);
+}
+
 /*
  * The sum word for the words that are there: s is their sum with wrap at 2^32,
  * the payload (s + s / 2^28) mod 2^28.
