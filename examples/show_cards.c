@@ -4,8 +4,9 @@
  * break the column's rule.
  *
  *     rt staticlib dulimoven
- *     gcc -Iinclude examples/show_cards.c target/staticlib/libdulimoven.a -o show_cards
- *     ./show_cards examples/l.image
+ *     gcc -Iinclude examples/show_cards.c \
+ *         target/staticlib/libdulimoven.a -o target/show_cards
+ *     target/show_cards examples/l.image
  *
  * A file that cannot be read, and an image that is refused, get a line on
  * standard error and exit status 1.
@@ -16,8 +17,8 @@
 
 /* The words of a card after its flags, in their order. */
 static const char *const names[DULIMOVEN_CARD_WORDS] = {
-    "",        "always needed", "may need", "may set", "may clear",
-    "always set", "always cleared"};
+    "",          "always needed", "may need",      "may set",
+    "may clear", "always set",    "always cleared"};
 
 /* The "always" columns, and the two questions whose chains break the rule. */
 static const struct {

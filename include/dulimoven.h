@@ -7,7 +7,9 @@
  * kind, the low 28 bits its payload. README.md has an image word by word.
  *
  * A call answers one 64-bit number: N * 2^32 + P for refusal N at word position
- * P, counted from 0, and below 2^32 what the call is for.
+ * P, counted from 0, and below 2^32 what the call is for. All arrays are the
+ * caller's, before a call and after it: a call takes over none of them, and has
+ * nothing that must be given back.
  */
 #ifndef DULIMOVEN_H
 #define DULIMOVEN_H
@@ -153,10 +155,11 @@ uint64_t dulimoven_cards(const uint32_t *image, size_t image_len,
  * decides. A step that sets and clears a fact sets it; one that needs and sets
  * a fact needs it.
  *
- * A fact is in "may set", "may clear" or "may need" where question 0, 1 or 3
- * has a chain. Of a sequence that has a run, a fact is missing from an "always"
- * column where one of the column's two questions has a chain: 4 and 5 for
- * "always needed", 1 and 2 for "always set", 0 and 2 for "always cleared".
+ * A fact is in "may set", "may clear" or "may need" exactly where question 0, 1
+ * or 3 has a chain. Of a sequence that has a run, a fact is missing from an
+ * "always" column exactly where one of the column's two questions has a chain:
+ * 4 and 5 for "always needed", 1 and 2 for "always set", 0 and 2 for "always
+ * cleared".
  */
 enum dulimoven_question {
     /* some run's last touch sets the fact */
@@ -220,13 +223,21 @@ enum dulimoven_link_word {
  * 2 and 5 get one link, of kind 12: the alternative of the untouched derivation
  * of least nesting depth, the lowest of those.
  *
- * Otherwise the call answers one of refusals 1 to 7, as dulimoven_check does
- * for the image, or the first that applies of
+ * Otherwise the call answers the first refusal that applies, and every word of
+ * the area is as it was. The image is looked at first, as dulimoven_check does,
+ * with the position that the check gives:
+ *   1   DULIMOVEN_LENGTH      image_len is below 2 or above 8,192
+ *   2   DULIMOVEN_SUM_WORD    the last word is not the image's sum word
+ *   3   DULIMOVEN_HEAD_WORD   the first word is no head
+ *   4   DULIMOVEN_KIND        a word of a kind that may not stand there
+ *   5   DULIMOVEN_PAYLOAD     a payload that breaks the rule of its kind
+ *   6   DULIMOVEN_FACT_ORDER  fact words of a step that do not ascend
+ *   7   DULIMOVEN_MISSING     steps or sequences of the head's count are missing
+ * then the question, with position 0:
  *   9   DULIMOVEN_SEQUENCE    sequence is not below C
  *   10  DULIMOVEN_QUESTION    question is above 5
  *   11  DULIMOVEN_FACT        fact is not below F
  *   12  DULIMOVEN_CHAIN_AREA  there is a chain, and area_len is below its words
- * with position 0, and every word of the area is as it was.
  */
 uint64_t dulimoven_chain(const uint32_t *image, size_t image_len,
                          uint64_t sequence, uint64_t question, uint64_t fact,

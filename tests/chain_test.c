@@ -622,7 +622,7 @@ static void names(void)
     hold("a run, an empty one, 64 facts",
          dulimoven_has_run(card) == 1 && dulimoven_has_empty_run(card) == 1 &&
              dulimoven_changeable(card) == 64);
-    hold("facts 0 and 63", dulimoven_has_fact(card[DULIMOVEN_MAY_SET], 0) == 1 &&
+    hold("facts 0 and 63", dulimoven_has_fact(card[3], 0) == 1 &&
                                dulimoven_has_fact(card[3], 63) == 1);
     hold("no fact 1, 62, 64",
          dulimoven_has_fact(card[3], 1) == 0 &&

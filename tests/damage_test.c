@@ -210,7 +210,8 @@ static void links(uint64_t count, uint64_t sequence, uint64_t question,
         const uint32_t *link = found_chain + DULIMOVEN_LINK_WORDS * i;
         uint32_t about = dulimoven_link_sequence(link);
         uint32_t alternative = dulimoven_link_alternative(link);
-        holds("a first word that is none", link[0] == CHOICE(about, alternative));
+        holds("a first word that is none",
+              link[0] == CHOICE(about, alternative));
         holds("a link about no sequence", about < sequences && !seen[about]);
         seen[about] = 1;
         if (question == 2 || question == 5)
@@ -285,7 +286,8 @@ static uint64_t all_calls(const char *name)
     f = dulimoven_facts(answer);
     c = dulimoven_sequences(answer);
     if (c != 0)
-        holds("the cards have too little room", cards(7 * c - 1) == REFUSED(8, 0));
+        holds("the cards have too little room",
+              cards(7 * c - 1) == REFUSED(8, 0));
     holds("the cards", cards(7 * c) == c);
     for (sequence = 0; sequence < c; sequence++) {
         agree(sequence, 0, c);
