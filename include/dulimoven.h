@@ -7,7 +7,9 @@
  * kind, the low 28 bits its payload. README.md has an image word by word.
  *
  * A call answers one 64-bit number: N * 2^32 + P for refusal N at word position
- * P, counted from 0, and below 2^32 what the call is for.
+ * P, counted from 0, and below 2^32 what the call is for. All arrays are the
+ * caller's, before a call and after it: a call takes over none of them, and has
+ * nothing that must be given back.
  */
 #ifndef DULIMOVEN_H
 #define DULIMOVEN_H
@@ -18,6 +20,20 @@
 #ifdef __cplusplus
 extern "C" {
 #endif
+
+/* Bounds: arrays of these sizes are enough for every library. */
+enum dulimoven_most {
+    /* words of an image */
+    DULIMOVEN_MOST_IMAGE_WORDS = 8192,
+    /* facts, steps and sequences */
+    DULIMOVEN_MOST_FACTS = 64,
+    DULIMOVEN_MOST_STEPS = 1024,
+    DULIMOVEN_MOST_SEQUENCES = 256,
+    /* words of 64 bits of all cards: 7 for each sequence */
+    DULIMOVEN_MOST_CARD_WORDS = 1792,
+    /* words of 32 bits of a chain: 2 for each sequence */
+    DULIMOVEN_MOST_CHAIN_WORDS = 512
+};
 
 /*
  * The refusals. Of those that apply a call answers the first in this order; of
@@ -100,6 +116,17 @@ enum dulimoven_card_word {
     DULIMOVEN_CARD_WORDS = 7
 };
 
+/* The parts of a card's flags. */
+enum dulimoven_flag {
+    /* bit 0: a run exists */
+    DULIMOVEN_FLAG_RUN = 0x1,
+    /* bit 1: an empty run exists */
+    DULIMOVEN_FLAG_EMPTY_RUN = 0x2,
+    /* bits 8 to 14: how many facts are in "may set" or in "may clear" */
+    DULIMOVEN_FLAG_COUNT_SHIFT = 8,
+    DULIMOVEN_FLAG_COUNT_MASK = 0x7f
+};
+
 /*
  * Fills the cards of all sequences of a library image.
  *
@@ -121,22 +148,105 @@ enum dulimoven_card_word {
 uint64_t dulimoven_cards(const uint32_t *image, size_t image_len,
                          uint64_t *area, size_t area_len);
 
-/* Whether a card's sequence has a run. */
-static inline int dulimoven_has_run(const uint64_t *card)
-{
-    return (int)(card[DULIMOVEN_FLAGS] & 1u);
-}
+/*
+ * The questions of dulimoven_chain. 0 to 2 are of the last side: a step touches
+ * a fact if it sets or clears it, and the last touch decides. 3 to 5 are of the
+ * first side: a step touches a fact if it needs or sets it, and the first touch
+ * decides. A step that sets and clears a fact sets it; one that needs and sets
+ * a fact needs it.
+ *
+ * A fact is in "may set", "may clear" or "may need" exactly where question 0, 1
+ * or 3 has a chain. Of a sequence that has a run, a fact is missing from an
+ * "always" column exactly where one of the column's two questions has a chain:
+ * 4 and 5 for "always needed", 1 and 2 for "always set", 0 and 2 for "always
+ * cleared".
+ */
+enum dulimoven_question {
+    /* some run's last touch sets the fact */
+    DULIMOVEN_LAST_SET = 0,
+    /* some run's last touch clears it */
+    DULIMOVEN_LAST_CLEARED = 1,
+    /* some run neither sets nor clears it */
+    DULIMOVEN_LAST_UNTOUCHED = 2,
+    /* some run's first touch needs it */
+    DULIMOVEN_FIRST_NEEDED = 3,
+    /* some run's first touch sets it */
+    DULIMOVEN_FIRST_SET = 4,
+    /* some run neither needs nor sets it */
+    DULIMOVEN_FIRST_UNTOUCHED = 5
+};
 
-/* Whether it has an empty run. */
-static inline int dulimoven_has_empty_run(const uint64_t *card)
-{
-    return (int)(card[DULIMOVEN_FLAGS] >> 1 & 1u);
-}
+/*
+ * A link of a chain is two words. The first is of kind 10: bits 0 to 7 are the
+ * sequence that the link is about, bits 8 to 20 the alternative that is taken,
+ * counted from 0 within the sequence. The second is of kind 11 or 12.
+ */
+enum dulimoven_link_word {
+    /* the first word: the sequence and its alternative */
+    DULIMOVEN_LINK_CHOICE = 10,
+    /* the second word; its payload is the position, counted from 0 within the
+     * alternative, of the entry that gives the touch: a sequence, which the
+     * next link is about, or in the last link a step */
+    DULIMOVEN_LINK_POSITION = 11,
+    /* the second word, payload 0: the alternative has a run that leaves the
+     * fact untouched */
+    DULIMOVEN_LINK_UNTOUCHED = 12,
+    /* how many words a link has */
+    DULIMOVEN_LINK_WORDS = 2
+};
 
-/* How many facts it may set or may clear: 0 to 64. */
-static inline uint32_t dulimoven_changeable(const uint64_t *card)
+/*
+ * Shows how a run of a sequence comes to an outcome for a fact: asks one of the
+ * six questions, and writes the chain that answers it.
+ *
+ * image      as for dulimoven_check.
+ * image_len  as for dulimoven_check.
+ * sequence   the sequence asked about.
+ * question   one of enum dulimoven_question.
+ * fact       the fact asked about. Of these three no number is out of range:
+ *            one that names nothing is refused.
+ * area       area_len words of 32 bits, lent for the call, which keeps no
+ *            pointer to them. They may not overlap the image, and no other
+ *            thread may read or write them before the call returns. An empty
+ *            area, area_len 0, may have a null pointer.
+ * area_len   how many words area has; 2 for each sequence are always enough,
+ *            for no chain is about a sequence twice.
+ *
+ * Answers the number of links, at least 1 and at most C. The chain's words
+ * stand from area[0] on then, two a link, and the words after them are as they
+ * were. The first link is about the sequence asked about. Answers 0, "none",
+ * exactly where no run of the sequence has the outcome; every word of the area
+ * is as it was then.
+ *
+ * Questions 0, 1, 3 and 4 get the chain with the fewest links; at each link the
+ * lowest alternative, then the lowest position, that keeps it fewest. Questions
+ * 2 and 5 get one link, of kind 12: the alternative of the untouched derivation
+ * of least nesting depth, the lowest of those.
+ *
+ * Otherwise the call answers the first refusal that applies, and every word of
+ * the area is as it was. The image is looked at first, as dulimoven_check does,
+ * with the position that the check gives:
+ *   1   DULIMOVEN_LENGTH      image_len is below 2 or above 8,192
+ *   2   DULIMOVEN_SUM_WORD    the last word is not the image's sum word
+ *   3   DULIMOVEN_HEAD_WORD   the first word is no head
+ *   4   DULIMOVEN_KIND        a word of a kind that may not stand there
+ *   5   DULIMOVEN_PAYLOAD     a payload that breaks the rule of its kind
+ *   6   DULIMOVEN_FACT_ORDER  fact words of a step that do not ascend
+ *   7   DULIMOVEN_MISSING     steps or sequences of the head's count are missing
+ * then the question, with position 0:
+ *   9   DULIMOVEN_SEQUENCE    sequence is not below C
+ *   10  DULIMOVEN_QUESTION    question is above 5
+ *   11  DULIMOVEN_FACT        fact is not below F
+ *   12  DULIMOVEN_CHAIN_AREA  there is a chain, and area_len is below its words
+ */
+uint64_t dulimoven_chain(const uint32_t *image, size_t image_len,
+                         uint64_t sequence, uint64_t question, uint64_t fact,
+                         uint32_t *area, size_t area_len);
+
+/* Whether an answer of a call is a refusal. */
+static inline int dulimoven_is_refusal(uint64_t answer)
 {
-    return (uint32_t)(card[DULIMOVEN_FLAGS] >> 8 & 0x7fu);
+    return answer >> 32 != 0;
 }
 
 /* An answer's refusal, 1 to 12, or 0 where the call refused nothing. */
@@ -167,6 +277,55 @@ static inline uint32_t dulimoven_steps(uint64_t accepted)
 static inline uint32_t dulimoven_sequences(uint64_t accepted)
 {
     return (uint32_t)(accepted >> 18 & 0x1ffu);
+}
+
+/* Whether a card's sequence has a run. */
+static inline int dulimoven_has_run(const uint64_t *card)
+{
+    return (card[DULIMOVEN_FLAGS] & DULIMOVEN_FLAG_RUN) != 0;
+}
+
+/* Whether it has an empty run. */
+static inline int dulimoven_has_empty_run(const uint64_t *card)
+{
+    return (card[DULIMOVEN_FLAGS] & DULIMOVEN_FLAG_EMPTY_RUN) != 0;
+}
+
+/* How many facts it may set or may clear: 0 to 64. */
+static inline uint32_t dulimoven_changeable(const uint64_t *card)
+{
+    return (uint32_t)(card[DULIMOVEN_FLAGS] >> DULIMOVEN_FLAG_COUNT_SHIFT &
+                      DULIMOVEN_FLAG_COUNT_MASK);
+}
+
+/* Whether a column, which is a card's word other than its flags, has a fact. */
+static inline int dulimoven_has_fact(uint64_t column, uint64_t fact)
+{
+    return fact < 64 && (column >> fact & 1u) != 0;
+}
+
+/* The sequence that a link is about, by the link's two words. */
+static inline uint32_t dulimoven_link_sequence(const uint32_t *link)
+{
+    return link[0] & 0xffu;
+}
+
+/* The alternative that it takes. */
+static inline uint32_t dulimoven_link_alternative(const uint32_t *link)
+{
+    return link[0] >> 8 & 0x1fffu;
+}
+
+/* Whether the fact is left untouched there. Such a link has no position. */
+static inline int dulimoven_link_untouched(const uint32_t *link)
+{
+    return link[1] >> 28 == DULIMOVEN_LINK_UNTOUCHED;
+}
+
+/* The position of the entry that gives the touch. */
+static inline uint32_t dulimoven_link_position(const uint32_t *link)
+{
+    return link[1] & 0xfffffffu;
 }
 
 #ifdef __cplusplus

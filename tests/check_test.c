@@ -33,12 +33,9 @@ static void compare(const char *name, uint64_t answer, uint64_t expected)
 
 static void check(const char *name, uint64_t expected)
 {
-    memcpy(copy, area, sizeof area);
+    keep();
     compare(name, dulimoven_check(area + GUARD, words), expected);
-    if (memcmp(copy, area, sizeof area) != 0) {
-        failed++;
-        printf("%s: the call changed the image or a word beside it\n", name);
-    }
+    kept(name);
 }
 
 /* The words given, and after them the sum word. */

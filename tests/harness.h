@@ -26,6 +26,10 @@
 #define ALTERNATIVE WORD(7, 0)
 #define ENTRY_STEP(number) WORD(8, number)
 #define ENTRY_SEQUENCE(number) WORD(9, number)
+#define CHOICE(sequence, alternative) \
+    WORD(10, (uint32_t)(sequence) | (uint32_t)(alternative) << 8)
+#define AT(position) WORD(11, position)
+#define UNTOUCHED WORD(12, 0)
 
 /* Answers. */
 #define REFUSED(number, position) \
@@ -68,6 +72,20 @@ static inline void put(uint32_t word)
         area[GUARD + words++] = word;
 }
 
+/* Before a call, and after it: no word of the image or beside it is changed. */
+static inline void keep(void)
+{
+    memcpy(copy, area, sizeof area);
+}
+
+static inline void kept(const char *name)
+{
+    if (memcmp(copy, area, sizeof area) == 0)
+        return;
+    failed++;
+    printf("%s: the call changed the image or a word beside it\n", name);
+}
+
 /*
  * The sum word for the words that are there: s is their sum with wrap at 2^32,
  * the payload (s + s / 2^28) mod 2^28.
@@ -80,6 +98,22 @@ static inline uint32_t sum_word(void)
         s = (s + area[GUARD + i]) % UINT64_C(4294967296);
     return WORD(15, (s + s / 268435456) % 268435456);
 }
+
+/* The image under test from the words given, and after them the sum word. */
+static inline void build(const uint32_t *given, size_t count)
+{
+    size_t i;
+    start();
+    for (i = 0; i < count; i++)
+        put(given[i]);
+    put(sum_word());
+}
+
+#define BUILD(...)                                     \
+    do {                                               \
+        static const uint32_t given[] = {__VA_ARGS__}; \
+        build(given, COUNT(given));                    \
+    } while (0)
 
 /* Library L of document 01, as printed there. */
 static const uint32_t library_l[20] = {

@@ -1,0 +1,649 @@
+/*
+ * dulimoven_chain from the C side: every question of library L, chains worked
+ * out by hand, the refusals in their order, areas that are empty, too short,
+ * exact and longer, and that every call leaves the image, and each word that is
+ * not the chain's, as it was. C11 and C++17. Prints a line for each word that
+ * differs, then a count; the exit status is 0 where nothing differs.
+ *
+ * Below, "set", "clear" and "need" are steps that do this to fact 0, "other" is
+ * a step that does neither, and <..> is an alternative with its entries.
+ */
+#include "harness.h"
+
+/*
+ * The chain area under test, with guard words on both sides, and what it has to
+ * be after the call.
+ */
+enum { CHAIN = 2 * 256 + 3, CHAIN_AREA = GUARD + CHAIN + GUARD };
+static uint32_t chain_area[CHAIN_AREA];
+static uint32_t expected_area[CHAIN_AREA];
+
+/*
+ * Calls with an area of `length` words, every word its own pattern so that a
+ * word that stays can be told. Compares the answer and every word: those given
+ * are expected from word 0 on, the rest as it was.
+ */
+static void chain(const char *name, uint64_t sequence, uint64_t question,
+                  uint64_t fact, size_t length, uint64_t expected,
+                  const uint32_t *given, size_t count)
+{
+    uint64_t answer;
+    size_t i;
+    for (i = 0; i < CHAIN_AREA; i++) {
+        chain_area[i] = UINT32_C(0xabad0000) + (uint32_t)i;
+        expected_area[i] = chain_area[i];
+    }
+    for (i = 0; i < count; i++)
+        expected_area[GUARD + i] = given[i];
+    keep();
+    answer = dulimoven_chain(area + GUARD, words, sequence, question, fact,
+                             chain_area + GUARD, length);
+    ran++;
+    if (answer != expected) {
+        failed++;
+        printf("%s: expected %" PRIx64 ", answered %" PRIx64 "\n", name,
+               expected, answer);
+    }
+    kept(name);
+    for (i = 0; i < CHAIN_AREA; i++) {
+        if (chain_area[i] == expected_area[i])
+            continue;
+        failed++;
+        printf("%s: word %d of the area: expected %" PRIx32 ", found %" PRIx32
+               "\n",
+               name, (int)i - GUARD, expected_area[i], chain_area[i]);
+    }
+}
+
+/*
+ * The chain has the words given, in an area of just so many, in one of a word
+ * more and in a long one. In an area without a word, and in one that is a word
+ * short, refusal 12 leaves the area as it was.
+ */
+static void shown(const char *name, uint64_t sequence, uint64_t question,
+                  uint64_t fact, const uint32_t *given, size_t count)
+{
+    uint64_t links = count / 2;
+    chain(name, sequence, question, fact, count, links, given, count);
+    chain(name, sequence, question, fact, count + 1, links, given, count);
+    chain(name, sequence, question, fact, CHAIN, links, given, count);
+    chain(name, sequence, question, fact, 0, REFUSED(12, 0), NULL, 0);
+    chain(name, sequence, question, fact, count - 1, REFUSED(12, 0), NULL, 0);
+}
+
+#define SHOWN(name, sequence, question, fact, ...)               \
+    do {                                                         \
+        static const uint32_t chain_words[] = {__VA_ARGS__};     \
+        shown(name, sequence, question, fact, chain_words,       \
+              COUNT(chain_words));                               \
+    } while (0)
+
+/* An answer that writes nothing, whatever the area. */
+static void unwritten(const char *name, uint64_t sequence, uint64_t question,
+                      uint64_t fact, uint64_t expected)
+{
+    chain(name, sequence, question, fact, 0, expected, NULL, 0);
+    chain(name, sequence, question, fact, 1, expected, NULL, 0);
+    chain(name, sequence, question, fact, CHAIN, expected, NULL, 0);
+    hold(name, dulimoven_chain(area + GUARD, words, sequence, question, fact,
+                               NULL, 0) == expected);
+}
+
+static void none(const char *name, uint64_t sequence, uint64_t question,
+                 uint64_t fact)
+{
+    unwritten(name, sequence, question, fact, 0);
+}
+
+/* The chain samples of document 01, their words as printed there. */
+static void samples(void)
+{
+    static const uint32_t two_links[] = {0xa0000001, 0xb0000000, 0xa0000000,
+                                         0xb0000000};
+    build(library_l, 19);
+    hold("L has its sum word", area[GUARD + 19] == library_l[19]);
+    SHOWN("L, 1, question 2, fact 0", 1, 2, 0, 0xa0000001, 0xc0000000);
+    shown("L, 1, question 0, fact 0", 1, 0, 0, two_links, 4);
+    chain("L, 1, question 0, fact 0, an area of 3 words", 1, 0, 0, 3,
+          REFUSED(12, 0), NULL, 0);
+    none("L, 1, question 1, fact 1", 1, 1, 1);
+    none("L, 2, question 2, fact 0", 2, 2, 0);
+    unwritten("L, sequence 3", 3, 0, 0, REFUSED(9, 0));
+    unwritten("L, question 6, fact 3", 1, 6, 3, REFUSED(10, 0));
+
+    /* the word pairs that are printed there: no sequence, and no fact */
+    start();
+    put(0x10000001);
+    put(0xf0000002);
+    unwritten("no sequence, sequence 0", 0, 0, 0, REFUSED(9, 0));
+    start();
+    put(0x10000000);
+    put(0xf0000001);
+    unwritten("no fact", 0, 0, 0, REFUSED(3, 0));
+
+    /* <itself>, <>: the only finite choice is alternative 1 */
+    BUILD(HEAD(1, 0, 1), SEQUENCE(0), ALTERNATIVE, ENTRY_SEQUENCE(0),
+          ALTERNATIVE);
+    SHOWN("<itself>, <>, question 2", 0, 2, 0, CHOICE(0, 1), UNTOUCHED);
+    SHOWN("<itself>, <>, question 5", 0, 5, 0, CHOICE(0, 1), UNTOUCHED);
+
+    /* always cleared: 0 and 2 have no chain, 1 has alternative 1's step */
+    BUILD(HEAD(1, 2, 2), STEP(0), SETS(0), STEP(1), CLEARS(0), SEQUENCE(0),
+          ALTERNATIVE, ENTRY_STEP(0), ENTRY_SEQUENCE(1), ALTERNATIVE,
+          ENTRY_STEP(1), SEQUENCE(1), ALTERNATIVE, ENTRY_SEQUENCE(1));
+    none("<set, endless>, <clear>, question 0", 0, 0, 0);
+    SHOWN("<set, endless>, <clear>, question 1", 0, 1, 0, CHOICE(0, 1), AT(0));
+    none("<set, endless>, <clear>, question 2", 0, 2, 0);
+    none("<set, endless>, <clear>, question 3", 0, 3, 0);
+    none("<set, endless>, <clear>, question 4", 0, 4, 0);
+    SHOWN("<set, endless>, <clear>, question 5", 0, 5, 0, CHOICE(0, 1),
+          UNTOUCHED);
+
+    /* always needed: a clear is no touch on the first side, so the first touch
+       is the need at position 1 */
+    BUILD(HEAD(1, 2, 1), STEP(0), CLEARS(0), STEP(1), NEEDS(0), SEQUENCE(0),
+          ALTERNATIVE, ENTRY_STEP(0), ENTRY_STEP(1));
+    SHOWN("<clear, need>, question 3", 0, 3, 0, CHOICE(0, 0), AT(1));
+    none("<clear, need>, question 4", 0, 4, 0);
+    none("<clear, need>, question 5", 0, 5, 0);
+    SHOWN("<clear, need>, question 1", 0, 1, 0, CHOICE(0, 0), AT(0));
+
+    /* set and cleared by one step means set */
+    BUILD(HEAD(1, 1, 1), STEP(0), SETS(0), CLEARS(0), SEQUENCE(0), ALTERNATIVE,
+          ENTRY_STEP(0));
+    SHOWN("<set and clear>, question 0", 0, 0, 0, CHOICE(0, 0), AT(0));
+    none("<set and clear>, question 1", 0, 1, 0);
+    none("<set and clear>, question 2", 0, 2, 0);
+
+    /* 64 facts are read, 65 are not */
+    BUILD(HEAD(64, 1, 1), STEP(0), SETS(63), SEQUENCE(0), ALTERNATIVE,
+          ENTRY_STEP(0));
+    SHOWN("fact 63 of 64", 0, 0, 63, CHOICE(0, 0), AT(0));
+    SHOWN("fact 62 of 64", 0, 2, 62, CHOICE(0, 0), UNTOUCHED);
+    unwritten("fact 64 of 64", 0, 0, 64, REFUSED(11, 0));
+    BUILD(HEAD(65, 1, 1), STEP(0), SETS(63), SEQUENCE(0), ALTERNATIVE,
+          ENTRY_STEP(0));
+    unwritten("fact 63 of 65", 0, 0, 63, REFUSED(3, 0));
+}
+
+/*
+ * All 54 answers of L. Sequence 0 is <set 0>, <>; sequence 1 is <sequence 0,
+ * step 1>, and step 1 needs fact 0 and sets fact 1; sequence 2 is endless.
+ * Nothing touches fact 2.
+ *
+ * Sequence 0: fact 0 is set by alternative 0 at position 0, and untouched in
+ * alternative 1; facts 1 and 2 are untouched in alternative 0, which is as deep
+ * (1) as alternative 1 and is the lower.
+ *
+ * Sequence 1, one alternative, so 0 at each link. Fact 0: last set, by the call
+ * at position 0, since step 1 neither sets nor clears it, then as in sequence
+ * 0; last untouched, with sequence 0 empty; first needed, by step 1 at position
+ * 1, since sequence 0 can stay untouched; first set, by the call at 0; never
+ * first untouched, since step 1 needs it. Fact 1: last and first set by step 1
+ * at position 1. Fact 2: untouched.
+ */
+static void every_question_of_l(void)
+{
+    static const struct {
+        uint64_t sequence, question, fact, links;
+        uint32_t given[4];
+    } chains[] = {
+        {0, 0, 0, 1, {0xa0000000, 0xb0000000, 0, 0}},
+        {0, 2, 0, 1, {0xa0000100, 0xc0000000, 0, 0}},
+        {0, 4, 0, 1, {0xa0000000, 0xb0000000, 0, 0}},
+        {0, 5, 0, 1, {0xa0000100, 0xc0000000, 0, 0}},
+        {0, 2, 1, 1, {0xa0000000, 0xc0000000, 0, 0}},
+        {0, 5, 1, 1, {0xa0000000, 0xc0000000, 0, 0}},
+        {0, 2, 2, 1, {0xa0000000, 0xc0000000, 0, 0}},
+        {0, 5, 2, 1, {0xa0000000, 0xc0000000, 0, 0}},
+        {1, 0, 0, 2, {0xa0000001, 0xb0000000, 0xa0000000, 0xb0000000}},
+        {1, 2, 0, 1, {0xa0000001, 0xc0000000, 0, 0}},
+        {1, 3, 0, 1, {0xa0000001, 0xb0000001, 0, 0}},
+        {1, 4, 0, 2, {0xa0000001, 0xb0000000, 0xa0000000, 0xb0000000}},
+        {1, 0, 1, 1, {0xa0000001, 0xb0000001, 0, 0}},
+        {1, 4, 1, 1, {0xa0000001, 0xb0000001, 0, 0}},
+        {1, 2, 2, 1, {0xa0000001, 0xc0000000, 0, 0}},
+        {1, 5, 2, 1, {0xa0000001, 0xc0000000, 0, 0}},
+    };
+    uint64_t sequence, question, fact;
+    build(library_l, 19);
+    for (sequence = 0; sequence < 3; sequence++) {
+        for (question = 0; question < 6; question++) {
+            for (fact = 0; fact < 3; fact++) {
+                char name[64];
+                size_t i = 0;
+                snprintf(name, sizeof name, "L: %u, question %u, fact %u",
+                         (unsigned)sequence, (unsigned)question,
+                         (unsigned)fact);
+                while (i < COUNT(chains) && (chains[i].sequence != sequence ||
+                                             chains[i].question != question ||
+                                             chains[i].fact != fact))
+                    i++;
+                if (i < COUNT(chains))
+                    shown(name, sequence, question, fact, chains[i].given,
+                          2 * (size_t)chains[i].links);
+                else
+                    none(name, sequence, question, fact);
+            }
+        }
+    }
+}
+
+/* 9 before 10 before 11 before 12, whatever stands in the upper bits. */
+static void order(void)
+{
+    static const uint64_t high[] = {UINT64_C(0x100000000),
+                                    UINT64_C(0x8000000000000000),
+                                    UINT64_C(0xffffffff00000000)};
+    static const uint64_t all = UINT64_C(0xffffffffffffffff);
+    size_t i;
+    build(library_l, 19);
+
+    unwritten("9, 10 and 11", 3, 6, 3, REFUSED(9, 0));
+    unwritten("9 and 10", 3, 6, 2, REFUSED(9, 0));
+    unwritten("9 and 11", 3, 5, 3, REFUSED(9, 0));
+    unwritten("9", 3, 5, 2, REFUSED(9, 0));
+    unwritten("10 and 11", 2, 6, 3, REFUSED(10, 0));
+    unwritten("10", 2, 6, 2, REFUSED(10, 0));
+    unwritten("11", 2, 5, 3, REFUSED(11, 0));
+    unwritten("none of them", 2, 5, 2, 0);
+    /* 12 is for a chain that exists, with the other three in order */
+    chain("12", 1, 0, 0, 3, REFUSED(12, 0), NULL, 0);
+    chain("9 before 12", 257, 0, 0, 3, REFUSED(9, 0), NULL, 0);
+    chain("10 before 12", 1, 256, 0, 3, REFUSED(10, 0), NULL, 0);
+    chain("11 before 12", 1, 0, 256, 3, REFUSED(11, 0), NULL, 0);
+
+    /* the low bits are sequence 1, question 0, fact 0, which have a chain */
+    for (i = 0; i < COUNT(high); i++) {
+        unwritten("a long sequence", high[i] + 1, 0, 0, REFUSED(9, 0));
+        unwritten("a long question", 1, high[i], 0, REFUSED(10, 0));
+        unwritten("a long question, 2", 1, high[i] + 2, 0, REFUSED(10, 0));
+        unwritten("a long fact", 1, 0, high[i], REFUSED(11, 0));
+        unwritten("a long question and fact", 1, high[i], high[i],
+                  REFUSED(10, 0));
+        unwritten("three long numbers", high[i] + 1, high[i], high[i],
+                  REFUSED(9, 0));
+    }
+    unwritten("the greatest sequence", all, 0, 0, REFUSED(9, 0));
+    unwritten("the greatest question", 1, all, 0, REFUSED(10, 0));
+    unwritten("the greatest fact", 1, 0, all, REFUSED(11, 0));
+    unwritten("the three greatest", all, all, all, REFUSED(9, 0));
+}
+
+/*
+ * Refusals 1 to 7 come first: with numbers that name nothing, and with those of
+ * a chain.
+ */
+static void refusals(void)
+{
+    static const uint64_t numbers[] = {0, 1, 300,
+                                       UINT64_C(0xffffffffffffffff)};
+    size_t i;
+    for (i = 0; i < COUNT(numbers); i++) {
+        uint64_t n = numbers[i];
+        start();
+        unwritten("1: no word", n, n, n, REFUSED(1, 0));
+        put(HEAD(1, 0, 0));
+        unwritten("1: one word", n, n, n, REFUSED(1, 0));
+        build(library_l, 19);
+        area[GUARD + 19] ^= 1;
+        unwritten("2: L with a wrong sum word", n, n, n, REFUSED(2, 19));
+        BUILD(HEAD(65, 0, 1), SEQUENCE(0));
+        unwritten("3: F = 65", n, n, n, REFUSED(3, 0));
+        BUILD(HEAD(1, 0, 1), SEQUENCE(0), WORD(0, 0));
+        unwritten("4: kind 0", n, n, n, REFUSED(4, 2));
+        BUILD(HEAD(1, 0, 1), SEQUENCE(0), WORD(7, 1));
+        unwritten("5: an alternative with payload 1", n, n, n, REFUSED(5, 2));
+        BUILD(HEAD(1, 1, 1), STEP(0), SETS(0), SETS(0), SEQUENCE(0));
+        unwritten("6: a fact word twice", n, n, n, REFUSED(6, 3));
+        BUILD(HEAD(1, 0, 2), SEQUENCE(0));
+        unwritten("7: one sequence of two", n, n, n, REFUSED(7, 2));
+        hold("1: no word, null pointers",
+             dulimoven_chain(NULL, 0, n, n, n, NULL, 0) == REFUSED(1, 0));
+    }
+    start();
+    while (words < 8193)
+        put(WORD(15, 0));
+    unwritten("1: 8,193 words", 0, 0, 0, REFUSED(1, 0));
+}
+
+/*
+ * Step 0 is set, step 1 clear, step 2 need, step 3 other, step 4 needs and sets
+ * fact 0.
+ */
+#define STEPS                                                         \
+    STEP(0), SETS(0), STEP(1), CLEARS(0), STEP(2), NEEDS(0), STEP(3), \
+        STEP(4), NEEDS(0), SETS(0)
+#define SET ENTRY_STEP(0)
+#define CLEAR ENTRY_STEP(1)
+#define NEED ENTRY_STEP(2)
+#define OTHER ENTRY_STEP(3)
+#define NEED_SET ENTRY_STEP(4)
+
+/* What counts as a touch, and which touch decides. */
+static void sides(void)
+{
+    /* last side: the clear at 2 is the last touch. First side: the need at 0 is
+       the first; the other two questions of each side have no chain. */
+    BUILD(HEAD(1, 5, 1), STEPS, SEQUENCE(0), ALTERNATIVE, NEED, SET, CLEAR,
+          OTHER);
+    none("<need, set, clear, other>, 0", 0, 0, 0);
+    SHOWN("<need, set, clear, other>, 1", 0, 1, 0, CHOICE(0, 0), AT(2));
+    none("<need, set, clear, other>, 2", 0, 2, 0);
+    SHOWN("<need, set, clear, other>, 3", 0, 3, 0, CHOICE(0, 0), AT(0));
+    none("<need, set, clear, other>, 4", 0, 4, 0);
+    none("<need, set, clear, other>, 5", 0, 5, 0);
+
+    /* a need is no touch on the last side, a clear none on the first */
+    BUILD(HEAD(1, 5, 1), STEPS, SEQUENCE(0), ALTERNATIVE, CLEAR, SET, NEED);
+    SHOWN("<clear, set, need>, 0", 0, 0, 0, CHOICE(0, 0), AT(1));
+    none("<clear, set, need>, 1", 0, 1, 0);
+    none("<clear, set, need>, 3", 0, 3, 0);
+    SHOWN("<clear, set, need>, 4", 0, 4, 0, CHOICE(0, 0), AT(1));
+    BUILD(HEAD(1, 5, 2), STEPS, SEQUENCE(0), ALTERNATIVE, NEED, SEQUENCE(1),
+          ALTERNATIVE, CLEAR);
+    SHOWN("<need>, 2", 0, 2, 0, CHOICE(0, 0), UNTOUCHED);
+    none("<need>, 5", 0, 5, 0);
+    none("<clear>, 2", 1, 2, 0);
+    SHOWN("<clear>, 5", 1, 5, 0, CHOICE(1, 0), UNTOUCHED);
+
+    /* a step that needs and sets: it sets on the last side, needs on the first */
+    BUILD(HEAD(1, 5, 1), STEPS, SEQUENCE(0), ALTERNATIVE, NEED_SET);
+    SHOWN("<need and set>, 0", 0, 0, 0, CHOICE(0, 0), AT(0));
+    SHOWN("<need and set>, 3", 0, 3, 0, CHOICE(0, 0), AT(0));
+    none("<need and set>, 4", 0, 4, 0);
+
+    /* past sequence 1, which always clears or needs, nothing is seen; past
+       sequence 2, <clear>, <> or <need>, <>, it is */
+    BUILD(HEAD(1, 5, 3), STEPS, SEQUENCE(0), ALTERNATIVE, SET,
+          ENTRY_SEQUENCE(1), ALTERNATIVE, SET, ENTRY_SEQUENCE(2), SEQUENCE(1),
+          ALTERNATIVE, CLEAR, SEQUENCE(2), ALTERNATIVE, CLEAR, ALTERNATIVE);
+    SHOWN("<set, clears>, <set, may clear>, 0", 0, 0, 0, CHOICE(0, 1), AT(0));
+    BUILD(HEAD(1, 5, 3), STEPS, SEQUENCE(0), ALTERNATIVE, ENTRY_SEQUENCE(1),
+          SET, ALTERNATIVE, ENTRY_SEQUENCE(2), SET, SEQUENCE(1), ALTERNATIVE,
+          NEED, SEQUENCE(2), ALTERNATIVE, NEED, ALTERNATIVE);
+    SHOWN("<needs, set>, <may need, set>, 4", 0, 4, 0, CHOICE(0, 1), AT(1));
+
+    /* the other way round an entry must have a run, and no more is asked of it:
+       sequence 1 always clears or needs, sequence 2 is endless */
+    BUILD(HEAD(1, 5, 3), STEPS, SEQUENCE(0), ALTERNATIVE, ENTRY_SEQUENCE(2),
+          SET, ALTERNATIVE, ENTRY_SEQUENCE(1), SET, SEQUENCE(1), ALTERNATIVE,
+          CLEAR, SEQUENCE(2), ALTERNATIVE, ENTRY_SEQUENCE(2));
+    SHOWN("<endless, set>, <clears, set>, 0", 0, 0, 0, CHOICE(0, 1), AT(1));
+    BUILD(HEAD(1, 5, 3), STEPS, SEQUENCE(0), ALTERNATIVE, SET,
+          ENTRY_SEQUENCE(2), ALTERNATIVE, SET, ENTRY_SEQUENCE(1), SEQUENCE(1),
+          ALTERNATIVE, NEED, SEQUENCE(2), ALTERNATIVE, ENTRY_SEQUENCE(2));
+    SHOWN("<set, endless>, <set, needs>, 4", 0, 4, 0, CHOICE(0, 1), AT(0));
+
+    /* no alternative, no run: none of the six */
+    BUILD(HEAD(1, 5, 2), STEPS, SEQUENCE(0), SEQUENCE(1), ALTERNATIVE, SET,
+          ENTRY_SEQUENCE(0), NEED);
+    {
+        uint64_t question;
+        for (question = 0; question < 6; question++) {
+            none("no alternative", 0, question, 0);
+            none("<set, no alternative, need>", 1, question, 0);
+        }
+    }
+}
+
+/* "The chain has the fewest links", then the lowest alternative and position. */
+static void fewest(void)
+{
+    /* sequence 1 is <set>, <>. Alternative 0 has 2 links, by its call; 1 has 2,
+       by position 0 or 1; 2 has 1, by its step at 1: the call at 2 would make 2
+       and the call at 0 is no choice, for the step sets after it */
+    BUILD(HEAD(1, 5, 2), STEPS, SEQUENCE(0), ALTERNATIVE, ENTRY_SEQUENCE(1),
+          ALTERNATIVE, ENTRY_SEQUENCE(1), ENTRY_SEQUENCE(1), ALTERNATIVE,
+          ENTRY_SEQUENCE(1), SET, ENTRY_SEQUENCE(1), SEQUENCE(1), ALTERNATIVE,
+          SET, ALTERNATIVE);
+    SHOWN("fewest, last side", 0, 0, 0, CHOICE(0, 2), AT(1));
+    SHOWN("fewest, first side", 0, 4, 0, CHOICE(0, 2), AT(1));
+
+    /* without the step: 2 links in each alternative, so the lowest, 0. Other is
+       at 0, the calls at 1 and 2 have 2 links each: the lowest, 1. Sequence 1 is
+       <>, <set>, <set>: the lowest that sets, 1. */
+    BUILD(HEAD(1, 5, 2), STEPS, SEQUENCE(0), ALTERNATIVE, OTHER,
+          ENTRY_SEQUENCE(1), ENTRY_SEQUENCE(1), ALTERNATIVE, ENTRY_SEQUENCE(1),
+          SEQUENCE(1), ALTERNATIVE, ALTERNATIVE, SET, ALTERNATIVE, SET);
+    SHOWN("ties, last side", 0, 0, 0, CHOICE(0, 0), AT(1), CHOICE(1, 1), AT(0));
+    SHOWN("ties, first side", 0, 4, 0, CHOICE(0, 0), AT(1), CHOICE(1, 1),
+          AT(0));
+
+    /* position before alternative would be wrong: alternative 0 has its step at
+       2, alternative 1 at 0 */
+    BUILD(HEAD(1, 5, 1), STEPS, SEQUENCE(0), ALTERNATIVE, OTHER, OTHER, SET,
+          ALTERNATIVE, SET);
+    SHOWN("the alternative first, last side", 0, 0, 0, CHOICE(0, 0), AT(2));
+    SHOWN("the alternative first, first side", 0, 4, 0, CHOICE(0, 0), AT(2));
+
+    /* a lower alternative that the chain could take is passed over where it has
+       more links. By links to a need: sequence 3 has 1, <need>; 2 has 2, <3>; 1
+       has 2, by its alternative 1, <3> (alternative 0, <2>, has 3); 0 has 3, by
+       either alternative: <2> is alternative 1, <1> is alternative 0. */
+    BUILD(HEAD(1, 5, 4), STEPS, SEQUENCE(0), ALTERNATIVE, ENTRY_SEQUENCE(1),
+          ALTERNATIVE, ENTRY_SEQUENCE(2), SEQUENCE(1), ALTERNATIVE,
+          ENTRY_SEQUENCE(2), ALTERNATIVE, ENTRY_SEQUENCE(3), SEQUENCE(2),
+          ALTERNATIVE, ENTRY_SEQUENCE(3), SEQUENCE(3), ALTERNATIVE, NEED);
+    SHOWN("at each link, 0", 0, 3, 0, CHOICE(0, 0), AT(0), CHOICE(1, 1), AT(0),
+          CHOICE(3, 0), AT(0));
+    SHOWN("at each link, 1", 1, 3, 0, CHOICE(1, 1), AT(0), CHOICE(3, 0), AT(0));
+    SHOWN("at each link, 2", 2, 3, 0, CHOICE(2, 0), AT(0), CHOICE(3, 0), AT(0));
+
+    /* calls of itself and in a ring: sequence 0 is <0, need>, <1>; sequence 1 is
+       <0>, <need, clear>. A chain through <0, need> has one link more than the
+       chain that it calls for, so the fewest is <1>, then the clear at 1. */
+    BUILD(HEAD(1, 5, 2), STEPS, SEQUENCE(0), ALTERNATIVE, ENTRY_SEQUENCE(0),
+          NEED, ALTERNATIVE, ENTRY_SEQUENCE(1), SEQUENCE(1), ALTERNATIVE,
+          ENTRY_SEQUENCE(0), ALTERNATIVE, NEED, CLEAR);
+    SHOWN("a ring, 0, question 1", 0, 1, 0, CHOICE(0, 1), AT(0), CHOICE(1, 1),
+          AT(1));
+    SHOWN("a ring, 1, question 1", 1, 1, 0, CHOICE(1, 1), AT(1));
+    SHOWN("a ring, 0, question 3", 0, 3, 0, CHOICE(0, 1), AT(0), CHOICE(1, 1),
+          AT(0));
+    none("a ring, 0, question 0", 0, 0, 0);
+    none("a ring, 0, question 2", 0, 2, 0);
+    none("a ring, 0, question 5", 0, 5, 0);
+}
+
+#define DEPTHS(touch)                                                      \
+    HEAD(1, 5, 4), STEPS, SEQUENCE(0), ALTERNATIVE, ENTRY_SEQUENCE(3),     \
+        ENTRY_SEQUENCE(1), ALTERNATIVE, ENTRY_SEQUENCE(2),                 \
+        ENTRY_SEQUENCE(2), ENTRY_SEQUENCE(2), ALTERNATIVE,                 \
+        ENTRY_SEQUENCE(2), ALTERNATIVE, ENTRY_SEQUENCE(3), touch,          \
+        SEQUENCE(1), ALTERNATIVE, ENTRY_SEQUENCE(2), SEQUENCE(2),          \
+        ALTERNATIVE, ENTRY_SEQUENCE(3), SEQUENCE(3), ALTERNATIVE
+
+/*
+ * Kind 12: "the alternative of the untouched derivation of least nesting depth,
+ * ties to the lowest". A step has depth 0, a sequence 1 plus the greatest depth
+ * among its entries, or 1 without entries.
+ */
+static void untouched(void)
+{
+    /* sequence 1 is <>, depth 1; by alternative 0 sequence 0 has depth 2, by
+       alternative 1 depth 1: not the first that fits */
+    BUILD(HEAD(1, 5, 2), STEPS, SEQUENCE(0), ALTERNATIVE, ENTRY_SEQUENCE(1),
+          ALTERNATIVE, SEQUENCE(1), ALTERNATIVE);
+    SHOWN("<1>, <>, question 2", 0, 2, 0, CHOICE(0, 1), UNTOUCHED);
+    SHOWN("<1>, <>, question 5", 0, 5, 0, CHOICE(0, 1), UNTOUCHED);
+
+    /* other and nothing both have depth 1: the lowest */
+    BUILD(HEAD(1, 5, 2), STEPS, SEQUENCE(0), ALTERNATIVE, OTHER, OTHER,
+          ALTERNATIVE, SEQUENCE(1), ALTERNATIVE, ALTERNATIVE, OTHER);
+    SHOWN("<other, other>, <>", 0, 2, 0, CHOICE(0, 0), UNTOUCHED);
+    SHOWN("<>, <other>", 1, 2, 0, CHOICE(1, 0), UNTOUCHED);
+
+    /* the greatest depth counts and not the sum: sequence 3 is <>, depth 1; 2 is
+       <3>, depth 2; 1 is <2>, depth 3. Of sequence 0, alternative 0, <3, 1>, has
+       depth 4; alternative 1, <2, 2, 2>, and alternative 2, <2>, have depth 3;
+       alternative 3, <3, clear> or <3, need>, is untouched on one side only, and
+       has depth 2 there. */
+    BUILD(DEPTHS(CLEAR));
+    SHOWN("<3, 1>, <2, 2, 2>, <2>, <3, clear>, 2", 0, 2, 0, CHOICE(0, 1),
+          UNTOUCHED);
+    SHOWN("<3, 1>, <2, 2, 2>, <2>, <3, clear>, 5", 0, 5, 0, CHOICE(0, 3),
+          UNTOUCHED);
+    BUILD(DEPTHS(NEED));
+    SHOWN("<3, 1>, <2, 2, 2>, <2>, <3, need>, 2", 0, 2, 0, CHOICE(0, 3),
+          UNTOUCHED);
+    SHOWN("<3, 1>, <2, 2, 2>, <2>, <3, need>, 5", 0, 5, 0, CHOICE(0, 1),
+          UNTOUCHED);
+
+    /* a derivation that leaves the fact untouched may be deeper than one that
+       does not: sequence 1 is <set>, <2>, and 2 is <>, so untouched it has depth
+       2. Of sequence 0, <1> has depth 3 then, and <2, 2> depth 2. */
+    BUILD(HEAD(1, 5, 3), STEPS, SEQUENCE(0), ALTERNATIVE, ENTRY_SEQUENCE(1),
+          ALTERNATIVE, ENTRY_SEQUENCE(2), ENTRY_SEQUENCE(2), SEQUENCE(1),
+          ALTERNATIVE, SET, ALTERNATIVE, ENTRY_SEQUENCE(2), SEQUENCE(2),
+          ALTERNATIVE);
+    SHOWN("untouched depth, 2", 0, 2, 0, CHOICE(0, 1), UNTOUCHED);
+    SHOWN("untouched depth, 5", 0, 5, 0, CHOICE(0, 1), UNTOUCHED);
+    SHOWN("untouched depth, 1", 1, 2, 0, CHOICE(1, 1), UNTOUCHED);
+}
+
+/*
+ * 256 sequences, each calling the next (`up`) or the one before, the one at the
+ * end a step that needs and sets fact 0. No chain is longer than the one that
+ * starts at the other end: 256 links, 512 words.
+ */
+static void deep(const char *name, int up)
+{
+    static uint32_t links[512];
+    uint32_t c;
+    uint32_t end = up ? 255 : 0;
+    start();
+    put(HEAD(2, 1, 256));
+    put(STEP(0));
+    put(NEEDS(0));
+    put(SETS(0));
+    for (c = 0; c < 256; c++) {
+        put(SEQUENCE(c));
+        put(ALTERNATIVE);
+        if (c == end)
+            put(ENTRY_STEP(0));
+        else
+            put(ENTRY_SEQUENCE(up ? c + 1 : c - 1));
+    }
+    put(sum_word());
+    for (c = 0; c < 256; c++) {
+        links[2 * c] = CHOICE(up ? c : 255 - c, 0);
+        links[2 * c + 1] = AT(0);
+    }
+    chain(name, 255 - end, 0, 0, 511, REFUSED(12, 0), NULL, 0);
+    chain(name, 255 - end, 0, 0, 512, 256, links, 512);
+    shown(name, 255 - end, 0, 0, links, 512);
+    shown(name, 255 - end, 3, 0, links, 512);
+    /* from the middle, 128 links; from the end, one */
+    shown(name, up ? 128 : 127, 3, 0, links + 256, 256);
+    shown(name, end, 0, 0, links + 510, 2);
+    /* fact 1 is untouched; a link of kind 12 is one, however deep */
+    SHOWN(name, 0, 2, 1, CHOICE(0, 0), UNTOUCHED);
+    SHOWN(name, 255, 5, 1, CHOICE(255, 0), UNTOUCHED);
+    none(name, 255 - end, 4, 0);
+    unwritten(name, 256, 0, 0, REFUSED(9, 0));
+}
+
+/* Images of 8,192 words: the greatest alternative and position of a link. */
+static void longest(void)
+{
+    /* head, step 0 that sets, sequence 0, then alternatives up to the entry and
+       the sum word: 8192 - 4 - 2 = 8186 of them, the last <set>, number 8185 */
+    start();
+    put(HEAD(1, 1, 1));
+    put(STEP(0));
+    put(SETS(0));
+    put(SEQUENCE(0));
+    while (words < 8190)
+        put(ALTERNATIVE);
+    put(ENTRY_STEP(0));
+    put(sum_word());
+    hold("8,192 words", words == 8192);
+    SHOWN("alternative 8,185", 0, 0, 0, 0xa01ff900, 0xb0000000);
+    SHOWN("alternative 0 of 8,186", 0, 2, 0, CHOICE(0, 0), UNTOUCHED);
+
+    /* one alternative of step 1, which does nothing, and step 0 at the end: the
+       entries stand from word 6 on, so word 8190 is position 8184 */
+    start();
+    put(HEAD(1, 2, 1));
+    put(STEP(0));
+    put(SETS(0));
+    put(STEP(1));
+    put(SEQUENCE(0));
+    put(ALTERNATIVE);
+    while (words < 8190)
+        put(ENTRY_STEP(1));
+    put(ENTRY_STEP(0));
+    put(sum_word());
+    hold("8,192 words", words == 8192);
+    SHOWN("position 8,184, last side", 0, 0, 0, 0xa0000000, 0xb0001ff8);
+    SHOWN("position 8,184, first side", 0, 4, 0, 0xa0000000, 0xb0001ff8);
+}
+
+/* The header's names and helpers. */
+static void names(void)
+{
+    static const uint32_t first[2] = {0xa01ff9ff, 0xb0001ff8};
+    static const uint32_t second[2] = {0xa0000100, 0xc0000000};
+    static const uint64_t card[7] = {
+        0x4003, 0, 0, UINT64_C(0x8000000000000001), 0, 0, 0};
+    hold("the questions",
+         DULIMOVEN_LAST_SET == 0 && DULIMOVEN_LAST_CLEARED == 1 &&
+             DULIMOVEN_LAST_UNTOUCHED == 2 && DULIMOVEN_FIRST_NEEDED == 3 &&
+             DULIMOVEN_FIRST_SET == 4 && DULIMOVEN_FIRST_UNTOUCHED == 5);
+    hold("the words of a link",
+         DULIMOVEN_LINK_CHOICE == 10 && DULIMOVEN_LINK_POSITION == 11 &&
+             DULIMOVEN_LINK_UNTOUCHED == 12 && DULIMOVEN_LINK_WORDS == 2);
+    hold("the flags",
+         DULIMOVEN_FLAG_RUN == 1 && DULIMOVEN_FLAG_EMPTY_RUN == 2 &&
+             DULIMOVEN_FLAG_COUNT_SHIFT == 8 &&
+             DULIMOVEN_FLAG_COUNT_MASK == 127);
+    hold("the bounds",
+         DULIMOVEN_MOST_IMAGE_WORDS == 8192 && DULIMOVEN_MOST_FACTS == 64 &&
+             DULIMOVEN_MOST_STEPS == 1024 && DULIMOVEN_MOST_SEQUENCES == 256 &&
+             DULIMOVEN_MOST_CARD_WORDS == 7 * 256 &&
+             DULIMOVEN_MOST_CHAIN_WORDS == 2 * 256);
+    /* 0x1ff9ff is 8185 * 2^8 + 255 */
+    hold("sequence 255", dulimoven_link_sequence(first) == 255);
+    hold("alternative 8,185", dulimoven_link_alternative(first) == 8185);
+    hold("position 8,184", dulimoven_link_position(first) == 8184);
+    hold("a touch", dulimoven_link_untouched(first) == 0);
+    hold("sequence 0", dulimoven_link_sequence(second) == 0);
+    hold("alternative 1", dulimoven_link_alternative(second) == 1);
+    hold("no touch", dulimoven_link_untouched(second) == 1);
+    hold("256 links are no refusal", dulimoven_is_refusal(256) == 0);
+    hold("none is no refusal", dulimoven_is_refusal(0) == 0);
+    hold("a head's payload is no refusal",
+         dulimoven_is_refusal(UINT64_C(0xfffffff)) == 0);
+    hold("a refusal at 0", dulimoven_is_refusal(REFUSED(1, 0)) == 1);
+    hold("a refusal at 8,191", dulimoven_is_refusal(REFUSED(12, 8191)) == 1);
+    hold("the number of refusal 12",
+         dulimoven_refusal_of(REFUSED(12, 0)) == DULIMOVEN_CHAIN_AREA);
+    hold("a run, an empty one, 64 facts",
+         dulimoven_has_run(card) == 1 && dulimoven_has_empty_run(card) == 1 &&
+             dulimoven_changeable(card) == 64);
+    hold("facts 0 and 63", dulimoven_has_fact(card[3], 0) == 1 &&
+                               dulimoven_has_fact(card[3], 63) == 1);
+    hold("no fact 1, 62, 64",
+         dulimoven_has_fact(card[3], 1) == 0 &&
+             dulimoven_has_fact(card[3], 62) == 0 &&
+             dulimoven_has_fact(card[3], 64) == 0 &&
+             dulimoven_has_fact(card[3], UINT64_C(0xffffffffffffffff)) == 0);
+}
+
+int main(void)
+{
+    samples();
+    every_question_of_l();
+    order();
+    refusals();
+    sides();
+    fewest();
+    untouched();
+    deep("each calls the next", 1);
+    deep("each calls the one before", 0);
+    longest();
+    names();
+    printf("chain_test: %u checks, %u failed\n", ran, failed);
+    return failed == 0 ? 0 : 1;
+}

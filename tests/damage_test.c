@@ -1,0 +1,456 @@
+/*
+ * The three calls over damaged images and random words: no crash, the same
+ * answer twice, and nothing changed but what a call writes. C11 and C++17, and
+ * built with AddressSanitizer and UndefinedBehaviorSanitizer too. Prints a line
+ * for what does not hold, then a count; the exit status is 0 where all holds.
+ *
+ * Every call is made twice. Once each lent array ends where a page begins that
+ * may be neither read nor written, once it begins where such a page ends; on
+ * the other side it has guard words. So a word outside is not read there, and
+ * not written on either side, by the library's code too, which no sanitizer
+ * watches.
+ *
+ * The answers are held against each other: a refusal of the image is the same
+ * from all three, the card and the chains of a sequence say the same, and each
+ * chain is of links that there can be.
+ */
+#define _DEFAULT_SOURCE 1
+#include "harness.h"
+
+#include <stdlib.h>
+#include <sys/mman.h>
+#include <unistd.h>
+
+/* What a line says of the image that a check fails for. */
+static const char *image_name;
+static unsigned image_number;
+
+static void holds(const char *what, int right)
+{
+    ran++;
+    if (right)
+        return;
+    failed++;
+    if (failed <= 20)
+        printf("%s, image %u: %s\n", image_name, image_number, what);
+}
+
+/*
+ * Arrays of `bytes` bytes, which are whole pages: one to lend up to its end,
+ * one to lend from its start.
+ */
+enum { IMAGE_BYTES = 36864, CARD_BYTES = 16384, CHAIN_BYTES = 4096 };
+static unsigned char *image_pages[2];
+static unsigned char *card_pages[2];
+static unsigned char *chain_pages[2];
+
+static unsigned char *pages(size_t bytes)
+{
+    size_t page = (size_t)sysconf(_SC_PAGESIZE);
+    void *all = mmap(NULL, page + bytes + page, PROT_NONE,
+                     MAP_PRIVATE | MAP_ANONYMOUS, -1, 0);
+    unsigned char *inner = (unsigned char *)all + page;
+    if (bytes % page != 0 || all == MAP_FAILED ||
+        mprotect(inner, bytes, PROT_READ | PROT_WRITE) != 0) {
+        printf("damage_test: no pages\n");
+        exit(1);
+    }
+    return inner;
+}
+
+/* Where `length` bytes stand in the one array or in the other. */
+static unsigned char *place(unsigned char *const both[2], int which,
+                            size_t bytes, size_t length)
+{
+    return which == 0 ? both[0] + bytes - length : both[1];
+}
+
+/* The guard bytes: before the array in the one case, after it in the other. */
+enum { GUARD_BYTES = 64, PATTERN = 0x5a };
+static unsigned char *guard(unsigned char *lent, int which, size_t length)
+{
+    return which == 0 ? lent - GUARD_BYTES : lent + length;
+}
+
+static int all_pattern(const unsigned char *bytes, size_t count)
+{
+    size_t i;
+    for (i = 0; i < count; i++)
+        if (bytes[i] != PATTERN)
+            return 0;
+    return 1;
+}
+
+/* Lends the image under test. */
+static const uint32_t *lend_image(int which)
+{
+    size_t length = words * sizeof(uint32_t);
+    unsigned char *lent = place(image_pages, which, IMAGE_BYTES, length);
+    memcpy(lent, area + GUARD, length);
+    memset(guard(lent, which, length), PATTERN, GUARD_BYTES);
+    return (const uint32_t *)(const void *)lent;
+}
+
+static void image_stays(int which)
+{
+    size_t length = words * sizeof(uint32_t);
+    unsigned char *lent = place(image_pages, which, IMAGE_BYTES, length);
+    holds("the image or a word beside it is changed",
+          memcmp(lent, area + GUARD, length) == 0 &&
+              all_pattern(guard(lent, which, length), GUARD_BYTES));
+}
+
+/* Lends an area of `length` bytes, and looks at the bytes from `from` on. */
+static unsigned char *lend(unsigned char *const both[2], int which,
+                           size_t bytes, size_t length)
+{
+    unsigned char *lent = place(both, which, bytes, length);
+    memset(lent, PATTERN, length);
+    memset(guard(lent, which, length), PATTERN, GUARD_BYTES);
+    return lent;
+}
+
+static void area_stays(unsigned char *lent, int which, size_t from,
+                       size_t length)
+{
+    holds("a word of the area that the call does not write is changed",
+          all_pattern(lent + from, length - from) &&
+              all_pattern(guard(lent, which, length), GUARD_BYTES));
+}
+
+/* The three calls, each made twice. */
+static uint64_t check(void)
+{
+    uint64_t answer[2];
+    int which;
+    for (which = 0; which < 2; which++) {
+        answer[which] = dulimoven_check(lend_image(which), words);
+        image_stays(which);
+    }
+    holds("the check answers two things", answer[0] == answer[1]);
+    return answer[0];
+}
+
+static uint64_t found_cards[DULIMOVEN_MOST_CARD_WORDS];
+
+static uint64_t cards(size_t length)
+{
+    uint64_t answer[2];
+    unsigned char *lent[2];
+    size_t bytes = length * sizeof(uint64_t);
+    size_t written[2];
+    int which;
+    for (which = 0; which < 2; which++) {
+        lent[which] = lend(card_pages, which, CARD_BYTES, bytes);
+        answer[which] =
+            dulimoven_cards(lend_image(which), words,
+                            (uint64_t *)(void *)lent[which], length);
+        image_stays(which);
+        written[which] = 0;
+        if (!dulimoven_is_refusal(answer[which]))
+            written[which] = answer[which] * 7 * sizeof(uint64_t);
+        holds("more cards than the area has room for",
+              written[which] <= bytes);
+        if (written[which] <= bytes)
+            area_stays(lent[which], which, written[which], bytes);
+    }
+    holds("the cards are two things",
+          answer[0] == answer[1] && memcmp(lent[0], lent[1], bytes) == 0);
+    if (written[0] <= bytes && written[0] <= sizeof found_cards)
+        memcpy(found_cards, lent[0], written[0]);
+    return answer[0];
+}
+
+static uint32_t found_chain[DULIMOVEN_MOST_CHAIN_WORDS];
+
+static uint64_t chain(uint64_t sequence, uint64_t question, uint64_t fact,
+                      size_t length)
+{
+    uint64_t answer[2];
+    unsigned char *lent[2];
+    size_t bytes = length * sizeof(uint32_t);
+    size_t written[2];
+    int which;
+    for (which = 0; which < 2; which++) {
+        lent[which] = lend(chain_pages, which, CHAIN_BYTES, bytes);
+        answer[which] = dulimoven_chain(lend_image(which), words, sequence,
+                                        question, fact,
+                                        (uint32_t *)(void *)lent[which],
+                                        length);
+        image_stays(which);
+        written[which] = 0;
+        if (!dulimoven_is_refusal(answer[which]))
+            written[which] = answer[which] * 2 * sizeof(uint32_t);
+        holds("more links than the area has room for",
+              written[which] <= bytes);
+        if (written[which] <= bytes)
+            area_stays(lent[which], which, written[which], bytes);
+    }
+    holds("the chain is two things",
+          answer[0] == answer[1] && memcmp(lent[0], lent[1], bytes) == 0);
+    if (written[0] <= bytes && written[0] <= sizeof found_chain)
+        memcpy(found_chain, lent[0], written[0]);
+    return answer[0];
+}
+
+/*
+ * A chain of so many links: each about a sequence that there is, the first
+ * about the one asked about, none about a sequence twice; a position in every
+ * link, or one link without; no other bits.
+ */
+static void links(uint64_t count, uint64_t sequence, uint64_t question,
+                  uint32_t sequences)
+{
+    unsigned char seen[DULIMOVEN_MOST_SEQUENCES] = {0};
+    uint64_t i;
+    holds("more links than sequences", count <= sequences);
+    if (count > sequences)
+        return;
+    for (i = 0; i < count; i++) {
+        const uint32_t *link = found_chain + DULIMOVEN_LINK_WORDS * i;
+        uint32_t about = dulimoven_link_sequence(link);
+        uint32_t alternative = dulimoven_link_alternative(link);
+        holds("a first word that is none",
+              link[0] == CHOICE(about, alternative));
+        holds("a link about no sequence", about < sequences && !seen[about]);
+        seen[about] = 1;
+        if (question == 2 || question == 5)
+            holds("a second word that is not kind 12, or a second link",
+                  dulimoven_link_untouched(link) && link[1] == UNTOUCHED &&
+                      count == 1);
+        else
+            holds("a second word that is not kind 11",
+                  !dulimoven_link_untouched(link) &&
+                      link[1] == AT(dulimoven_link_position(link)) &&
+                      dulimoven_link_position(link) < words);
+    }
+    holds("the first link is about another sequence",
+          count == 0 || dulimoven_link_sequence(found_chain) == sequence);
+}
+
+/* Question 0 to 5 of a sequence and a fact, held against the sequence's card. */
+static void agree(uint64_t sequence, uint64_t fact, uint32_t sequences)
+{
+    const uint64_t *card = found_cards + DULIMOVEN_CARD_WORDS * sequence;
+    int run = dulimoven_has_run(card);
+    int has[6];
+    int column[7];
+    uint64_t question;
+    int i;
+    for (question = 0; question < 6; question++) {
+        uint64_t count = chain(sequence, question, fact, 2 * sequences);
+        has[question] = count != 0;
+        holds("a refusal with room enough", !dulimoven_is_refusal(count));
+        if (dulimoven_is_refusal(count) || count == 0)
+            continue;
+        links(count, sequence, question, sequences);
+        holds("a word short is not refused",
+              chain(sequence, question, fact, 2 * (size_t)count - 1) ==
+                  REFUSED(12, 0));
+    }
+    for (i = 1; i < 7; i++)
+        column[i] = dulimoven_has_fact(card[i], fact);
+    holds("may need", column[DULIMOVEN_MAY_NEED] == has[3]);
+    holds("may set", column[DULIMOVEN_MAY_SET] == has[0]);
+    holds("may clear", column[DULIMOVEN_MAY_CLEAR] == has[1]);
+    holds("always needed",
+          column[DULIMOVEN_ALWAYS_NEEDED] == (run && !has[4] && !has[5]));
+    holds("always set",
+          column[DULIMOVEN_ALWAYS_SET] == (run && !has[1] && !has[2]));
+    holds("always cleared",
+          column[DULIMOVEN_ALWAYS_CLEARED] == (run && !has[0] && !has[2]));
+    holds("a run has an outcome on each side",
+          (has[0] || has[1] || has[2]) == run &&
+              (has[3] || has[4] || has[5]) == run);
+}
+
+/* All three calls over the image under test. Answers what the check does. */
+static uint64_t all_calls(const char *name)
+{
+    static const uint64_t far = UINT64_C(0x100000000);
+    uint64_t answer;
+    uint64_t question;
+    uint32_t f, c, sequence;
+    image_name = name;
+    image_number++;
+    answer = check();
+    if (dulimoven_is_refusal(answer)) {
+        holds("the cards refuse otherwise",
+              cards(0) == answer && cards(DULIMOVEN_MOST_CARD_WORDS) == answer);
+        for (question = 0; question <= 6; question++)
+            holds("the chain refuses otherwise",
+                  chain(question % 4, question, question % 3, 8) == answer);
+        holds("the chain refuses otherwise", chain(far, 0, 0, 0) == answer);
+        return answer;
+    }
+    f = dulimoven_facts(answer);
+    c = dulimoven_sequences(answer);
+    if (c != 0)
+        holds("the cards have too little room",
+              cards(7 * c - 1) == REFUSED(8, 0));
+    holds("the cards", cards(7 * c) == c);
+    for (sequence = 0; sequence < c; sequence++) {
+        agree(sequence, 0, c);
+        agree(sequence, f - 1, c);
+        agree(sequence, f / 2, c);
+        holds("question 6", chain(sequence, 6, 0, 2) == REFUSED(10, 0));
+        holds("no such fact", chain(sequence, 5, f, 2) == REFUSED(11, 0));
+        holds("a long fact", chain(sequence, 2, far, 2) == REFUSED(11, 0));
+    }
+    for (question = 0; question <= 6; question++)
+        holds("no such sequence", chain(c, question, 0, 2) == REFUSED(9, 0));
+    holds("a long sequence", chain(far, 0, 0, 2) == REFUSED(9, 0));
+    return answer;
+}
+
+/* The words of examples/poll.image: sequences that call themselves. */
+static const uint32_t poll[37] = {
+    0x10100203, 0x50000000, 0x20000001, 0x50000001, 0x20000001, 0x30000000,
+    0x50000002, 0x40000001, 0x40000002, 0x50000003, 0x30000002, 0x40000002,
+    0x60000000, 0x70000000, 0x80000000, 0x90000000, 0x70000000, 0x80000001,
+    0x60000001, 0x70000000, 0x90000000, 0x80000002, 0x70000000, 0x90000002,
+    0x60000002, 0x70000000, 0x80000000, 0x90000002, 0x60000003, 0x70000000,
+    0x80000003, 0x90000000, 0x70000000, 0x90000003, 0x90000003, 0x70000000,
+    0xf010022a};
+
+/*
+ * Each word of a sample changed in each nibble to each other value, with the
+ * sum word as it was and with one that is right again.
+ *
+ * With the sum word as it was the answer is refusal 2 at the last word. A
+ * nibble other than the uppermost changes the sum s by d * 16^n, d from 1 to 15
+ * or from -15 to -1, and so the folded sum by that, by 1 for a carry into bit
+ * 28 and by 16 for a wrap at 2^32. These cancel for 15 + 1 - 16 alone, and only
+ * where s is within 15 of 0 or 2^32. The uppermost nibble changes s / 2^28.
+ */
+static void nibbles(const char *name, const uint32_t *sample, size_t count)
+{
+    unsigned accepted = 0;
+    size_t word;
+    unsigned nibble, change;
+    size_t i;
+    start();
+    for (i = 0; i < count; i++)
+        put(sample[i]);
+    holds("the sample is refused", !dulimoven_is_refusal(all_calls(name)));
+    for (word = 0; word < count; word++) {
+        for (nibble = 0; nibble < 8; nibble++) {
+            for (change = 1; change < 16; change++) {
+                start();
+                for (i = 0; i < count; i++)
+                    put(sample[i]);
+                area[GUARD + word] ^= (uint32_t)change << 4 * nibble;
+                holds("damage is not seen",
+                      all_calls(name) == REFUSED(2, count - 1));
+                if (word == count - 1)
+                    continue;
+                words--;
+                put(sum_word());
+                if (!dulimoven_is_refusal(all_calls(name)))
+                    accepted++;
+            }
+        }
+    }
+    /* a fact below F, an entry below A or C, a step's or a sequence's kind */
+    holds("no damaged image is accepted", accepted > 0);
+}
+
+/* Numbers that look random, the same ones each time (splitmix64). */
+static uint64_t state = UINT64_C(0x00d01130);
+
+static uint64_t random_bits(void)
+{
+    uint64_t z = state += UINT64_C(0x9e3779b97f4a7c15);
+    z = (z ^ (z >> 30)) * UINT64_C(0xbf58476d1ce4e5b9);
+    z = (z ^ (z >> 27)) * UINT64_C(0x94d049bb133111eb);
+    return z ^ (z >> 31);
+}
+
+static uint32_t below(uint32_t bound)
+{
+    return (uint32_t)(random_bits() % bound);
+}
+
+/* Random words: as they come, with a head and a sum word, of likely kinds. */
+static void noise(void)
+{
+    static const size_t lengths[] = {8190, 8191, 8192, 8193};
+    unsigned n;
+    for (n = 0; n < 4000; n++) {
+        size_t length = n < 16 ? lengths[n % 4] : below(48);
+        unsigned form = n / 4 % 4;
+        start();
+        if (form > 0 && length > 0)
+            put(HEAD(1 + below(64), below(4), below(4)));
+        while (words + 1 < length) {
+            uint32_t word = (uint32_t)random_bits();
+            if (form == 2)
+                word &= UINT32_C(0xf0000003);
+            else if (form == 3)
+                word = WORD(2 + below(8), below(3));
+            put(word);
+        }
+        if (words < length)
+            put(form == 0 ? (uint32_t)random_bits() : sum_word());
+        all_calls("random words");
+    }
+}
+
+/*
+ * Random libraries, which are accepted, and each with one nibble changed and
+ * the sum word made right again.
+ */
+static void libraries(void)
+{
+    unsigned n;
+    for (n = 0; n < 1000; n++) {
+        uint32_t f = 1 + below(n % 8 == 0 ? 64 : 4);
+        uint32_t a = below(6);
+        uint32_t c = below(7);
+        uint32_t i, kind, fact, alternatives, entries;
+        start();
+        put(HEAD(f, a, c));
+        for (i = 0; i < a; i++) {
+            put(STEP(i));
+            for (kind = 2; kind <= 4; kind++)
+                for (fact = 0; fact < f; fact++)
+                    if (below(f < 4 ? 4 : f) == 0)
+                        put(WORD(kind, fact));
+        }
+        for (i = 0; i < c; i++) {
+            put(SEQUENCE(i));
+            for (alternatives = below(4); alternatives > 0; alternatives--) {
+                put(ALTERNATIVE);
+                for (entries = below(4); entries > 0; entries--) {
+                    if (a > 0 && below(2) == 0)
+                        put(ENTRY_STEP(below(a)));
+                    else
+                        put(ENTRY_SEQUENCE(below(c)));
+                }
+            }
+        }
+        put(sum_word());
+        holds("a library is refused",
+              all_calls("a random library") == ACCEPTED(f, a, c));
+        area[GUARD + below((uint32_t)words - 1)] ^= 1u << below(32);
+        words--;
+        put(sum_word());
+        all_calls("a damaged random library");
+    }
+}
+
+int main(void)
+{
+    int which;
+    for (which = 0; which < 2; which++) {
+        image_pages[which] = pages(IMAGE_BYTES);
+        card_pages[which] = pages(CARD_BYTES);
+        chain_pages[which] = pages(CHAIN_BYTES);
+    }
+    nibbles("L", library_l, COUNT(library_l));
+    nibbles("poll.image", poll, COUNT(poll));
+    noise();
+    libraries();
+    printf("damage_test: %u checks, %u failed\n", ran, failed);
+    return failed == 0 ? 0 : 1;
+}
