@@ -1,32 +1,9 @@
 // The cards of L with card areas of several lengths: 7 words for each of its three sequences are needed, and 20 words get refusal 8.
 use crate::answer;
 use crate::answer::Answer;
+use crate::libraries::L;
 use crate::row::Tally;
 use card::answer::Cards;
-
-// Library L of document 01.
-const L: [u32; 20] = [
-    0x100c0183,
-    0x50000000,
-    0x30000000,
-    0x50000001,
-    0x20000000,
-    0x30000001,
-    0x50000002,
-    0x40000001,
-    0x60000000,
-    0x70000000,
-    0x80000000,
-    0x70000000,
-    0x60000001,
-    0x70000000,
-    0x90000000,
-    0x80000001,
-    0x60000002,
-    0x70000000,
-    0x90000002,
-    0xf00c019a,
-];
 
 // Its cards, as document 01 prints them: 0 103 0 0 1 0 0 0, 1 201 0 1 3 0 2 0, 2 0 0 0 0 0 0 0.
 const CARDS: [u64; 21] = [

@@ -1,4 +1,4 @@
-// Runs the check and the card call on samples: those of document 01 that are not starred, and more for each refusal. Each table has a file of its
+// Runs the check, the card call and the chain call on samples: those of document 01 that are not starred, and more for each refusal. Each table has a file of its
 // own, with the expected value of each row worked out from document 01 in a comment.
 mod accepted;
 mod answer;
@@ -7,6 +7,8 @@ mod fact_order;
 mod head_word;
 mod kind;
 mod length;
+mod libraries;
+mod links;
 mod long;
 mod missing;
 mod payload;
@@ -52,5 +54,7 @@ fn main() {
     t = long_group(t, b"long images", &long::ROWS);
     let areas = card_area::walked();
     print_group(b"card area", areas);
-    print_group(b"total", t.joined(areas));
+    let chains = links::walked();
+    print_group(b"chains", chains);
+    print_group(b"total", t.joined(areas).joined(chains));
 }
