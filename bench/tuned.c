@@ -17,12 +17,33 @@ static uint64_t refusal(uint64_t n) { return n << 32; }
 
 static int is_entry(uint32_t w) { return w >> 29 == 4; }
 
+/* Four words, as numbers with a sign. */
+typedef int32_t four __attribute__((vector_size(16)));
+
+static four all_four(uint32_t w)
+{
+    int32_t x = (int32_t)w;
+    return (four){x, x, x, x};
+}
+
+/* -1 where all bits are set. */
+static int64_t both_halves(four v)
+{
+    int64_t half[2];
+    memcpy(half, &v, sizeof half);
+    return half[0] & half[1];
+}
+
 /* Whether the words between head and sum word keep the rules. */
 static int well_formed(const uint32_t *image, size_t length, uint32_t facts,
                        uint32_t steps, uint32_t sequences)
 {
     size_t i = 1;
-    uint32_t a, c, w, before;
+    uint32_t a, c, w, before, inside;
+    /* kinds 8 and 9 are the least numbers, read with a sign */
+    const four seven = all_four(0x70000000u), nine = all_four(0x90000000u);
+    const four eight_end = all_four(0x80000000u + steps);
+    const four nine_end = all_four(0x90000000u + sequences);
     for (a = 0; a < steps; a++) {
         if (image[i] != (0x50000000u | a))
             return 0;
@@ -33,16 +54,30 @@ static int well_formed(const uint32_t *image, size_t length, uint32_t facts,
             before = w;
         }
     }
-    for (c = 0; c < sequences; c++) {
-        if (image[i] != (0x60000000u | c))
-            return 0;
-        for (i++; image[i] == 0x70000000u;)
-            for (i++; w = image[i], (w - 0x80000000u < steps) |
-                                        (w - 0x90000000u < sequences);
-                 i++)
-                ;
+    for (c = 0, inside = 0; i + 1 < length; i++) {
+        /* four words at a time, where all are alternatives and entries */
+        while (inside && i + 4 < length) {
+            four v, right;
+            memcpy(&v, image + i, sizeof v);
+            right = (v < eight_end) | ((v >= nine) & (v < nine_end)) | (v == seven);
+            if (both_halves(right) != -1)
+                break;
+            i += 4;
+        }
+        w = image[i];
+        if (w == (0x60000000u | c)) {
+            inside = 0;
+            c++;
+        } else if (w == 0x70000000u) {
+            if (c == 0)
+                return 0;
+            inside = 1;
+        } else if (!inside ||
+                   !((w - 0x80000000u < steps) | (w - 0x90000000u < sequences))) {
+            break;
+        }
     }
-    return i == length - 1;
+    return i + 1 == length && c == sequences;
 }
 
 uint64_t tuned_check(const uint32_t *image, size_t length)
