@@ -14,6 +14,7 @@
 #include <string.h>
 #include <time.h>
 
+/* As the header declares it, where it does. */
 #ifndef DULIMOVEN_CHAIN
 chain_call dulimoven_chain;
 #endif
@@ -201,32 +202,43 @@ static void chain_row(const struct shape *shape)
     fflush(stdout);
 }
 
-/* Growth: the time of each size, and beside it how often that of half the size. */
+/*
+ * Growth: the time of each size, and beside it how many times that of half the
+ * size. The sizes take turns too: each time is the median of five rounds.
+ */
 static void growth(const struct shape *shapes)
 {
-    double before[3][ENGINES], us[3][ENGINES];
-    int i, k;
+    static double us[GROWTH][3][ENGINES][5];
+    double one[ENGINES], time[GROWTH][3][ENGINES];
+    int round, i, k, e;
+    for (round = 0; round < 5; round++)
+        for (i = 0; i < GROWTH; i++) {
+            const struct shape *shape = &shapes[i];
+            uint32_t head = shape->words[0];
+            struct timed t[3] = {{shape, CHECK, 0, 0, 0},
+                                 {shape, CARDS, 0, 0, 0},
+                                 {shape, CHAIN, sequences_of(head) - 1, 0,
+                                  facts_of(head) / 2}};
+            for (k = 0; k < 3; k++) {
+                verify(&t[k]);
+                measure(&t[k], 5e4, 5, one);
+                for (e = 0; e < ENGINES; e++)
+                    us[i][k][e][round] = one[e];
+            }
+        }
     for (i = 0; i < GROWTH; i++) {
-        const struct shape *shape = &shapes[i];
-        uint32_t head = shape->words[0];
-        struct timed t[3] = {{shape, CHECK, 0, 0, 0},
-                             {shape, CARDS, 0, 0, 0},
-                             {shape, CHAIN, sequences_of(head) - 1, 0,
-                              facts_of(head) / 2}};
-        printf("%5zu |", shape->length);
+        printf("%5zu |", shapes[i].length);
         for (k = 0; k < 3; k++) {
-            verify(&t[k]);
-            measure(&t[k], 5e5, 9, us[k]);
-            printf(" %8.2f", us[k][LIBRARY]);
+            for (e = 0; e < ENGINES; e++)
+                time[i][k][e] = median(us[i][k][e], 5);
+            printf(" %8.2f", time[i][k][LIBRARY]);
             if (i == 0)
                 printf("       ");
             else
-                printf(" x%5.2f", us[k][LIBRARY] / before[k][LIBRARY]);
-            printf(" %8.2f |", us[k][TUNED]);
-            memcpy(before[k], us[k], sizeof us[k]);
+                printf(" x%5.2f", time[i][k][LIBRARY] / time[i - 1][k][LIBRARY]);
+            printf(" %8.2f |", time[i][k][TUNED]);
         }
-        printf(" %10.1f\n", us[1][PAPER]);
-        fflush(stdout);
+        printf(" %10.1f\n", time[i][1][PAPER]);
     }
 }
 
