@@ -105,13 +105,15 @@ static double median(double *x, int n)
     return x[n / 2];
 }
 
-/* The microseconds of a call by each engine: medians of samples that end when
- * `budget` microseconds are used up, `fewest` of them at least. */
-static void measure(const struct timed *t, double budget, int fewest,
-                    double *us)
+/*
+ * The microseconds of a call by each engine: medians of samples that end when
+ * `budget` microseconds are used up, 25 of them at least. Of an engine that
+ * takes milliseconds for a call there are `slow` samples.
+ */
+static void measure(const struct timed *t, double budget, int slow, double *us)
 {
     static double sample[ENGINES][MOST_SAMPLES];
-    int calls[ENGINES] = {0};
+    int calls[ENGINES] = {0}, most[ENGINES];
     int e, i, n = 0;
     double begun, start = now(), each;
     for (e = 0; e < ENGINES; e++) {
@@ -122,10 +124,11 @@ static void measure(const struct timed *t, double budget, int fewest,
         run(t, e);
         each = now() - begun;
         calls[e] = each >= 20 ? 1 : (int)(20 / (each + 0.1)) + 1;
+        most[e] = each >= 2000 ? slow : MOST_SAMPLES;
     }
-    while (n < MOST_SAMPLES && (n < fewest || now() - start < budget)) {
+    while (n < MOST_SAMPLES && (n < 25 || now() - start < budget)) {
         for (e = 0; e < ENGINES; e++) {
-            if (calls[e] == 0)
+            if (calls[e] == 0 || n >= most[e])
                 continue;
             begun = now();
             for (i = 0; i < calls[e]; i++)
@@ -135,7 +138,8 @@ static void measure(const struct timed *t, double budget, int fewest,
         n++;
     }
     for (e = 0; e < ENGINES; e++)
-        us[e] = calls[e] == 0 ? 0 : median(sample[e], n);
+        us[e] = calls[e] == 0 ? 0
+                              : median(sample[e], n < most[e] ? n : most[e]);
 }
 
 static void card_row(const struct shape *shape)
@@ -145,7 +149,7 @@ static void card_row(const struct shape *shape)
     double c[ENGINES], us[ENGINES];
     verify(&check);
     verify(&call);
-    measure(&check, 2e5, 25, c);
+    measure(&check, 2e5, 9, c);
     measure(&call, 1e6, 9, us);
     printf("%-22s %5zu | %6.2f %6.2f %6.2f %5.2f | %8.2f %10.1f %9.2f %7.2f |"
            " %7.1f %7.2f %6.2f\n",
