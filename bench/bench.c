@@ -1,0 +1,283 @@
+/*
+ * The benchmark: the library's check, cards and chain beside the engines in C,
+ * over the generator's shapes. First each answer and each word written is
+ * compared, and a difference is an error; then each call is timed. The engines
+ * take turns, so that other work on the machine meets all alike, and each time
+ * is the median of many.
+ */
+#define _POSIX_C_SOURCE 199309L
+#include "bench.h"
+#include "dulimoven.h"
+#include <inttypes.h>
+#include <stdio.h>
+#include <stdlib.h>
+#include <string.h>
+#include <time.h>
+
+/* As the header declares it, where it does. */
+#ifndef DULIMOVEN_CHAIN
+chain_call dulimoven_chain;
+#endif
+
+enum { ENGINES = 4, MOST_SAMPLES = 301 };
+enum { LIBRARY, PAPER, PLAIN, TUNED };
+
+static check_call *const checks[ENGINES] = {dulimoven_check, NULL, plain_check,
+                                            tuned_check};
+static cards_call *const cards[ENGINES] = {dulimoven_cards, paper_cards,
+                                           plain_cards, tuned_cards};
+static chain_call *const chains[ENGINES] = {dulimoven_chain, NULL, plain_chain,
+                                            tuned_chain};
+
+static uint64_t card_area[ENGINES][CARD * MOST_SEQUENCES];
+static uint32_t chain_area[ENGINES][2 * MOST_SEQUENCES];
+
+/* The call that is timed. */
+struct timed {
+    const struct shape *shape;
+    enum { CHECK, CARDS, CHAIN } call;
+    uint64_t sequence, question, fact;
+};
+
+static uint64_t run(const struct timed *t, int engine)
+{
+    const uint32_t *image = t->shape->words;
+    size_t length = t->shape->length;
+    switch (t->call) {
+    case CHECK:
+        return checks[engine](image, length);
+    case CARDS:
+        return cards[engine](image, length, card_area[engine],
+                             CARD * MOST_SEQUENCES);
+    default:
+        return chains[engine](image, length, t->sequence, t->question, t->fact,
+                              chain_area[engine], 2 * MOST_SEQUENCES);
+    }
+}
+
+static int has(const struct timed *t, int engine)
+{
+    return t->call == CARDS || engine != PAPER;
+}
+
+/* Compares the engines' answers and the words that they write. */
+static void verify(const struct timed *t)
+{
+    uint64_t answer[ENGINES] = {0};
+    int e;
+    memset(card_area, 0xa5, sizeof card_area);
+    memset(chain_area, 0xa5, sizeof chain_area);
+    for (e = 0; e < ENGINES; e++) {
+        if (!has(t, e))
+            continue;
+        answer[e] = run(t, e);
+        if (answer[e] != answer[LIBRARY] || answer[e] >> 32 != 0 ||
+            (t->call == CARDS && memcmp(card_area[e], card_area[LIBRARY],
+                                        sizeof card_area[e]) != 0) ||
+            (t->call == CHAIN && memcmp(chain_area[e], chain_area[LIBRARY],
+                                        sizeof chain_area[e]) != 0)) {
+            printf("%s: engine %d differs in call %d, sequence %" PRIu64
+                   ", question %" PRIu64 ", fact %" PRIu64 ": %" PRIx64
+                   " and %" PRIx64 "\n",
+                   t->shape->name, e, (int)t->call, t->sequence, t->question,
+                   t->fact, answer[e], answer[LIBRARY]);
+            exit(1);
+        }
+    }
+}
+
+static double now(void)
+{
+    struct timespec t;
+    clock_gettime(CLOCK_MONOTONIC, &t);
+    return (double)t.tv_sec * 1e6 + (double)t.tv_nsec * 1e-3;
+}
+
+static int by_value(const void *a, const void *b)
+{
+    double x = *(const double *)a, y = *(const double *)b;
+    return (x > y) - (x < y);
+}
+
+static double median(double *x, int n)
+{
+    qsort(x, (size_t)n, sizeof *x, by_value);
+    return x[n / 2];
+}
+
+/*
+ * The microseconds of a call by each engine: medians of samples that end when
+ * `budget` microseconds are used up, 25 of them at least. Of an engine that
+ * takes milliseconds for a call there are `slow` samples.
+ */
+static void measure(const struct timed *t, double budget, int slow, double *us)
+{
+    static double sample[ENGINES][MOST_SAMPLES];
+    int calls[ENGINES] = {0}, most[ENGINES];
+    int e, i, n = 0;
+    double begun, start = now(), each;
+    for (e = 0; e < ENGINES; e++) {
+        if (!has(t, e))
+            continue;
+        run(t, e);
+        begun = now();
+        run(t, e);
+        each = now() - begun;
+        calls[e] = each >= 20 ? 1 : (int)(20 / (each + 0.1)) + 1;
+        most[e] = each >= 2000 ? slow : MOST_SAMPLES;
+    }
+    while (n < MOST_SAMPLES && (n < 25 || now() - start < budget)) {
+        for (e = 0; e < ENGINES; e++) {
+            if (calls[e] == 0 || n >= most[e])
+                continue;
+            begun = now();
+            for (i = 0; i < calls[e]; i++)
+                run(t, e);
+            sample[e][n] = (now() - begun) / calls[e];
+        }
+        n++;
+    }
+    for (e = 0; e < ENGINES; e++)
+        us[e] = calls[e] == 0 ? 0
+                              : median(sample[e], n < most[e] ? n : most[e]);
+}
+
+static void card_row(const struct shape *shape)
+{
+    struct timed check = {shape, CHECK, 0, 0, 0};
+    struct timed call = {shape, CARDS, 0, 0, 0};
+    double c[ENGINES], us[ENGINES];
+    verify(&check);
+    verify(&call);
+    measure(&check, 2e5, 9, c);
+    measure(&call, 1e6, 9, us);
+    printf("%-22s %5zu | %6.2f %6.2f %6.2f %5.2f | %8.2f %10.1f %9.2f %7.2f |"
+           " %7.1f %7.2f %6.2f\n",
+           shape->name, shape->length, c[LIBRARY], c[PLAIN], c[TUNED],
+           c[LIBRARY] / c[TUNED], us[LIBRARY], us[PAPER], us[PLAIN], us[TUNED],
+           us[PAPER] / us[LIBRARY], us[PLAIN] / us[LIBRARY],
+           us[LIBRARY] / us[TUNED]);
+    fflush(stdout);
+}
+
+/*
+ * All questions on the facts 0, F/2 and F-1 of the sequences 0, C/2 and C-1,
+ * and the fact and the sequence that are a third of the way up.
+ */
+static void chain_row(const struct shape *shape)
+{
+    static double us[ENGINES][96];
+    uint32_t head = shape->words[0];
+    uint32_t facts = facts_of(head), sequences = sequences_of(head);
+    uint32_t fact[4] = {0, facts / 3, facts / 2, facts - 1};
+    uint32_t sequence[4] = {0, sequences / 3, sequences / 2, sequences - 1};
+    double one[ENGINES], to_plain = 1e9, to_tuned = 0, middle[ENGINES];
+    int n = 0, found = 0, e, s, q, f;
+    uint64_t most = 0, links;
+    for (s = 0; s < 4; s++)
+        for (q = 0; q < 6; q++)
+            for (f = 0; f < 4; f++) {
+                struct timed t = {shape, CHAIN, sequence[s], (uint64_t)q,
+                                  fact[f]};
+                verify(&t);
+                links = run(&t, LIBRARY);
+                found += links != 0;
+                most = links > most ? links : most;
+                measure(&t, 1e4, 5, one);
+                for (e = 0; e < ENGINES; e++)
+                    us[e][n] = one[e];
+                n++;
+                if (one[PLAIN] / one[LIBRARY] < to_plain)
+                    to_plain = one[PLAIN] / one[LIBRARY];
+                if (one[LIBRARY] / one[TUNED] > to_tuned)
+                    to_tuned = one[LIBRARY] / one[TUNED];
+            }
+    for (e = 0; e < ENGINES; e++)
+        middle[e] = median(us[e], n);
+    printf("%-22s %5zu %3d %4" PRIu64
+           " | %8.2f %8.2f %8.2f %5.2f %5.2f | %8.2f %8.2f %8.2f %5.2f %5.2f |"
+           " %5.2f %5.2f\n",
+           shape->name, shape->length, found, most, middle[LIBRARY],
+           middle[PLAIN], middle[TUNED], middle[PLAIN] / middle[LIBRARY],
+           middle[LIBRARY] / middle[TUNED], us[LIBRARY][n - 1],
+           us[PLAIN][n - 1], us[TUNED][n - 1],
+           us[PLAIN][n - 1] / us[LIBRARY][n - 1],
+           us[LIBRARY][n - 1] / us[TUNED][n - 1], to_plain, to_tuned);
+    fflush(stdout);
+}
+
+/*
+ * Growth: the time of each size, and beside it how many times that of half the
+ * size. The sizes take turns too: each time is the median of five rounds.
+ */
+static void growth(const struct shape *shapes)
+{
+    static double us[GROWTH][3][ENGINES][5];
+    double one[ENGINES], time[GROWTH][3][ENGINES];
+    int round, i, k, e;
+    for (round = 0; round < 5; round++)
+        for (i = 0; i < GROWTH; i++) {
+            const struct shape *shape = &shapes[i];
+            uint32_t head = shape->words[0];
+            struct timed t[3] = {{shape, CHECK, 0, 0, 0},
+                                 {shape, CARDS, 0, 0, 0},
+                                 {shape, CHAIN, sequences_of(head) - 1, 0,
+                                  facts_of(head) / 2}};
+            for (k = 0; k < 3; k++) {
+                verify(&t[k]);
+                measure(&t[k], 5e4, 5, one);
+                for (e = 0; e < ENGINES; e++)
+                    us[i][k][e][round] = one[e];
+            }
+        }
+    for (i = 0; i < GROWTH; i++) {
+        printf("%5zu |", shapes[i].length);
+        for (k = 0; k < 3; k++) {
+            for (e = 0; e < ENGINES; e++)
+                time[i][k][e] = median(us[i][k][e], 5);
+            printf(" %8.2f", time[i][k][LIBRARY]);
+            if (i == 0)
+                printf("       ");
+            else
+                printf(" x%5.2f", time[i][k][LIBRARY] / time[i - 1][k][LIBRARY]);
+            printf(" %8.2f |", time[i][k][TUNED]);
+        }
+        printf(" %10.1f\n", time[i][1][PAPER]);
+    }
+}
+
+int main(void)
+{
+    static struct shape shapes[SHAPES], sizes[GROWTH];
+    int i;
+    write_shapes(shapes);
+    write_growth(sizes);
+    printf("Microseconds, medians of many calls, the engines in turns. paper: "
+           "the algorithms of 001, fact by\nfact; plain: columns with plain "
+           "passes; tuned: the best C. Of the ratios, paper/lib and plain/lib\n"
+           "are how many times as long the baseline takes, lib/tuned how many "
+           "times as long the library takes.\n\n");
+    printf("%-22s %5s | %-27s | %-37s |\n", "", "", "check", "cards");
+    printf("%-22s %5s | %6s %6s %6s %5s | %8s %10s %9s %7s | %7s %7s %6s\n",
+           "shape", "words", "lib", "plain", "tuned", "ratio", "lib", "paper",
+           "plain", "tuned", "pap/lib", "pla/lib", "lib/tu");
+    for (i = 0; i < SHAPES; i++)
+        card_row(&shapes[i]);
+    printf("\nThe chain, of 96 questions; found: how many have a chain; most: "
+           "its links at the most; last: the\nworst ratios of one question.\n");
+    printf("%-22s %5s %3s %4s | %-37s | %-37s |\n", "", "", "", "",
+           "the median question", "the slowest question");
+    printf("%-22s %5s %3s %4s | %8s %8s %8s %5s %5s | %8s %8s %8s %5s %5s |"
+           " %5s %5s\n",
+           "shape", "words", "fnd", "most", "lib", "plain", "tuned", "pl/li",
+           "li/tu", "lib", "plain", "tuned", "pl/li", "li/tu", "pl/li",
+           "li/tu");
+    for (i = 0; i < SHAPES; i++)
+        chain_row(&shapes[i]);
+    printf("\nGrowth with the size of everyday images: the library's time, by "
+           "what it grew, and the tuned C.\n");
+    printf("%5s | %-24s | %-24s | %-24s | %10s\n", "words", "check", "cards",
+           "chain", "paper");
+    growth(sizes);
+    return 0;
+}

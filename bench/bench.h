@@ -1,0 +1,45 @@
+/*
+ * What the benchmark's files share: the shapes, and the engines that are
+ * measured beside the library. All engines have the library's calls, so that
+ * each can be called in another's place.
+ */
+#ifndef BENCH_H
+#define BENCH_H
+
+#include <stddef.h>
+#include <stdint.h>
+
+enum { MOST_WORDS = 8192, MOST_STEPS = 1024, MOST_SEQUENCES = 256 };
+enum { CARD = 7, SHAPES = 11, GROWTH = 6 };
+
+static inline uint32_t kind(uint32_t w) { return w >> 28; }
+static inline uint32_t payload(uint32_t w) { return w & 0xfffffffu; }
+static inline uint32_t facts_of(uint32_t head) { return head & 127u; }
+static inline uint32_t steps_of(uint32_t head) { return head >> 7 & 2047u; }
+static inline uint32_t sequences_of(uint32_t head) { return head >> 18 & 511u; }
+
+/* An image of the generator. */
+struct shape {
+    const char *name;
+    size_t length;
+    uint32_t words[MOST_WORDS];
+};
+
+/* Writes the shapes, or images like the everyday one of 256 to 8,192 words. */
+void write_shapes(struct shape shapes[SHAPES]);
+void write_growth(struct shape shapes[GROWTH]);
+
+/* The calls as the library has them. */
+typedef uint64_t check_call(const uint32_t *image, size_t image_len);
+typedef uint64_t cards_call(const uint32_t *image, size_t image_len,
+                            uint64_t *area, size_t area_len);
+typedef uint64_t chain_call(const uint32_t *image, size_t image_len,
+                            uint64_t sequence, uint64_t question, uint64_t fact,
+                            uint32_t *area, size_t area_len);
+
+cards_call paper_cards;
+check_call plain_check, tuned_check;
+cards_call plain_cards, tuned_cards;
+chain_call plain_chain, tuned_chain;
+
+#endif

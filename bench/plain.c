@@ -1,0 +1,332 @@
+/*
+ * The second baseline: columns of 64 facts, and plain passes over all sequences
+ * in the order of their numbers until nothing changes.
+ */
+#include "bench.h"
+#include <string.h>
+
+static uint64_t refusal(uint64_t n, size_t position) { return n << 32 | position; }
+
+uint64_t plain_check(const uint32_t *image, size_t length)
+{
+    uint32_t s = 0, head, facts, steps, sequences, a = 0, c = 0, last;
+    size_t i;
+    if (length < 2 || length > MOST_WORDS)
+        return refusal(1, 0);
+    for (i = 0; i + 1 < length; i++)
+        s += image[i];
+    if (image[length - 1] != (0xf0000000u | ((s + (s >> 28)) & 0xfffffffu)))
+        return refusal(2, length - 1);
+    head = image[0];
+    facts = facts_of(head);
+    steps = steps_of(head);
+    sequences = sequences_of(head);
+    if (kind(head) != 1 || facts < 1 || facts > 64 || steps > MOST_STEPS ||
+        sequences > MOST_SEQUENCES || (head >> 27 & 1u))
+        return refusal(3, 0);
+    last = head;
+    for (i = 1; i + 1 < length; i++) {
+        uint32_t w = image[i], k = kind(w), p = payload(w), l = kind(last);
+        int stands, right;
+        switch (k) {
+        case 2:
+        case 3:
+        case 4:
+            stands = l >= 2 && l <= 5;
+            right = p < facts;
+            break;
+        case 5:
+            stands = c == 0;
+            right = p == a && p < steps;
+            break;
+        case 6:
+            stands = a >= steps;
+            right = p == c && p < sequences;
+            break;
+        case 7:
+            stands = c > 0;
+            right = p == 0;
+            break;
+        case 8:
+            stands = l >= 7 && l <= 9;
+            right = p < steps;
+            break;
+        case 9:
+            stands = l >= 7 && l <= 9;
+            right = p < sequences;
+            break;
+        default:
+            stands = 0;
+            right = 0;
+        }
+        if (!stands)
+            return refusal(4, i);
+        if (!right)
+            return refusal(5, i);
+        if (k <= 4 && l <= 4 && w <= last)
+            return refusal(6, i);
+        a += k == 5;
+        c += k == 6;
+        last = w;
+    }
+    if (a < steps || c < sequences)
+        return refusal(7, length - 1);
+    return payload(head);
+}
+
+/* What is possible: on the last side sets, clears and untouched, on the first
+ * side needs, sets and untouched. */
+struct row {
+    uint64_t run, empty, last[3], first[3];
+};
+
+static struct {
+    uint64_t all;
+    uint32_t sequences;
+    uint64_t needs[MOST_STEPS], sets[MOST_STEPS], clears[MOST_STEPS];
+    size_t place[MOST_SEQUENCES];
+    struct row table[MOST_SEQUENCES];
+} lib;
+
+static void read_library(const uint32_t *image, size_t length)
+{
+    uint32_t a = 0;
+    size_t i;
+    lib.all = ~UINT64_C(0) >> (64 - facts_of(image[0]));
+    lib.sequences = sequences_of(image[0]);
+    for (i = 1; i + 1 < length; i++) {
+        uint32_t p = payload(image[i]);
+        switch (kind(image[i])) {
+        case 2:
+            lib.needs[a] |= UINT64_C(1) << p;
+            break;
+        case 3:
+            lib.sets[a] |= UINT64_C(1) << p;
+            break;
+        case 4:
+            lib.clears[a] |= UINT64_C(1) << p;
+            break;
+        case 5:
+            a = p;
+            lib.needs[a] = lib.sets[a] = lib.clears[a] = 0;
+            break;
+        case 6:
+            lib.place[p] = i + 1;
+            break;
+        }
+    }
+}
+
+static struct row step_row(uint32_t a)
+{
+    uint64_t n = lib.needs[a], s = lib.sets[a], c = lib.clears[a];
+    struct row r = {lib.all, 0, {s, c & ~s, lib.all & ~(s | c)},
+                    {n, s & ~n, lib.all & ~(n | s)}};
+    return r;
+}
+
+/* The row of a sequence by its alternatives and the table as it stands. */
+static struct row look(const uint32_t *image, size_t i)
+{
+    struct row sum = {0, 0, {0, 0, 0}, {0, 0, 0}};
+    while (kind(image[i]) == 7) {
+        struct row x = {lib.all, lib.all, {0, 0, lib.all}, {0, 0, lib.all}};
+        for (i++; kind(image[i]) == 8 || kind(image[i]) == 9; i++) {
+            uint32_t p = payload(image[i]);
+            struct row y = kind(image[i]) == 8 ? step_row(p) : lib.table[p];
+            x.run &= y.run;
+            x.empty &= y.empty;
+            x.last[0] = (x.last[0] & y.last[2]) | y.last[0];
+            x.last[1] = (x.last[1] & y.last[2]) | y.last[1];
+            x.last[2] &= y.last[2];
+            x.first[0] |= x.first[2] & y.first[0];
+            x.first[1] |= x.first[2] & y.first[1];
+            x.first[2] &= y.first[2];
+        }
+        if (x.run == 0)
+            continue;
+        sum.run |= x.run;
+        sum.empty |= x.empty;
+        sum.last[0] |= x.last[0];
+        sum.last[1] |= x.last[1];
+        sum.last[2] |= x.last[2];
+        sum.first[0] |= x.first[0];
+        sum.first[1] |= x.first[1];
+        sum.first[2] |= x.first[2];
+    }
+    return sum;
+}
+
+static void fill_table(const uint32_t *image)
+{
+    uint32_t c;
+    int changed = 1;
+    memset(lib.table, 0, sizeof(struct row) * lib.sequences);
+    while (changed) {
+        changed = 0;
+        for (c = 0; c < lib.sequences; c++) {
+            struct row r = look(image, lib.place[c]);
+            changed |= memcmp(&r, &lib.table[c], sizeof r) != 0;
+            lib.table[c] = r;
+        }
+    }
+}
+
+uint64_t plain_cards(const uint32_t *image, size_t length, uint64_t *area,
+                     size_t area_length)
+{
+    uint64_t answer = plain_check(image, length);
+    uint32_t c;
+    if (answer >> 32 != 0)
+        return answer;
+    if (area_length < (size_t)CARD * sequences_of(image[0]))
+        return refusal(8, 0);
+    read_library(image, length);
+    fill_table(image);
+    for (c = 0; c < lib.sequences; c++) {
+        const struct row *r = &lib.table[c];
+        uint64_t *card = area + CARD * c;
+        card[0] = (r->run & 1) | (r->empty & 1) << 1 |
+                  (uint64_t)__builtin_popcountll(r->last[0] | r->last[1]) << 8;
+        card[1] = r->run & ~(r->first[1] | r->first[2]);
+        card[2] = r->first[0];
+        card[3] = r->last[0];
+        card[4] = r->last[1];
+        card[5] = r->run & ~(r->last[1] | r->last[2]);
+        card[6] = r->run & ~(r->last[0] | r->last[2]);
+    }
+    return lib.sequences;
+}
+
+/* The question, and the rank of each sequence. */
+static struct {
+    int first;
+    uint32_t mark, fact, none;
+    uint32_t rank[MOST_SEQUENCES];
+} ask;
+
+struct traits {
+    uint32_t rank;
+    int stays, runs;
+};
+
+static struct traits traits(uint32_t w)
+{
+    struct traits t;
+    uint32_t p = payload(w), mark;
+    if (kind(w) == 8) {
+        uint64_t one = ask.first ? lib.needs[p] : lib.sets[p];
+        uint64_t other = ask.first ? lib.sets[p] : lib.clears[p];
+        mark = one >> ask.fact & 1 ? 0 : other >> ask.fact & 1 ? 1 : 2;
+        t.rank = mark == ask.mark ? 0 : ask.none;
+        t.stays = mark == 2;
+        t.runs = 1;
+    } else {
+        const struct row *r = &lib.table[p];
+        t.rank = ask.rank[p];
+        t.stays = (ask.first ? r->first[2] : r->last[2]) >> ask.fact & 1;
+        t.runs = r->run >> ask.fact & 1;
+    }
+    return t;
+}
+
+/* What the alternative comes to whose entries stand from index i on: the least
+ * rank among the positions allowed, or the greatest depth. */
+static uint32_t value(const uint32_t *image, size_t i)
+{
+    uint32_t best = ask.mark == 2 ? 0 : ask.none;
+    int ok = 1;
+    for (; kind(image[i]) == 8 || kind(image[i]) == 9; i++) {
+        struct traits t = traits(image[i]);
+        int ahead = ask.first ? t.stays : t.runs;
+        int behind = ask.first ? t.runs : t.stays;
+        if (ask.mark == 2) {
+            best = t.rank > best ? t.rank : best;
+            continue;
+        }
+        if (!behind)
+            best = ask.none;
+        if (ok && t.rank < best)
+            best = t.rank;
+        ok &= ahead;
+    }
+    return best;
+}
+
+/* The first position of an alternative that comes to no more than k. */
+static uint32_t position(const uint32_t *image, size_t i, uint32_t k)
+{
+    size_t start = i, end, quiet;
+    for (end = i; kind(image[end]) == 8 || kind(image[end]) == 9; end++)
+        ;
+    for (quiet = end; quiet > start; quiet--) {
+        struct traits t = traits(image[quiet - 1]);
+        if (!(ask.first ? t.runs : t.stays))
+            break;
+    }
+    while (i + 1 < quiet || traits(image[i]).rank > k)
+        i++;
+    return (uint32_t)(i - start);
+}
+
+uint64_t plain_chain(const uint32_t *image, size_t length, uint64_t sequence,
+                     uint64_t question, uint64_t fact, uint32_t *area,
+                     size_t area_length)
+{
+    uint64_t answer = plain_check(image, length);
+    uint32_t c, d, k, count;
+    size_t i;
+    int changed = 1;
+    if (answer >> 32 != 0)
+        return answer;
+    if (sequence >= sequences_of(image[0]))
+        return refusal(9, 0);
+    if (question > 5)
+        return refusal(10, 0);
+    if (fact >= facts_of(image[0]))
+        return refusal(11, 0);
+    read_library(image, length);
+    fill_table(image);
+    ask.first = question >= 3;
+    ask.mark = (uint32_t)(question % 3);
+    ask.fact = (uint32_t)fact;
+    ask.none = lib.sequences + 2;
+    for (c = 0; c < lib.sequences; c++)
+        ask.rank[c] = ask.none;
+    while (changed) {
+        changed = 0;
+        for (c = 0; c < lib.sequences; c++) {
+            for (i = lib.place[c]; kind(image[i]) >= 7 && kind(image[i]) <= 9; i++) {
+                uint32_t v;
+                if (kind(image[i]) != 7)
+                    continue;
+                v = value(image, i + 1);
+                if (v + 1 < ask.rank[c]) {
+                    ask.rank[c] = v + 1;
+                    changed = 1;
+                }
+            }
+        }
+    }
+    d = (uint32_t)sequence;
+    if (ask.rank[d] >= ask.none)
+        return 0;
+    count = ask.mark == 2 ? 1 : ask.rank[d];
+    if (area_length < 2 * (size_t)count)
+        return refusal(12, 0);
+    for (k = 0; k < count; k++) {
+        uint32_t alternative = 0, at, goal = ask.rank[d] - 1;
+        for (i = lib.place[d]; value(image, i + 1) > goal; alternative++)
+            for (i++; kind(image[i]) != 7; i++)
+                ;
+        area[2 * k] = 0xa0000000u | alternative << 8 | d;
+        if (ask.mark == 2) {
+            area[1] = 0xc0000000u;
+            break;
+        }
+        at = position(image, i + 1, goal);
+        area[2 * k + 1] = 0xb0000000u | at;
+        d = payload(image[i + 1 + at]);
+    }
+    return count;
+}

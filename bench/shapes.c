@@ -1,0 +1,271 @@
+/*
+ * The generator of the shapes. Every image is one that the check accepts; the
+ * numbers come from a generator with a fixed seed, so that each run of the
+ * benchmark has the same images.
+ */
+#include "bench.h"
+
+static struct shape *out;
+static uint32_t seed;
+
+/* A number below n, which is below 2^24. */
+static uint32_t below(uint32_t n)
+{
+    seed = seed * 1664525u + 1013904223u;
+    return (uint32_t)((uint64_t)(seed >> 8) * n >> 24);
+}
+
+static void put(uint32_t k, uint32_t p) { out->words[out->length++] = k << 28 | p; }
+
+static void begin(struct shape *shape, const char *name, uint32_t facts,
+                  uint32_t steps, uint32_t sequences)
+{
+    out = shape;
+    out->name = name;
+    out->length = 0;
+    seed = 2024;
+    put(1, facts | steps << 7 | sequences << 18);
+}
+
+static void end(void)
+{
+    uint32_t s = 0;
+    size_t i;
+    for (i = 0; i < out->length; i++)
+        s += out->words[i];
+    put(15, (s + (s >> 28)) & 0xfffffffu);
+}
+
+/* How many words are left, with one kept for the sum word. */
+static size_t room(void) { return MOST_WORDS - 1 - out->length; }
+
+static void column(uint32_t k, uint64_t facts)
+{
+    uint32_t f;
+    for (f = 0; f < 64; f++)
+        if (facts >> f & 1u)
+            put(k, f);
+}
+
+static void step(uint32_t a, uint64_t needs, uint64_t sets, uint64_t clears)
+{
+    put(5, a);
+    column(2, needs);
+    column(3, sets);
+    column(4, clears);
+}
+
+/* Some of the facts from `from` up to and without `to`. */
+static uint64_t some(uint32_t count, uint32_t from, uint32_t to)
+{
+    uint64_t c = 0;
+    while (count-- > 0)
+        c |= UINT64_C(1) << (from + below(to - from));
+    return c;
+}
+
+/*
+ * An image like an everyday one: of its words a quarter are steps of about
+ * four words, the rest sequences of some four alternatives, most of them of two
+ * to six entries, mostly steps; a sequence calls those of lower numbers, and
+ * now and then any one.
+ */
+static void everyday(struct shape *shape, const char *name, uint32_t words)
+{
+    uint32_t facts = words < 512 ? 24 : 64;
+    uint32_t steps = words / 16, sequences = words / 32;
+    uint32_t a, c, i, entries;
+    size_t stop;
+    begin(shape, name, facts, steps, sequences);
+    for (a = 0; a < steps; a++)
+        step(a, some(1, 0, facts), some(1, 0, facts), some(below(3), 0, facts));
+    for (c = 0; c < sequences; c++) {
+        stop = out->length + (words - 1 - out->length) / (sequences - c);
+        put(6, c);
+        put(7, 0);
+        put(8, below(steps));
+        while (out->length + 8 < stop) {
+            put(7, 0);
+            entries = 2 + below(5);
+            for (i = 0; i < entries; i++) {
+                if (c > 0 && below(4) == 0)
+                    put(9, below(8) == 0 ? below(sequences) : below(c));
+                else
+                    put(8, below(steps));
+            }
+        }
+        put(7, 0);
+        while (out->length < stop)
+            put(8, below(steps));
+    }
+    end();
+}
+
+static void random_words(struct shape *shape)
+{
+    uint32_t a, c;
+    size_t stop;
+    begin(shape, "random", 64, 512, 256);
+    for (a = 0; a < 512; a++)
+        step(a, some(below(3), 0, 64), some(below(3), 0, 64),
+             some(below(3), 0, 64));
+    for (c = 0; c < 256; c++) {
+        stop = out->length + room() / (256 - c);
+        put(6, c);
+        while (out->length + 1 < stop) {
+            put(7, 0);
+            while (out->length < stop && below(5) != 0) {
+                if (below(2) == 0)
+                    put(9, below(256));
+                else
+                    put(8, below(512));
+            }
+        }
+    }
+    end();
+}
+
+/*
+ * The steps of the shapes of 256 sequences: step 0 sets fact 0, step 1 clears
+ * it, step 2 needs it, and no other touches it.
+ */
+static void chain_steps(void)
+{
+    uint32_t a;
+    step(0, 0, 1, 0);
+    step(1, 0, 0, 1);
+    step(2, 1, 0, 0);
+    for (a = 3; a < 256; a++)
+        step(a, some(1, 1, 64), some(1, 1, 64), some(1, 1, 64));
+}
+
+enum calls { NEXT, BEFORE, SHUFFLED, NEIGHBOURS, RING, ENDLESS };
+
+/*
+ * 8,192 words: 256 sequences, in each of whose alternatives others are called
+ * as the shape says. What runs there are, and every touch of fact 0, come from
+ * the alternatives of one sequence that call none; of an endless shape no
+ * sequence has one.
+ */
+static void calling(struct shape *shape, const char *name, enum calls calls)
+{
+    uint32_t order[256], place[256];
+    uint32_t c, d, i, n, swap, base;
+    size_t stop;
+    begin(shape, name, 64, 256, 256);
+    chain_steps();
+    for (i = 0; i < 256; i++)
+        order[i] = i;
+    if (calls == SHUFFLED) {
+        for (i = 255; i > 0; i--) {
+            d = below(i + 1);
+            swap = order[i];
+            order[i] = order[d];
+            order[d] = swap;
+        }
+    }
+    for (i = 0; i < 256; i++)
+        place[order[i]] = i;
+    base = calls == BEFORE ? 0 : calls == RING ? 128 : order[255];
+    for (c = 0; c < 256; c++) {
+        stop = out->length + room() / (256 - c);
+        put(6, c);
+        if (c == base && calls != ENDLESS) {
+            for (i = 0; i < 3; i++) {
+                put(7, 0);
+                put(8, 3 + below(253));
+                put(8, i);
+            }
+        }
+        for (n = 0; out->length + 7 < stop; n++) {
+            switch (calls) {
+            case NEXT:
+            case SHUFFLED:
+                d = order[place[c] < 255 ? place[c] + 1 : 255];
+                break;
+            case BEFORE:
+                d = c > 0 ? c - 1 : 0;
+                break;
+            case NEIGHBOURS:
+                d = n % 2 == 0 ? (c < 255 ? c + 1 : 255) : (c > 0 ? c - 1 : 0);
+                break;
+            case RING:
+                d = (c + 1) % 256;
+                break;
+            default:
+                d = below(256);
+            }
+            put(7, 0);
+            put(8, 3 + below(253));
+            put(9, d);
+            put(8, 3 + below(253));
+            if (below(2) == 0)
+                put(9, d);
+        }
+        while (out->length < stop)
+            put(out->words[out->length - 1] >> 28 < 7 ? 7 : 8,
+                out->words[out->length - 1] >> 28 < 7 ? 0 : 3 + below(253));
+    }
+    end();
+}
+
+static void one_alternative(struct shape *shape)
+{
+    uint32_t a;
+    begin(shape, "one alternative", 64, 1024, 2);
+    for (a = 0; a < 1024; a++)
+        step(a, a % 3 == 0 ? some(1, 0, 64) : 0, a % 3 == 1 ? some(1, 0, 64) : 0,
+             a % 3 == 2 ? some(1, 0, 64) : 0);
+    put(6, 0);
+    put(7, 0);
+    put(8, 1);
+    put(7, 0);
+    put(6, 1);
+    put(7, 0);
+    while (room() > 0) {
+        if (below(8) == 0)
+            put(9, 0);
+        else
+            put(8, below(1024));
+    }
+    end();
+}
+
+static void empty_alternatives(struct shape *shape)
+{
+    uint32_t c;
+    size_t stop;
+    begin(shape, "empty alternatives", 64, 256, 8);
+    chain_steps();
+    for (c = 0; c < 8; c++) {
+        stop = out->length + room() / (8 - c);
+        put(6, c);
+        while (out->length + 2 < stop)
+            put(7, 0);
+        put(7, 0);
+        put(8, below(256));
+    }
+    end();
+}
+
+void write_shapes(struct shape shapes[SHAPES])
+{
+    everyday(&shapes[0], "everyday", 200);
+    everyday(&shapes[1], "everyday, large", MOST_WORDS);
+    random_words(&shapes[2]);
+    calling(&shapes[3], "calls the next", NEXT);
+    calling(&shapes[4], "calls the one before", BEFORE);
+    calling(&shapes[5], "calls next, shuffled", SHUFFLED);
+    calling(&shapes[6], "calls both neighbours", NEIGHBOURS);
+    calling(&shapes[7], "one ring", RING);
+    one_alternative(&shapes[8]);
+    empty_alternatives(&shapes[9]);
+    calling(&shapes[10], "all endless", ENDLESS);
+}
+
+void write_growth(struct shape shapes[GROWTH])
+{
+    int i;
+    for (i = 0; i < GROWTH; i++)
+        everyday(&shapes[i], "everyday", 256u << i);
+}

@@ -1,0 +1,632 @@
+/*
+ * The best C that was found, to hold the library against.
+ *
+ * Check: the words are read by the grammar, one test a word; only an image that
+ * fails goes through the rules one by one. Cards: each alternative becomes a
+ * short list of rows, in which neighbouring steps are joined once and for all;
+ * an alternative without calls is worked out once. Sequences are visited in the
+ * finishing order of a depth-first walk and against it by turns, and only where
+ * one that they call has changed. Chain: everything is about one fact, so that
+ * counting what each alternative still lacks gives the answer in one walk, by
+ * levels.
+ */
+#include "bench.h"
+#include <string.h>
+
+static uint64_t refusal(uint64_t n) { return n << 32; }
+
+static int is_entry(uint32_t w) { return w >> 29 == 4; }
+
+/* Four words, as numbers with a sign. */
+typedef int32_t four __attribute__((vector_size(16)));
+
+static four all_four(uint32_t w)
+{
+    int32_t x = (int32_t)w;
+    return (four){x, x, x, x};
+}
+
+/* -1 where all bits are set. */
+static int64_t both_halves(four v)
+{
+    int64_t half[2];
+    memcpy(half, &v, sizeof half);
+    return half[0] & half[1];
+}
+
+/* Whether the words between head and sum word keep the rules. */
+static int well_formed(const uint32_t *image, size_t length, uint32_t facts,
+                       uint32_t steps, uint32_t sequences)
+{
+    size_t i = 1;
+    uint32_t a, c, w, before, inside;
+    /* kinds 8 and 9 are the least numbers, read with a sign */
+    const four seven = all_four(0x70000000u), nine = all_four(0x90000000u);
+    const four eight_end = all_four(0x80000000u + steps);
+    const four nine_end = all_four(0x90000000u + sequences);
+    for (a = 0; a < steps; a++) {
+        if (image[i] != (0x50000000u | a))
+            return 0;
+        before = 0;
+        for (i++; (w = image[i]) - 0x20000000u < 0x30000000u; i++) {
+            if ((payload(w) >= facts) | (w <= before))
+                return 0;
+            before = w;
+        }
+    }
+    for (c = 0, inside = 0; i + 1 < length; i++) {
+        /* four words at a time, where all are alternatives and entries */
+        while (inside && i + 4 < length) {
+            four v, right;
+            memcpy(&v, image + i, sizeof v);
+            right = (v < eight_end) | ((v >= nine) & (v < nine_end)) | (v == seven);
+            if (both_halves(right) != -1)
+                break;
+            i += 4;
+        }
+        w = image[i];
+        if (w == (0x60000000u | c)) {
+            inside = 0;
+            c++;
+        } else if (w == 0x70000000u) {
+            if (c == 0)
+                return 0;
+            inside = 1;
+        } else if (!inside ||
+                   !((w - 0x80000000u < steps) | (w - 0x90000000u < sequences))) {
+            break;
+        }
+    }
+    return i + 1 == length && c == sequences;
+}
+
+uint64_t tuned_check(const uint32_t *image, size_t length)
+{
+    uint32_t s0 = 0, s1 = 0, s2 = 0, s3 = 0, head;
+    size_t i;
+    if (length < 2 || length > MOST_WORDS)
+        return plain_check(image, length);
+    for (i = 0; i + 4 < length; i += 4) {
+        s0 += image[i];
+        s1 += image[i + 1];
+        s2 += image[i + 2];
+        s3 += image[i + 3];
+    }
+    for (; i + 1 < length; i++)
+        s0 += image[i];
+    s0 += s1 + s2 + s3;
+    head = image[0];
+    if (image[length - 1] != (0xf0000000u | ((s0 + (s0 >> 28)) & 0xfffffffu)) ||
+        kind(head) != 1 || facts_of(head) < 1 || facts_of(head) > 64 ||
+        steps_of(head) > MOST_STEPS || sequences_of(head) > MOST_SEQUENCES ||
+        (head >> 27 & 1u) ||
+        !well_formed(image, length, facts_of(head), steps_of(head),
+                     sequences_of(head)))
+        return plain_check(image, length);
+    return payload(head);
+}
+
+/* Two columns side by side. */
+typedef uint64_t pair __attribute__((vector_size(16)));
+
+/*
+ * What is possible, in pairs: last is sets and clears, first is needs and sets,
+ * and the two untouched columns each twice.
+ */
+struct row {
+    pair last, last_untouched, first, first_untouched;
+};
+
+enum { RUN = 1, EMPTY = 2 };
+enum { STEP_ROWS = MOST_SEQUENCES, JOINED_ROWS = STEP_ROWS + MOST_STEPS };
+
+/* Rows of sequences, of steps, and of neighbouring steps joined. */
+static struct row rows[JOINED_ROWS + MOST_WORDS / 2];
+static uint8_t flags[JOINED_ROWS + MOST_WORDS / 2];
+
+static struct row joined(struct row x, const struct row *y)
+{
+    x.last = (x.last & y->last_untouched) | y->last;
+    x.last_untouched &= y->last_untouched;
+    x.first |= x.first_untouched & y->first;
+    x.first_untouched &= y->first_untouched;
+    return x;
+}
+
+static struct row united(struct row x, struct row y)
+{
+    x.last |= y.last;
+    x.last_untouched |= y.last_untouched;
+    x.first |= y.first;
+    x.first_untouched |= y.first_untouched;
+    return x;
+}
+
+static int same(struct row x, struct row y)
+{
+    pair d = (x.last ^ y.last) | (x.last_untouched ^ y.last_untouched) |
+             (x.first ^ y.first) | (x.first_untouched ^ y.first_untouched);
+    return (d[0] | d[1]) == 0;
+}
+
+/* What the alternatives without calls give, and the lists of those with calls. */
+static struct row base[MOST_SEQUENCES];
+static uint8_t base_flags[MOST_SEQUENCES];
+static uint32_t first_list[MOST_SEQUENCES + 1];
+static uint16_t list_end[MOST_WORDS + 1];
+static uint16_t list_rows[MOST_WORDS];
+static uint64_t calls[MOST_SEQUENCES][4], callers[MOST_SEQUENCES][4];
+
+static size_t read_steps(const uint32_t *image, uint64_t all, uint32_t steps)
+{
+    uint64_t mask[3];
+    size_t i = 1;
+    uint32_t a, w;
+    for (a = 0; a < steps; a++) {
+        struct row *r = &rows[STEP_ROWS + a];
+        uint64_t u;
+        mask[0] = mask[1] = mask[2] = 0;
+        for (i++; (w = image[i]) - 0x20000000u < 0x30000000u; i++)
+            mask[kind(w) - 2] |= UINT64_C(1) << (w & 63);
+        u = all & ~(mask[1] | mask[2]);
+        r->last = (pair){mask[1], mask[2] & ~mask[1]};
+        r->last_untouched = (pair){u, u};
+        u = all & ~(mask[0] | mask[1]);
+        r->first = (pair){mask[0], mask[1] & ~mask[0]};
+        r->first_untouched = (pair){u, u};
+    }
+    return i;
+}
+
+static void read_sequences(const uint32_t *image, size_t i, uint64_t all,
+                           uint32_t sequences)
+{
+    const struct row none = {{0, 0}, {0, 0}, {0, 0}, {0, 0}};
+    const struct row start = {{0, 0}, {all, all}, {0, 0}, {all, all}};
+    uint32_t c, n = 0, lists = 0, spare = JOINED_ROWS;
+    memset(calls, 0, sizeof calls[0] * sequences);
+    memset(callers, 0, sizeof callers[0] * sequences);
+    for (c = 0; c < sequences; c++) {
+        struct row sum = none;
+        uint8_t found = 0;
+        first_list[c] = lists;
+        for (i++; image[i] == 0x70000000u;) {
+            uint32_t from = n, w;
+            struct row x = start;
+            for (i++; is_entry(w = image[i]);) {
+                if (w < 0x90000000u) {
+                    uint32_t step = STEP_ROWS + payload(w);
+                    x = rows[step];
+                    if (image[i + 1] - 0x80000000u < 0x10000000u) {
+                        for (i++; (w = image[i]) - 0x80000000u < 0x10000000u; i++)
+                            x = joined(x, &rows[STEP_ROWS + payload(w)]);
+                        if (n == from && !is_entry(w)) {
+                            n = from;
+                            goto constant;
+                        }
+                        step = spare++;
+                        rows[step] = x;
+                        flags[step] = RUN;
+                    } else {
+                        i++;
+                        if (n == from && !is_entry(image[i]))
+                            goto constant;
+                    }
+                    list_rows[n++] = (uint16_t)step;
+                } else {
+                    uint32_t d = payload(w);
+                    calls[c][d >> 6] |= UINT64_C(1) << (d & 63);
+                    callers[d][c >> 6] |= UINT64_C(1) << (c & 63);
+                    list_rows[n++] = (uint16_t)d;
+                    i++;
+                }
+            }
+            if (n == from) {
+                found |= EMPTY;
+            constant:
+                found |= RUN;
+                sum = united(sum, x);
+            } else {
+                list_end[++lists] = (uint16_t)n;
+            }
+        }
+        base[c] = sum;
+        base_flags[c] = found;
+    }
+    first_list[c] = lists;
+}
+
+/* The finishing order of a depth-first walk over calls. */
+static void finishing_order(uint32_t sequences, uint8_t *order)
+{
+    uint64_t fresh[4];
+    uint8_t stack[MOST_SEQUENCES];
+    uint32_t root, c, k, depth = 0, done = 0;
+    memset(fresh, 0xff, sizeof fresh);
+    for (root = 0; root < sequences; root++) {
+        if (!(fresh[root >> 6] >> (root & 63) & 1))
+            continue;
+        fresh[root >> 6] ^= UINT64_C(1) << (root & 63);
+        stack[depth++] = (uint8_t)root;
+        while (depth > 0) {
+            c = stack[depth - 1];
+            for (k = 0; k < 4; k++) {
+                uint64_t next = calls[c][k] & fresh[k];
+                if (next != 0) {
+                    fresh[k] ^= next & -next;
+                    stack[depth++] =
+                        (uint8_t)(64 * k + (uint32_t)__builtin_ctzll(next));
+                    break;
+                }
+            }
+            if (k == 4) {
+                order[done++] = (uint8_t)c;
+                depth--;
+            }
+        }
+    }
+}
+
+/* Looks at a sequence again; whether its row changed. */
+static int visit(uint32_t c, struct row start)
+{
+    struct row sum = base[c];
+    uint8_t found = base_flags[c];
+    uint32_t l = first_list[c], stop = first_list[c + 1], n = list_end[l];
+    for (; l < stop; l++) {
+        uint32_t end = list_end[l + 1];
+        struct row x = start;
+        uint8_t has = RUN | EMPTY;
+        for (; n < end; n++) {
+            has &= flags[list_rows[n]];
+            x = joined(x, &rows[list_rows[n]]);
+        }
+        if (has & RUN) {
+            found |= has;
+            sum = united(sum, x);
+        }
+    }
+    if (found == flags[c] && same(sum, rows[c]))
+        return 0;
+    rows[c] = sum;
+    flags[c] = found;
+    return 1;
+}
+
+static void settle(uint32_t sequences, uint64_t all)
+{
+    const struct row start = {{0, 0}, {all, all}, {0, 0}, {all, all}};
+    uint8_t order[MOST_SEQUENCES];
+    uint64_t dirty[4];
+    uint32_t i, c, k;
+    int back = 0;
+    finishing_order(sequences, order);
+    memset(rows, 0, sizeof rows[0] * sequences);
+    memset(flags, 0, sequences);
+    memset(dirty, 0xff, sizeof dirty);
+    for (c = sequences; c < MOST_SEQUENCES; c++)
+        dirty[c >> 6] &= ~(UINT64_C(1) << (c & 63));
+    while (dirty[0] | dirty[1] | dirty[2] | dirty[3]) {
+        for (i = 0; i < sequences; i++) {
+            c = order[back ? sequences - 1 - i : i];
+            if (!(dirty[c >> 6] >> (c & 63) & 1))
+                continue;
+            dirty[c >> 6] ^= UINT64_C(1) << (c & 63);
+            if (visit(c, start))
+                for (k = 0; k < 4; k++)
+                    dirty[k] |= callers[c][k];
+        }
+        back = !back;
+    }
+}
+
+uint64_t tuned_cards(const uint32_t *image, size_t length, uint64_t *area,
+                     size_t area_length)
+{
+    uint64_t answer = tuned_check(image, length);
+    uint64_t all;
+    uint32_t c, sequences;
+    size_t at;
+    if (answer >> 32 != 0)
+        return answer;
+    sequences = sequences_of(image[0]);
+    if (area_length < (size_t)CARD * sequences)
+        return refusal(8);
+    all = ~UINT64_C(0) >> (64 - facts_of(image[0]));
+    at = read_steps(image, all, steps_of(image[0]));
+    memset(flags + STEP_ROWS, RUN, steps_of(image[0]));
+    read_sequences(image, at, all, sequences);
+    settle(sequences, all);
+    for (c = 0; c < sequences; c++) {
+        struct row r = rows[c];
+        uint64_t run = flags[c] & RUN ? all : 0;
+        uint64_t *card = area + CARD * c;
+        card[0] = flags[c] |
+                  (uint64_t)__builtin_popcountll(r.last[0] | r.last[1]) << 8;
+        card[1] = run & ~(r.first[1] | r.first_untouched[0]);
+        card[2] = r.first[0];
+        card[3] = r.last[0];
+        card[4] = r.last[1];
+        card[5] = run & ~(r.last[1] | r.last_untouched[0]);
+        card[6] = run & ~(r.last[0] | r.last_untouched[0]);
+    }
+    return sequences;
+}
+
+/* The alternatives, as a chain question sees them. */
+struct alternative {
+    uint16_t from, end, lacks_run, lacks_quiet, owner;
+};
+
+static struct alternative alternatives[MOST_WORDS];
+static uint16_t first_alternative[MOST_SEQUENCES + 1];
+
+/* The calls of each sequence: the alternative they stand in, and the next one. */
+struct call {
+    uint16_t alternative, next;
+};
+
+static struct call all_calls[MOST_WORDS + 1];
+static uint16_t calls_of[MOST_SEQUENCES];
+static uint8_t marks[MOST_STEPS];
+
+/* Marks of the steps: 0 and 1 for the touches, 2 for none. */
+static size_t read_marks(const uint32_t *image, uint32_t steps, uint32_t one,
+                         uint32_t other)
+{
+    size_t i = 1;
+    uint32_t a, w;
+    for (a = 0; a < steps; a++) {
+        uint8_t m = 2;
+        for (i++; (w = image[i]) - 0x20000000u < 0x30000000u; i++) {
+            if (w == other && m == 2)
+                m = 1;
+            if (w == one)
+                m = 0;
+        }
+        marks[a] = m;
+    }
+    return i;
+}
+
+static uint32_t read_calls(const uint32_t *image, size_t i, uint32_t sequences)
+{
+    uint32_t c, m = 0, n = 0;
+    memset(calls_of, 0, sizeof calls_of);
+    for (c = 0; c < sequences; c++) {
+        first_alternative[c] = (uint16_t)m;
+        for (i++; image[i] == 0x70000000u; m++) {
+            struct alternative *alt = &alternatives[m];
+            uint32_t w, count = 0, touched = 0;
+            alt->owner = (uint16_t)c;
+            alt->from = (uint16_t)(i + 1);
+            for (i++; is_entry(w = image[i]); i++) {
+                uint32_t p = payload(w);
+                if (w < 0x90000000u) {
+                    touched |= marks[p] != 2;
+                } else {
+                    all_calls[++n].alternative = (uint16_t)m;
+                    all_calls[n].next = calls_of[p];
+                    calls_of[p] = (uint16_t)n;
+                    count++;
+                }
+            }
+            alt->end = (uint16_t)i;
+            alt->lacks_run = (uint16_t)count;
+            alt->lacks_quiet = (uint16_t)(touched ? 0x8000u | count : count);
+        }
+    }
+    first_alternative[c] = (uint16_t)m;
+    return m;
+}
+
+/* Which sequences have a run. */
+static void find_runs(uint32_t count, uint8_t *runs)
+{
+    uint8_t queue[MOST_SEQUENCES];
+    uint32_t m, n, from = 0, to = 0;
+    memset(runs, 0, MOST_SEQUENCES);
+    for (m = 0; m < count; m++) {
+        uint16_t c = alternatives[m].owner;
+        if (alternatives[m].lacks_run == 0 && !runs[c]) {
+            runs[c] = 1;
+            queue[to++] = (uint8_t)c;
+        }
+    }
+    while (from < to)
+        for (n = calls_of[queue[from++]]; n != 0; n = all_calls[n].next) {
+            struct alternative *alt = &alternatives[all_calls[n].alternative];
+            if (--alt->lacks_run == 0 && !runs[alt->owner]) {
+                runs[alt->owner] = 1;
+                queue[to++] = (uint8_t)alt->owner;
+            }
+        }
+}
+
+/* The depth at which each sequence can stay untouched, 0 where it cannot. */
+static void find_depths(uint32_t count, uint16_t *depth)
+{
+    uint8_t queue[MOST_SEQUENCES];
+    uint32_t m, n, from = 0, to = 0;
+    memset(depth, 0, sizeof *depth * MOST_SEQUENCES);
+    for (m = 0; m < count; m++) {
+        uint16_t c = alternatives[m].owner;
+        if (alternatives[m].lacks_quiet == 0 && depth[c] == 0) {
+            depth[c] = 1;
+            queue[to++] = (uint8_t)c;
+        }
+    }
+    while (from < to) {
+        uint32_t d = queue[from++];
+        for (n = calls_of[d]; n != 0; n = all_calls[n].next) {
+            struct alternative *alt = &alternatives[all_calls[n].alternative];
+            if (--alt->lacks_quiet == 0 && depth[alt->owner] == 0) {
+                depth[alt->owner] = (uint16_t)(depth[d] + 1);
+                queue[to++] = (uint8_t)alt->owner;
+            }
+        }
+    }
+}
+
+/* The entries at which the touch may stand, of an alternative that has a run. */
+struct window {
+    uint32_t from, end;
+};
+
+static struct window window(const uint32_t *image,
+                            const struct alternative *alt, int first,
+                            const uint16_t *depth)
+{
+    struct window win = {alt->from, alt->end};
+    uint32_t i, w;
+    if (first) {
+        for (i = alt->from; i < alt->end; i++) {
+            w = image[i];
+            if (w < 0x90000000u ? marks[payload(w)] != 2 : depth[payload(w)] == 0) {
+                win.end = i + 1;
+                break;
+            }
+        }
+    } else {
+        for (i = alt->end; i > alt->from; i--) {
+            w = image[i - 1];
+            if (w < 0x90000000u ? marks[payload(w)] != 2 : depth[payload(w)] == 0) {
+                win.from = i - 1;
+                break;
+            }
+        }
+    }
+    return win;
+}
+
+/* The number of links of each sequence's shortest chain, 0 where it has none,
+ * found up to that of sequence c. */
+static void find_links(const uint32_t *image, uint32_t count, int first,
+                       uint32_t mark, const uint16_t *depth, uint32_t c,
+                       uint16_t *links)
+{
+    static struct call edges[MOST_WORDS + 1];
+    uint16_t edges_of[MOST_SEQUENCES];
+    uint8_t queue[MOST_SEQUENCES];
+    uint32_t m, i, n = 0, from = 0, to = 0;
+    memset(links, 0, sizeof *links * MOST_SEQUENCES);
+    memset(edges_of, 0, sizeof edges_of);
+    for (m = 0; m < count; m++) {
+        const struct alternative *alt = &alternatives[m];
+        struct window win;
+        if (alt->lacks_run != 0 || links[alt->owner] != 0)
+            continue;
+        win = window(image, alt, first, depth);
+        for (i = win.from; i < win.end; i++) {
+            uint32_t w = image[i], p = payload(w);
+            if (w < 0x90000000u) {
+                if (marks[p] == mark) {
+                    links[alt->owner] = 1;
+                    queue[to++] = (uint8_t)alt->owner;
+                    break;
+                }
+            } else {
+                edges[++n].alternative = alt->owner;
+                edges[n].next = edges_of[p];
+                edges_of[p] = (uint16_t)n;
+            }
+        }
+    }
+    while (from < to && links[c] == 0) {
+        uint32_t d = queue[from++];
+        for (n = edges_of[d]; n != 0; n = edges[n].next) {
+            uint16_t owner = edges[n].alternative;
+            if (links[owner] == 0) {
+                links[owner] = (uint16_t)(links[d] + 1);
+                queue[to++] = (uint8_t)owner;
+            }
+        }
+    }
+}
+
+/* The lowest alternative of c all of whose calls stay untouched below k. */
+static uint32_t quiet_alternative(const uint32_t *image, const uint16_t *depth,
+                                  uint32_t c)
+{
+    uint32_t m, i;
+    for (m = first_alternative[c];; m++) {
+        int ok = alternatives[m].lacks_quiet == 0;
+        for (i = alternatives[m].from; ok && i < alternatives[m].end; i++)
+            if (image[i] >= 0x90000000u)
+                ok = depth[payload(image[i])] < depth[c];
+        if (ok)
+            return m - first_alternative[c];
+    }
+}
+
+static void write_links(const uint32_t *image, int first, uint32_t mark,
+                        const uint16_t *depth, const uint16_t *links,
+                        uint32_t c, uint32_t *area)
+{
+    uint32_t k, m, i, at = 0;
+    for (k = links[c]; k > 0; k--) {
+        for (m = first_alternative[c];; m++) {
+            const struct alternative *alt = &alternatives[m];
+            struct window win;
+            if (alt->lacks_run != 0)
+                continue;
+            win = window(image, alt, first, depth);
+            for (i = win.from; i < win.end; i++) {
+                uint32_t w = image[i], p = payload(w);
+                if (k == 1 ? w < 0x90000000u && marks[p] == mark
+                           : w >= 0x90000000u && links[p] == k - 1)
+                    break;
+            }
+            if (i < win.end)
+                break;
+        }
+        area[at++] = 0xa0000000u | (m - first_alternative[c]) << 8 | c;
+        area[at++] = 0xb0000000u | (i - alternatives[m].from);
+        c = payload(image[i]);
+    }
+}
+
+uint64_t tuned_chain(const uint32_t *image, size_t length, uint64_t sequence,
+                     uint64_t question, uint64_t fact, uint32_t *area,
+                     size_t area_length)
+{
+    uint64_t answer = tuned_check(image, length);
+    uint8_t runs[MOST_SEQUENCES];
+    uint16_t depth[MOST_SEQUENCES], links[MOST_SEQUENCES];
+    uint32_t c = (uint32_t)sequence, f = (uint32_t)fact, sequences, count;
+    int first = question >= 3;
+    size_t at;
+    if (answer >> 32 != 0)
+        return answer;
+    sequences = sequences_of(image[0]);
+    if (sequence >= sequences)
+        return refusal(9);
+    if (question > 5)
+        return refusal(10);
+    if (fact >= facts_of(image[0]))
+        return refusal(11);
+    at = read_marks(image, steps_of(image[0]),
+                    (first ? 0x20000000u : 0x30000000u) | f,
+                    (first ? 0x30000000u : 0x40000000u) | f);
+    count = read_calls(image, at, sequences);
+    find_depths(count, depth);
+    if (question % 3 == 2) {
+        if (depth[c] == 0)
+            return 0;
+        if (area_length < 2)
+            return refusal(12);
+        area[0] = 0xa0000000u | quiet_alternative(image, depth, c) << 8 | c;
+        area[1] = 0xc0000000u;
+        return 1;
+    }
+    find_runs(count, runs);
+    if (!runs[c])
+        return 0;
+    find_links(image, count, first, (uint32_t)(question % 3), depth, c, links);
+    if (links[c] == 0)
+        return 0;
+    if (area_length < 2 * (size_t)links[c])
+        return refusal(12);
+    write_links(image, first, (uint32_t)(question % 3), depth, links, c, area);
+    return links[c];
+}
