@@ -6,5 +6,6 @@ pub mod Seam
 pub mod Lookup
 pub mod Read
 pub mod Sum
+pub mod Right
 pub mod Walk
 pub mod Sizes

@@ -1,6 +1,6 @@
 -- The rules for a word between head and sum word: what may stand where (refusal 4), the payloads (5) and the order of fact
 -- words (6). Each is a rule on the word and on the words before it, the head among them (document 01, "The image").
-use Prim.Native.Nat.{ℕ, zero, suc, _+_, _<_}
+use Prim.Native.Nat.{ℕ, zero, suc, _+_, _*_, _^_, _<_}
 use mathlib.Core.Bool.{Bool, true, false, cond, not, _&&_, _||_}
 use mathlib.Core.List.{List, [], _∷_}
 use lib.Dec.{leb, ltb, eqb}
@@ -64,7 +64,18 @@ abbrev pub faultAt : Head → Earlier → ℕ → ℕ → Fault
 faultAt h e p w =
     cond (mayStand h e w) (cond (payloadRight h e w) (cond (inOrder e w) Nothing (Found (FactOrder p))) (Found (Payload p))) (Found (Kind p))
 
--- an entry after a kind 7 or another entry that names what the head counts: it has no fault
+-- A word that is right by the rules of its kind alone has no fault: `proofs/Right` proves it. An entry after a kind 7 or another entry
+-- that names what the head counts; an alternative's opener after the first sequence's; the next step's opener before the first
+-- sequence's; a fact after a step's opener, or greater than the fact word before it
 abbrev pub entryRight : Head → ℕ → ℕ → Bool
 entryRight h last w =
     (isKind 7 last || isEntry last) && (isKind 8 w && ltb (payload w) (h .steps) || isKind 9 w && ltb (payload w) (h .sequences))
+
+abbrev pub alternativeRight : Earlier → ℕ → Bool
+alternativeRight e w = eqb w (7 * 2 ^ 28) && ltb 0 (e .sequences)
+
+abbrev pub stepRight : Head → Earlier → ℕ → Bool
+stepRight h e w = isKind 5 w && eqb (e .sequences) 0 && eqb (payload w) (e .steps) && ltb (payload w) (h .steps)
+
+abbrev pub factRight : Head → ℕ → ℕ → Bool
+factRight h last w = isFact w && ltb (payload w) (h .facts) && (isKind 5 last || isFact last && ltb last w)

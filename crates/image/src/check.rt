@@ -4,6 +4,7 @@ use crate::answer::Head;
 use crate::answer::Refusal;
 use crate::rules::Earlier;
 use crate::rules::Fault;
+use crate::rules::entry_right;
 use crate::rules::fault_at;
 use crate::rules::past;
 use crate::word::head_of;
@@ -14,7 +15,7 @@ ghost use mathlib.Core.Path.{_≡_};
 ghost use Prim.Native.Nat.{_+_, _≤_, _<_};
 ghost use lib.ListN.{length};
 ghost use Rattle.image.specs.Checked.{checked};
-ghost use Rattle.image.specs.Walk.{walk, ended, opening, StepsRead};
+ghost use Rattle.image.specs.Walk.{walk, ended, opening, StepsRead, withLast, EntriesRead};
 ghost use Rattle.image.specs.Word.{headOf};
 
 // Where the reader of the steps' part stopped: at a refusal, or at the part's word with this index, the first sequence or the part's
@@ -59,6 +60,41 @@ fn ended_at(h: Head, e: Earlier, p: u32) -> Checked
     Checked::Accepted(h)
 }
 
+// What the rules ask of the words before, where the last of them is another.
+fn with_last(e: Earlier, last: u32) -> Earlier
+    ensures { λ r. ⌜ r ≡ withLast e last ⌝ }
+{
+    Earlier {
+        steps: e.steps,
+        sequences: e.sequences,
+        last: last,
+    }
+}
+
+// Where the reader of entries stopped: the word before, and its index.
+pub struct Entries {
+    pub last: u32,
+    pub next: usize,
+}
+
+// Reads the entries that stand from index `at` on and are right, after a word `last`.
+fn read_entries(h: Head, last: u32, part: &[u32], at: usize) -> Entries
+    requires { ⌜ at ≤ length (now part) ⌝ }
+    ensures { λ r. ⌜ EntriesRead h (now (part .entry)) last at r ⌝ }
+{
+    let mut l = last;
+    let mut i = at;
+    while i < part.len() {
+        let w = part[i];
+        if !entry_right(h, l, w) {
+            return Entries { last: l, next: i };
+        }
+        l = w;
+        i += 1;
+    }
+    Entries { last: l, next: i }
+}
+
 // Reads the sequences' part, which begins at position `at`, to its end.
 fn read_sequences(h: Head, before: Earlier, at: usize, part: &[u32]) -> Checked
     requires { ⌜ (at + length (now part) < 8192) × (before .steps ≤ at) × (before .sequences ≤ at) ⌝ }
@@ -72,7 +108,9 @@ fn read_sequences(h: Head, before: Earlier, at: usize, part: &[u32]) -> Checked
             return Checked::Refused(r);
         }
         e = past(e, w);
-        i += 1;
+        let run = read_entries(h, e.last, part, i + 1);
+        e = with_last(e, run.last);
+        i = run.next;
     }
     ended_at(h, e, (at + i) as u32)
 }

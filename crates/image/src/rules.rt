@@ -2,8 +2,10 @@
 use crate::answer::Head;
 use crate::answer::Refusal;
 ghost use mathlib.Core.Path.{_≡_};
-ghost use Prim.Native.Nat.{_+_, _<_};
-ghost use Rattle.image.specs.Rules.{mayStand, payloadRight, inOrder, entryRight, faultAt};
+ghost use mathlib.Core.Bool.{true};
+ghost use Prim.Native.Nat.{ℕ, _+_, _<_};
+ghost use Rattle.image.specs.Rules.{mayStand, payloadRight, inOrder, entryRight, alternativeRight, stepRight, factRight, faultAt};
+ghost use Rattle.image.specs.declared.rules.Fault.the-variants.{Nothing};
 ghost use Rattle.image.specs.Walk.{after};
 
 // What the rules ask of the words before a word: how many steps and sequences they open, and the word right before it.
@@ -55,9 +57,8 @@ fn in_order(e: Earlier, w: u32) -> bool
     !(((k == 2) | (k == 3) | (k == 4)) & ((l == 2) | (l == 3) | (l == 4))) | (e.last < w)
 }
 
-// Whether a word is an entry after a kind 7 or another entry and names what the head counts, and so has no fault: of such words there are
-// most, and this is quick to see.
-fn entry_right(h: Head, last: u32, w: u32) -> bool
+// Whether a word of kind 8 or 9 is right: an entry after a kind 7 or another entry that names what the head counts.
+pub fn entry_right(h: Head, last: u32, w: u32) -> bool
     ensures { λ r. ⌜ r ≡ entryRight h last w ⌝ }
 {
     let k = w / 268435456;
@@ -65,6 +66,50 @@ fn entry_right(h: Head, last: u32, w: u32) -> bool
     let l = last / 268435456;
     ((l == 7) | ((l == 8) | (l == 9)))
         & (((k == 8) & (p < h.steps)) | ((k == 9) & (p < h.sequences)))
+}
+
+// Whether a word of kind 7 is right.
+fn alternative_right(e: Earlier, w: u32) -> bool
+    ensures { λ r. ⌜ r ≡ alternativeRight e w ⌝ }
+{
+    (w == 1879048192) & (0 < e.sequences)
+}
+
+// Whether a word of kind 5 is right.
+fn step_right(h: Head, e: Earlier, w: u32) -> bool
+    ensures { λ r. ⌜ r ≡ stepRight h e w ⌝ }
+{
+    let k = w / 268435456;
+    let p = w % 268435456;
+    (k == 5) & (e.sequences == 0) & (p == e.steps) & (p < h.steps)
+}
+
+// Whether a word of kind 2, 3 or 4 is right.
+fn fact_right(h: Head, last: u32, w: u32) -> bool
+    ensures { λ r. ⌜ r ≡ factRight h last w ⌝ }
+{
+    let k = w / 268435456;
+    let p = w % 268435456;
+    let l = last / 268435456;
+    ((k == 2) | (k == 3) | (k == 4))
+        & (p < h.facts)
+        & ((l == 5) | (((l == 2) | (l == 3) | (l == 4)) & (last < w)))
+}
+
+// Whether a word is seen to be right by the rules of its kind alone. An opener of a sequence is left to all rules.
+fn seen_right(h: Head, e: Earlier, w: u32) -> bool
+    ensures { λ r. ⌜ ((p : ℕ) → r ≡ true → Nothing ≡ faultAt h e p w) ⌝ }
+{
+    if 2147483648 <= w {
+        return entry_right(h, e.last, w);
+    }
+    if 1879048192 <= w {
+        return alternative_right(e, w);
+    }
+    if 1342177280 <= w {
+        return step_right(h, e, w);
+    }
+    fact_right(h, e.last, w)
 }
 
 // The lowest refusal of 4 to 6 that a word at position `p` meets, by each rule.
@@ -87,7 +132,7 @@ fn first_fault(h: Head, e: Earlier, p: u32, w: u32) -> Fault
 pub fn fault_at(h: Head, e: Earlier, p: u32, w: u32) -> Fault
     ensures { λ r. ⌜ r ≡ faultAt h e p w ⌝ }
 {
-    if entry_right(h, e.last, w) {
+    if seen_right(h, e, w) {
         return Fault::Nothing;
     }
     first_fault(h, e, p, w)

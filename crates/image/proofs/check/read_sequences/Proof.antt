@@ -1,14 +1,19 @@
+-- `image::check::read_sequences` meets its contract: the answer from here is the answer from the part's start.
+-- Assumes nothing.
 use borrow.Author.Needs.{needs}
 use native.Mathlib.Omega.{arith}
-use Prim.Native.Nat.{_-_}
+use Prim.Native.Nat.{_+_, _-_}
 use mathlib.Core.Path.{sym, _∙_}
-use lib.ListN.{length}
-use Rattle.image.proofs.Walk.{Reading, reading-start, reading-turn, reading-refused, reading-end}
+use lib.ListN.{length, getD}
+use Rattle.image.specs.Walk.{after}
+use Rattle.image.proofs.Walk.{Reading, reading-start, reading-turn, reading-refused, reading-end, reading-entries}
 use Rattle.image.proofs.check.read_sequences.Statement.{statement}
 use Rattle.image.proofs.check.read_sequences.Tie as tie
 use Rattle.image.proofs.check.read_sequences.Reads as reads
 use Rattle.image.proofs.check.read_sequences.Lts as lts
 use Rattle.image.proofs.check.ended_at.Reads as ended-at-reads
+use Rattle.image.proofs.check.read_entries.Reads as read-entries-reads
+use Rattle.image.proofs.check.with_last.Reads as with-last-reads
 use Rattle.image.proofs.rules.fault_at.Reads as fault-at-reads
 use Rattle.image.proofs.rules.past.Reads as past-reads
 
@@ -54,20 +59,34 @@ enum-told c = search needs
 past-requires : tie.Need-past-requires Inv-loop μ-loop
 past-requires c κs = search needs
 
-add-i : tie.Need-add-i Inv-loop μ-loop
-add-i c = search needs
+add-read-entries : tie.Need-add-read-entries Inv-loop μ-loop
+add-read-entries c = search needs
+
+read-entries-requires : tie.Need-read-entries-requires Inv-loop μ-loop
+read-entries-requires c κs = omega (arith, c .before .before .before .before .before .loop-test .taken)
+
+with-last-requires : tie.Need-with-last-requires Inv-loop μ-loop
+with-last-requires c κs = search needs
 
 loop-less : tie.Need-loop-less Inv-loop μ-loop
-loop-less c = search needs
+loop-less c =
+    let turn = c .before .before .before .before .before .before .before in
+    omega (arith, turn .loop-test .taken, c .before .read-entries .ensures .low)
 
 loop-again : tie.Need-loop-again Inv-loop μ-loop
 loop-again c =
-    let judged = c .before .before .before in
+    let read = c .before in
+    let told = read .before .before in
+    let judged = told .before .before in
     let at-loop = judged .before .before .before in
     let a = at-loop .before .before .args in
-    rw (c .past .ensures)
-    (reading-turn (a .h) (a .before) (a .at) (a .part .now) (at-loop .loop .e) (at-loop .loop .i) (omega arith) (at-loop .loop .inv)
-    (sym (c .before .enum-told .given .1) ∙ judged .fault-at .ensures))
+    let w = getD (a .part .now) (at-loop .loop .i) 0 in
+    let next =
+    reading-turn (a .h) (a .before) (a .at) (a .part .now) (at-loop .loop .e) (at-loop .loop .i) (omega arith) (at-loop .loop .inv)
+    (sym (told .enum-told .given .1) ∙ judged .fault-at .ensures) in
+    rw (c .with-last .ensures, read .before .past .ensures)
+    (reading-entries (a .h) (a .before) (a .at) (a .part .now) (after (at-loop .loop .e) w) (at-loop .loop .i + 1) (read .read-entries .result) next
+    (rw (read .before .past .ensures) at (read .read-entries .ensures)))
 
 add-ended-at : tie.Need-add-ended-at Inv-loop μ-loop
 add-ended-at c = search needs
@@ -101,7 +120,9 @@ read-sequences-spec =
     returns
     enum-told
     past-requires
-    add-i
+    add-read-entries
+    read-entries-requires
+    with-last-requires
     loop-less
     loop-again
     add-ended-at
