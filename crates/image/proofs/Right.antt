@@ -1,14 +1,16 @@
 -- A word that is right by the rules of its kind alone has no fault.
 -- Assumes nothing.
-use Prim.Native.Nat.{ℕ, _*_, _^_}
+use Prim.Native.Nat.{ℕ, _+_, _*_, _^_, _≤_}
 use native.Mathlib.Omega.{arith}
-use mathlib.Core.Path.{_≡_, refl}
+use mathlib.Core.Path.{_≡_, refl, ap}
 use mathlib.Core.Bool.{true, _&&_, _||_}
-use mathlib.Core.Logic.{⊎-elim}
+use mathlib.Core.Logic.{_⊎_, inl, inr, ⊎-elim}
 use lib.Dec.{eqb, ltb}
-use borrow.Author.Tests.{eqb-true}
+use borrow.Author.Tests.{eqb-true, ne-eqb}
+use mir.Val.{boolByte}
 use Rattle.image.specs.Word.{kind, payload, isKind, isFact, isEntry}
-use Rattle.image.specs.Rules.{entryRight, alternativeRight, stepRight, factRight, faultAt}
+use Rattle.image.specs.Rules.{entryRight, alternativeRight, bodyRight, stepRight, factRight, faultAt}
+use Rattle.image.specs.Walk.{after, withLast}
 use Rattle.image.specs.declared.answer.Head.{Head}
 use Rattle.image.specs.declared.rules.Earlier.{Earlier}
 use Rattle.image.specs.declared.rules.Fault.{Fault}
@@ -74,3 +76,30 @@ module _ (h : Head) (e : Earlier) (p w : ℕ) where
       (λ l. by-fact w fact (λ k. rw (k, l, low, more)) (λ k. rw (k, l, low, more)) (λ k. rw (k, l, low, more)))
       (λ l. by-fact w fact (λ k. rw (k, l, low, more)) (λ k. rw (k, l, low, more)) (λ k. rw (k, l, low, more))))
       (or-cases (isKind 5 (e .last)) (isFact (e .last) && ltb (e .last) w) follows)
+
+-- a word of a sequence's body, after another last word; and it opens nothing
+module _ (h : Head) (e : Earlier) (last w : ℕ) (right : bodyRight h e last w ≡ true) where
+  pub body-faultless : (p : ℕ) → Nothing ≡ faultAt h (withLast e last) p w
+  body-faultless p =
+      ⊎-elim (entry-faultless h (withLast e last) p w) (alternative-faultless h (withLast e last) p w)
+      (or-cases (entryRight h last w) (alternativeRight e w) right)
+
+  body-kind : (kind w ≡ 8) ⊎ (kind w ≡ 9) ⊎ (kind w ≡ 7)
+  body-kind =
+      ⊎-elim
+      (λ (entry : entryRight h last w ≡ true).
+      ⊎-elim
+      (λ (step : isKind 8 w && ltb (payload w) (h .steps) ≡ true). inl (eqb-true (kind w) 8 (and-left (isKind 8 w) (ltb (payload w) (h .steps)) step)))
+      (λ (call : isKind 9 w && ltb (payload w) (h .sequences) ≡ true). inr (inl (eqb-true (kind w) 9 (and-left (isKind 9 w) (ltb (payload w) (h .sequences)) call))))
+      (or-cases (isKind 8 w && ltb (payload w) (h .steps)) (isKind 9 w && ltb (payload w) (h .sequences)) (and-right (isKind 7 last || isEntry last) _ entry)))
+      (λ (alternative : alternativeRight e w ≡ true).
+      let whole = eqb-true w (7 * 2 ^ 28) (and-left (eqb w (7 * 2 ^ 28)) (ltb 0 (e .sequences)) alternative) in
+      inr (inr (rw whole)))
+      (or-cases (entryRight h last w) (alternativeRight e w) right)
+
+  pub body-after : after (withLast e last) w ≡ withLast e w
+  body-after =
+      let high : 7 ≤ kind w = ⊎-elim (λ k. omega arith) (λ k. ⊎-elim (λ l. omega arith) (λ l. omega arith) k) body-kind in
+      let s : e .steps + boolByte (isKind 5 w) ≡ e .steps = omega (arith, ap boolByte (ne-eqb (kind w) 5 (λ q. omega arith))) in
+      let c : e .sequences + boolByte (isKind 6 w) ≡ e .sequences = omega (arith, ap boolByte (ne-eqb (kind w) 6 (λ q. omega arith))) in
+      λ i. record { steps = s i; sequences = c i; last = w }

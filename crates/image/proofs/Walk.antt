@@ -7,26 +7,23 @@ use native.Mathlib.Numerals.{add-one}
 use mathlib.Core.Path.{_≡_, refl, sym, ap, ap₂, _∙_}
 use mathlib.Core.List.{List, [], _∷_, _++_}
 use lib.ListN.{length, getD, drop, length-append}
-use lib.Dec.{ltb}
-use borrow.Author.Tests.{eqb-true, ne-eqb}
-use mathlib.Core.Bool.{true, _&&_, _||_}
-use mathlib.Core.Logic.{⊎-elim}
+use mathlib.Core.Bool.{true}
 use mir.Val.{boolByte}
 use lib.Seq.{drop-cons, drop-length}
-use Rattle.image.specs.Word.{kind, payload, isKind, isEntry}
-use Rattle.image.specs.Rules.{opened, lastOf, earlier, entryRight, faultAt}
+use Rattle.image.specs.Word.{isKind}
+use Rattle.image.specs.Rules.{opened, lastOf, earlier, bodyRight, faultAt}
 use Rattle.image.specs.Checked.{atWord, scan}
-use Rattle.image.specs.Walk.{after, ended, walk, withLast, EntriesRead}
+use Rattle.image.specs.Walk.{after, ended, walk, withLast, BodyRead}
 use Rattle.image.specs.declared.answer.Head.{Head}
 use Rattle.image.specs.declared.answer.Refusal.{Refusal}
 use Rattle.image.specs.declared.answer.Checked.{Checked}
 use Rattle.image.specs.declared.answer.Checked.the-variants.{Refused}
-use Rattle.image.specs.declared.check.Entries.{Entries}
+use Rattle.image.specs.declared.check.Body.{Body}
 use Rattle.image.specs.declared.rules.Earlier.{Earlier}
 use Rattle.image.specs.declared.rules.Fault.{Fault}
 use Rattle.image.specs.declared.rules.Fault.the-variants.{Found, Nothing}
-use Rattle.image.proofs.Bools.{byte-le, and-left, and-right, or-cases}
-use Rattle.image.proofs.Right.{entry-faultless}
+use Rattle.image.proofs.Bools.{byte-le}
+use Rattle.image.proofs.Right.{body-faultless, body-after}
 
 walk-drop : (h : Head) (e : Earlier) (p i : ℕ) (ws : List ℕ) → i < length ws
     → walk h e p (drop i ws) ≡ atWord (faultAt h e p (getD ws i 0)) (walk h (after e (getD ws i 0)) (p + 1) (drop (i + 1) ws))
@@ -67,51 +64,37 @@ module _ (h : Head) (e₀ : Earlier) (p₀ : ℕ) (part : List ℕ) where
   unfolding walk
   reading-end e i l r = sym (ap (walk h e (p₀ + i)) (ap (λ (n : ℕ). drop n part) l ∙ drop-length part)) ∙ r .same
 
--- ---- entries that are right
-
--- an entry opens nothing
-after-entry : (h : Head) (e : Earlier) (last w : ℕ) → entryRight h last w ≡ true → after (withLast e last) w ≡ withLast e w
-after-entry h e last w right =
-    ⊎-elim
-    (λ (step : isKind 8 w && ltb (payload w) (h .steps) ≡ true). opens (eqb-true (kind w) 8 (and-left (isKind 8 w) (ltb (payload w) (h .steps)) step)) (λ q. omega arith) (λ q. omega arith))
-    (λ (call : isKind 9 w && ltb (payload w) (h .sequences) ≡ true). opens (eqb-true (kind w) 9 (and-left (isKind 9 w) (ltb (payload w) (h .sequences)) call)) (λ q. omega arith) (λ q. omega arith))
-    (or-cases (isKind 8 w && ltb (payload w) (h .steps)) (isKind 9 w && ltb (payload w) (h .sequences)) (and-right (isKind 7 last || isEntry last) _ right))
-  where
-    opens : {k : ℕ} → kind w ≡ k → (k ≡ 5 → ⊥) → (k ≡ 6 → ⊥) → after (withLast e last) w ≡ withLast e w
-    opens {k} e′ five six =
-        let s : e .steps + boolByte (isKind 5 w) ≡ e .steps = omega (arith, ap boolByte (ne-eqb (kind w) 5 (λ q. five (sym e′ ∙ q)))) in
-        let c : e .sequences + boolByte (isKind 6 w) ≡ e .sequences = omega (arith, ap boolByte (ne-eqb (kind w) 6 (λ q. six (sym e′ ∙ q)))) in
-        λ i. record { steps = s i; sequences = c i; last = w }
+-- ---- a sequence's words
 
 -- what holds at the head of the loop over them
-pub record Skipping (h : Head) (part : List ℕ) (last₀ at last i : ℕ) : Type 0 where
+pub record Skipping (h : Head) (part : List ℕ) (e : Earlier) (at last i : ℕ) : Type 0 where
   pub low : at ≤ i
   pub within : i ≤ length part
-  pub same : (e : Earlier) (p : ℕ) → walk h (withLast e last₀) (p + at) (drop at part) ≡ walk h (withLast e last) (p + i) (drop i part)
+  pub same : (p : ℕ) → walk h e (p + at) (drop at part) ≡ walk h (withLast e last) (p + i) (drop i part)
 
-pub skipping-turn : (h : Head) (part : List ℕ) (last₀ at last i : ℕ) → i < length part → entryRight h last (getD part i 0) ≡ true
-    → Skipping h part last₀ at last i → Skipping h part last₀ at (getD part i 0) (i + 1)
-skipping-turn h part last₀ at last i l right here =
+pub skipping-turn : (h : Head) (part : List ℕ) (e : Earlier) (at last i : ℕ) → i < length part → bodyRight h e last (getD part i 0) ≡ true
+    → Skipping h part e at last i → Skipping h part e at (getD part i 0) (i + 1)
+skipping-turn h part e at last i l right here =
     record {
       low = omega (arith, here .low);
       within = omega arith;
-      same = λ e p.
+      same = λ p.
           let w = getD part i 0 in
           let next : p + i + 1 ≡ p + (i + 1) = omega arith in
-          here .same e p ∙ walk-drop h (withLast e last) (p + i) i part l
-          ∙ ap (λ (f : Fault). atWord f (walk h (after (withLast e last) w) (p + i + 1) (drop (i + 1) part))) (sym (entry-faultless h (withLast e last) (p + i) w right))
-          ∙ ap₂ (λ (x : Earlier) (n : ℕ). walk h x n (drop (i + 1) part)) (after-entry h e last w right) next;
+          here .same p ∙ walk-drop h (withLast e last) (p + i) i part l
+          ∙ ap (λ (f : Fault). atWord f (walk h (after (withLast e last) w) (p + i + 1) (drop (i + 1) part))) (sym (body-faultless h e last w right (p + i)))
+          ∙ ap₂ (λ (x : Earlier) (n : ℕ). walk h x n (drop (i + 1) part)) (body-after h e last w right) next;
     }
 
 -- a loop that reads on after them
-pub reading-entries : (h : Head) (e₀ : Earlier) (p₀ : ℕ) (part : List ℕ) (e : Earlier) (i : ℕ) (r : Entries) → Reading h e₀ p₀ part e i
-    → EntriesRead h part (e .last) i r → Reading h e₀ p₀ part (withLast e (r .last)) (r .next)
-reading-entries h e₀ p₀ part e i r here read =
+pub reading-body : (h : Head) (e₀ : Earlier) (p₀ : ℕ) (part : List ℕ) (e : Earlier) (i : ℕ) (r : Body) → Reading h e₀ p₀ part e i
+    → BodyRead h part e i r → Reading h e₀ p₀ part (withLast e (r .last)) (r .next)
+reading-body h e₀ p₀ part e i r here read =
     record {
       within = read .within;
       steps = omega (arith, here .steps, read .low);
       sequences = omega (arith, here .sequences, read .low);
-      same = sym (read .same e p₀) ∙ here .same;
+      same = sym (read .same p₀) ∙ here .same;
     }
 
 -- ---- the walk is the scan

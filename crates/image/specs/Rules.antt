@@ -74,6 +74,9 @@ entryRight h last w =
 abbrev pub alternativeRight : Earlier → ℕ → Bool
 alternativeRight e w = eqb w (7 * 2 ^ 28) && ltb 0 (e .sequences)
 
+abbrev pub bodyRight : Head → Earlier → ℕ → ℕ → Bool
+bodyRight h e last w = entryRight h last w || alternativeRight e w
+
 abbrev pub stepRight : Head → Earlier → ℕ → Bool
 stepRight h e w = isKind 5 w && eqb (e .sequences) 0 && eqb (payload w) (e .steps) && ltb (payload w) (h .steps)
 

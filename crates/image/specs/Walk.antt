@@ -15,7 +15,7 @@ use Rattle.image.specs.declared.answer.Refusal.the-variants.{Missing}
 use Rattle.image.specs.declared.answer.Checked.{Checked}
 use Rattle.image.specs.declared.answer.Checked.the-variants.{Accepted, Refused}
 use Rattle.image.specs.declared.rules.Earlier.{Earlier}
-use Rattle.image.specs.declared.check.Entries.{Entries}
+use Rattle.image.specs.declared.check.Body.{Body}
 use Rattle.image.specs.declared.check.Steps.{Steps}
 use Rattle.image.specs.declared.check.Steps.the-variants as steps
 
@@ -54,8 +54,8 @@ pub record StepsRead (h : Head) (first : ℕ) (part : List ℕ) (r : Steps) : Ty
 abbrev pub withLast : Earlier → ℕ → Earlier
 withLast e last = record { steps = e .steps; sequences = e .sequences; last = last }
 
--- what the reader of entries promises: the answer from where it stopped is the answer from where it began
-pub record EntriesRead (h : Head) (part : List ℕ) (last at : ℕ) (r : Entries) : Type 0 where
+-- what the reader of a sequence's words promises: the answer from where it stopped is the answer from where it began
+pub record BodyRead (h : Head) (part : List ℕ) (e : Earlier) (at : ℕ) (r : Body) : Type 0 where
   pub low : at ≤ r .next
   pub within : r .next ≤ length part
-  pub same : (e : Earlier) (p : ℕ) → walk h (withLast e last) (p + at) (drop at part) ≡ walk h (withLast e (r .last)) (p + r .next) (drop (r .next) part)
+  pub same : (p : ℕ) → walk h e (p + at) (drop at part) ≡ walk h (withLast e (r .last)) (p + r .next) (drop (r .next) part)

@@ -4,7 +4,7 @@ use crate::answer::Head;
 use crate::answer::Refusal;
 use crate::rules::Earlier;
 use crate::rules::Fault;
-use crate::rules::entry_right;
+use crate::rules::body_right;
 use crate::rules::fault_at;
 use crate::rules::past;
 use crate::word::head_of;
@@ -15,7 +15,7 @@ ghost use mathlib.Core.Path.{_≡_};
 ghost use Prim.Native.Nat.{_+_, _≤_, _<_};
 ghost use lib.ListN.{length};
 ghost use Rattle.image.specs.Checked.{checked};
-ghost use Rattle.image.specs.Walk.{walk, ended, opening, StepsRead, withLast, EntriesRead};
+ghost use Rattle.image.specs.Walk.{walk, ended, opening, StepsRead, withLast, BodyRead};
 ghost use Rattle.image.specs.Word.{headOf};
 
 // Where the reader of the steps' part stopped: at a refusal, or at the part's word with this index, the first sequence or the part's
@@ -71,28 +71,28 @@ fn with_last(e: Earlier, last: u32) -> Earlier
     }
 }
 
-// Where the reader of entries stopped: the word before, and its index.
-pub struct Entries {
+// Where the reader of a sequence's words stopped: the word before, and the index.
+pub struct Body {
     pub last: u32,
     pub next: usize,
 }
 
-// Reads the entries that stand from index `at` on and are right, after a word `last`.
-fn read_entries(h: Head, last: u32, part: &[u32], at: usize) -> Entries
+// Reads the alternatives and entries that stand from index `at` on and are right: of such words there are most.
+fn read_body(h: Head, e: Earlier, part: &[u32], at: usize) -> Body
     requires { ⌜ at ≤ length (now part) ⌝ }
-    ensures { λ r. ⌜ EntriesRead h (now (part .entry)) last at r ⌝ }
+    ensures { λ r. ⌜ BodyRead h (now (part .entry)) e at r ⌝ }
 {
-    let mut l = last;
+    let mut l = e.last;
     let mut i = at;
     while i < part.len() {
         let w = part[i];
-        if !entry_right(h, l, w) {
-            return Entries { last: l, next: i };
+        if !body_right(h, e, l, w) {
+            return Body { last: l, next: i };
         }
         l = w;
         i += 1;
     }
-    Entries { last: l, next: i }
+    Body { last: l, next: i }
 }
 
 // Reads the sequences' part, which begins at position `at`, to its end.
@@ -108,9 +108,9 @@ fn read_sequences(h: Head, before: Earlier, at: usize, part: &[u32]) -> Checked
             return Checked::Refused(r);
         }
         e = past(e, w);
-        let run = read_entries(h, e.last, part, i + 1);
-        e = with_last(e, run.last);
-        i = run.next;
+        let body = read_body(h, e, part, i + 1);
+        e = with_last(e, body.last);
+        i = body.next;
     }
     ended_at(h, e, (at + i) as u32)
 }

@@ -4,7 +4,7 @@ use crate::answer::Refusal;
 ghost use mathlib.Core.Path.{_≡_};
 ghost use mathlib.Core.Bool.{true};
 ghost use Prim.Native.Nat.{ℕ, _+_, _<_};
-ghost use Rattle.image.specs.Rules.{mayStand, payloadRight, inOrder, entryRight, alternativeRight, stepRight, factRight, faultAt};
+ghost use Rattle.image.specs.Rules.{mayStand, payloadRight, inOrder, entryRight, alternativeRight, bodyRight, stepRight, factRight, faultAt};
 ghost use Rattle.image.specs.declared.rules.Fault.the-variants.{Nothing};
 ghost use Rattle.image.specs.Walk.{after};
 
@@ -58,7 +58,7 @@ fn in_order(e: Earlier, w: u32) -> bool
 }
 
 // Whether a word of kind 8 or 9 is right: an entry after a kind 7 or another entry that names what the head counts.
-pub fn entry_right(h: Head, last: u32, w: u32) -> bool
+fn entry_right(h: Head, last: u32, w: u32) -> bool
     ensures { λ r. ⌜ r ≡ entryRight h last w ⌝ }
 {
     let k = w / 268435456;
@@ -73,6 +73,15 @@ fn alternative_right(e: Earlier, w: u32) -> bool
     ensures { λ r. ⌜ r ≡ alternativeRight e w ⌝ }
 {
     (w == 1879048192) & (0 < e.sequences)
+}
+
+// Whether a word of kind 7, 8 or 9 is right after a word `last`.
+pub fn body_right(h: Head, e: Earlier, last: u32, w: u32) -> bool
+    ensures { λ r. ⌜ r ≡ bodyRight h e last w ⌝ }
+{
+    let entry = entry_right(h, last, w);
+    let alternative = alternative_right(e, w);
+    entry | alternative
 }
 
 // Whether a word of kind 5 is right.

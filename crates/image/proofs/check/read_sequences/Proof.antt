@@ -6,13 +6,13 @@ use Prim.Native.Nat.{_+_, _-_}
 use mathlib.Core.Path.{sym, _∙_}
 use lib.ListN.{length, getD}
 use Rattle.image.specs.Walk.{after}
-use Rattle.image.proofs.Walk.{Reading, reading-start, reading-turn, reading-refused, reading-end, reading-entries}
+use Rattle.image.proofs.Walk.{Reading, reading-start, reading-turn, reading-refused, reading-end, reading-body}
 use Rattle.image.proofs.check.read_sequences.Statement.{statement}
 use Rattle.image.proofs.check.read_sequences.Tie as tie
 use Rattle.image.proofs.check.read_sequences.Reads as reads
 use Rattle.image.proofs.check.read_sequences.Lts as lts
 use Rattle.image.proofs.check.ended_at.Reads as ended-at-reads
-use Rattle.image.proofs.check.read_entries.Reads as read-entries-reads
+use Rattle.image.proofs.check.read_body.Reads as read-body-reads
 use Rattle.image.proofs.check.with_last.Reads as with-last-reads
 use Rattle.image.proofs.rules.fault_at.Reads as fault-at-reads
 use Rattle.image.proofs.rules.past.Reads as past-reads
@@ -59,11 +59,11 @@ enum-told c = search needs
 past-requires : tie.Need-past-requires Inv-loop μ-loop
 past-requires c κs = search needs
 
-add-read-entries : tie.Need-add-read-entries Inv-loop μ-loop
-add-read-entries c = search needs
+add-read-body : tie.Need-add-read-body Inv-loop μ-loop
+add-read-body c = search needs
 
-read-entries-requires : tie.Need-read-entries-requires Inv-loop μ-loop
-read-entries-requires c κs = omega (arith, c .before .before .before .before .before .loop-test .taken)
+read-body-requires : tie.Need-read-body-requires Inv-loop μ-loop
+read-body-requires c κs = omega (arith, c .before .before .before .before .before .loop-test .taken)
 
 with-last-requires : tie.Need-with-last-requires Inv-loop μ-loop
 with-last-requires c κs = search needs
@@ -71,7 +71,7 @@ with-last-requires c κs = search needs
 loop-less : tie.Need-loop-less Inv-loop μ-loop
 loop-less c =
     let turn = c .before .before .before .before .before .before .before in
-    omega (arith, turn .loop-test .taken, c .before .read-entries .ensures .low)
+    omega (arith, turn .loop-test .taken, c .before .read-body .ensures .low)
 
 loop-again : tie.Need-loop-again Inv-loop μ-loop
 loop-again c =
@@ -85,8 +85,8 @@ loop-again c =
     reading-turn (a .h) (a .before) (a .at) (a .part .now) (at-loop .loop .e) (at-loop .loop .i) (omega arith) (at-loop .loop .inv)
     (sym (told .enum-told .given .1) ∙ judged .fault-at .ensures) in
     rw (c .with-last .ensures, read .before .past .ensures)
-    (reading-entries (a .h) (a .before) (a .at) (a .part .now) (after (at-loop .loop .e) w) (at-loop .loop .i + 1) (read .read-entries .result) next
-    (rw (read .before .past .ensures) at (read .read-entries .ensures)))
+    (reading-body (a .h) (a .before) (a .at) (a .part .now) (after (at-loop .loop .e) w) (at-loop .loop .i + 1) (read .read-body .result) next
+    (rw (read .before .past .ensures) at (read .read-body .ensures)))
 
 add-ended-at : tie.Need-add-ended-at Inv-loop μ-loop
 add-ended-at c = search needs
@@ -120,8 +120,8 @@ read-sequences-spec =
     returns
     enum-told
     past-requires
-    add-read-entries
-    read-entries-requires
+    add-read-body
+    read-body-requires
     with-last-requires
     loop-less
     loop-again

@@ -1,4 +1,4 @@
--- `image::check::read_entries` meets its contract: the answer from here is the answer from where it began.
+-- `image::check::read_body` meets its contract: the answer from here is the answer from where it began.
 -- Assumes nothing.
 use borrow.Author.Needs.{needs}
 use borrow.Author.Tests.{not-true, not-false}
@@ -7,20 +7,20 @@ use mathlib.Core.Path.{refl, sym, _∙_}
 use Prim.Native.Nat.{_-_}
 use lib.ListN.{length}
 use Rattle.image.proofs.Walk.{Skipping, skipping-turn}
-use Rattle.image.proofs.check.read_entries.Statement.{statement}
-use Rattle.image.proofs.check.read_entries.Tie as tie
-use Rattle.image.proofs.check.read_entries.Reads as reads
-use Rattle.image.proofs.check.read_entries.Lts as lts
-use Rattle.image.proofs.rules.entry_right.Reads as entry-right-reads
+use Rattle.image.proofs.check.read_body.Statement.{statement}
+use Rattle.image.proofs.check.read_body.Tie as tie
+use Rattle.image.proofs.check.read_body.Reads as reads
+use Rattle.image.proofs.check.read_body.Lts as lts
+use Rattle.image.proofs.rules.body_right.Reads as body-right-reads
 
 abbrev Inv-loop : tie.InvT-loop
-Inv-loop h last part at l₀ i₀ l i = Skipping h part last at l i
+Inv-loop h e part at l₀ i₀ l i = Skipping h part e at l i
 
 abbrev μ-loop : tie.MeasureT-loop
-μ-loop h last part at l₀ i₀ l i = length part - i
+μ-loop h e part at l₀ i₀ l i = length part - i
 
 loop-holds : tie.Need-loop-holds Inv-loop μ-loop
-loop-holds c = record { low = omega arith; within = c .before .pre; same = λ e p. refl }
+loop-holds c = record { low = omega arith; within = c .before .pre; same = λ p. refl }
 
 mul-w : tie.Need-mul-w Inv-loop μ-loop
 mul-w c = search needs
@@ -28,8 +28,8 @@ mul-w c = search needs
 shared-slice-read-w : tie.Need-shared-slice-read-w Inv-loop μ-loop
 shared-slice-read-w c = search needs
 
-entry-right-requires : tie.Need-entry-right-requires Inv-loop μ-loop
-entry-right-requires c κs = search needs
+body-right-requires : tie.Need-body-right-requires Inv-loop μ-loop
+body-right-requires c κs = search needs
 
 returns : tie.Need-returns Inv-loop μ-loop
 returns c =
@@ -49,8 +49,8 @@ loop-again c =
     let turn = word .before .before in
     let at-loop = turn .before in
     let a = at-loop .before .before .args in
-    skipping-turn (a .h) (a .part .now) (a .last) (a .at) (at-loop .loop .l) (at-loop .loop .i) (turn .loop-test .taken)
-    (sym (word .entry-right .ensures) ∙ not-false _ (c .if1 .left)) (at-loop .loop .inv)
+    skipping-turn (a .h) (a .part .now) (a .e) (a .at) (at-loop .loop .l) (at-loop .loop .i) (turn .loop-test .taken)
+    (sym (word .body-right .ensures) ∙ not-false _ (c .if1 .left)) (at-loop .loop .inv)
 
 returns-2 : tie.Need-returns-2 Inv-loop μ-loop
 returns-2 c =
@@ -58,8 +58,8 @@ returns-2 c =
     let here = at-loop .loop .inv in
     record { low = here .low; within = here .within; same = here .same }
 
-pub read-entries-spec : {M : Type 1} → statement M
-read-entries-spec =
+pub read-body-spec : {M : Type 1} → statement M
+read-body-spec =
     tie.close
     (tie.spec
     Inv-loop
@@ -67,7 +67,7 @@ read-entries-spec =
     loop-holds
     mul-w
     shared-slice-read-w
-    entry-right-requires
+    body-right-requires
     returns
     add-i
     loop-less
