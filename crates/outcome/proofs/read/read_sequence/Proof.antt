@@ -16,10 +16,10 @@ use Rattle.outcome.proofs.row.none.Reads as none-reads
 use Rattle.outcome.proofs.row.united.Reads as united-reads
 
 abbrev Inv-loop : tie.InvT-loop
-Inv-loop all masks table part at x₀ i₀ x i = Uniting all masks table part at x i
+Inv-loop all steps table part at x₀ i₀ x i = Uniting all steps table part at x i
 
 abbrev μ-loop : tie.MeasureT-loop
-μ-loop all masks table part at x₀ i₀ x i = length part - i
+μ-loop all steps table part at x₀ i₀ x i = length part - i
 
 none-requires : tie.Need-none-requires Inv-loop μ-loop
 none-requires c κs = search needs
@@ -28,7 +28,7 @@ loop-holds : tie.Need-loop-holds Inv-loop μ-loop
 loop-holds c =
     let start = c .before .before .before .before in
     let a = start .args in
-    rw (c .none .ensures) (uniting-start (a .all) (a .masks .now) (a .table .now) (a .part .now) (a .at) (start .pre .1))
+    rw (c .none .ensures) (uniting-start (a .all) (a .steps .now) (a .table .now) (a .part .now) (a .at) (start .pre .1))
 
 mul-w : tie.Need-mul-w Inv-loop μ-loop
 mul-w c = search needs
@@ -43,7 +43,7 @@ returns : tie.Need-returns Inv-loop μ-loop
 returns c =
     let at-loop = c .before .before .before .before in
     let a = at-loop .before .before .before .before .before .args in
-    uniting-out (a .all) (a .masks .now) (a .table .now) (a .part .now) (a .at) (at-loop .loop .x) (at-loop .loop .i) (at-loop .loop .inv) (omega arith)
+    uniting-out (a .all) (a .steps .now) (a .table .now) (a .part .now) (a .at) (at-loop .loop .x) (at-loop .loop .i) (at-loop .loop .inv) (omega arith)
     (sym (c .before .is-kind .ensures) ∙ c .if1 .taken)
 
 add-i : tie.Need-add-i Inv-loop μ-loop
@@ -71,7 +71,7 @@ loop-again c =
     let at-loop = sequence .before .before .before in
     let a = at-loop .before .before .before .before .before .args in
     rw (c .united .ensures)
-    (uniting-turn (a .all) (a .masks .now) (a .table .now) (a .part .now) (a .at) (at-loop .loop .x) (at-loop .loop .i) (at-loop .loop .inv) (omega arith)
+    (uniting-turn (a .all) (a .steps .now) (a .table .now) (a .part .now) (a .at) (at-loop .loop .x) (at-loop .loop .i) (at-loop .loop .inv) (omega arith)
     (sym (sequence .is-kind .ensures) ∙ alternative .before .if1 .left) (sym (alternative .is-kind2 .ensures) ∙ read .before .if2 .taken)
     (read .read-alternative .result) (read .read-alternative .ensures))
 
@@ -84,14 +84,14 @@ loop-again-2 c =
     let sequence = alternative .before .before in
     let at-loop = sequence .before .before .before in
     let a = at-loop .before .before .before .before .before .args in
-    uniting-skip (a .all) (a .masks .now) (a .table .now) (a .part .now) (a .at) (at-loop .loop .x) (at-loop .loop .i) (at-loop .loop .inv) (omega arith)
+    uniting-skip (a .all) (a .steps .now) (a .table .now) (a .part .now) (a .at) (at-loop .loop .x) (at-loop .loop .i) (at-loop .loop .inv) (omega arith)
     (sym (sequence .is-kind .ensures) ∙ alternative .before .if1 .left) (sym (alternative .is-kind2 .ensures) ∙ c .if2 .left)
 
 returns-2 : tie.Need-returns-2 Inv-loop μ-loop
 returns-2 c =
     let at-loop = c .before in
     let a = at-loop .before .before .before .before .before .args in
-    uniting-end (a .all) (a .masks .now) (a .table .now) (a .part .now) (a .at) (at-loop .loop .x) (at-loop .loop .i) (at-loop .loop .inv) (omega arith)
+    uniting-end (a .all) (a .steps .now) (a .table .now) (a .part .now) (a .at) (at-loop .loop .x) (at-loop .loop .i) (at-loop .loop .inv) (omega arith)
 
 pub read-sequence-spec : {M : Type 1} → statement M
 read-sequence-spec =
