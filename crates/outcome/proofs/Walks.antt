@@ -1,6 +1,7 @@
 -- The loops over a sequence's words: what holds at the head of each, a turn, and the ways out.
 -- Assumes nothing.
 use Prim.Native.Nat.{ℕ, suc, _+_, _*_, _≤_, _<_}
+use native.Mathlib.Decide.{decLt}
 use native.Mathlib.Omega.{arith}
 use native.Mathlib.Numerals.{add-one}
 use mathlib.Core.Path.{_≡_, refl, sym, ap, _∙_}
@@ -13,7 +14,7 @@ use borrow.Author.Tests.{eqb-true, eqb-false, eq-eqb, ne-eqb}
 use Rattle.image.specs.Word.{kind, payload, isKind, isEntry}
 use Rattle.image.proofs.Bools.{or-cases}
 use Rattle.outcome.specs.Words.{noRow, startRow, joinRows, orRows, liveRow}
-use Rattle.outcome.specs.Walks.{Within, Readable, entryWord, foldWords, alternativeWords, sequenceWords, AlternativeRead}
+use Rattle.outcome.specs.Walks.{Within, Readable, entryWord, foldWords, alternativeWords, sequenceWords, AlternativeRead, NoEntry}
 use Rattle.outcome.specs.declared.row.Row.{Row}
 use Rattle.outcome.specs.declared.read.Read.{Read}
 
@@ -84,6 +85,21 @@ module _ (all : ℕ) (steps table part : List ℕ) where
     pub folding-end : i ≡ length part → liveRow x ≡ alternativeWords all steps table (drop at part)
     unfolding alternativeWords foldWords
     folding-end l = ap liveRow (sym (ap (foldWords steps table x) (ap (λ (n : ℕ). drop n part) l ∙ drop-length part)) ∙ here .same)
+
+  -- an alternative without entries
+  pub empty-read : (at : ℕ) → at ≤ length part → NoEntry part at → AlternativeRead all steps table part at (record { row = liveRow (startRow all); next = at })
+  empty-read at l none =
+      let here = folding-start at l in
+      record {
+        row =
+            elim (decLt at (length part)) [
+              | yes u ↦ folding-out at (startRow all) at here u (none u)
+              | no u ↦ folding-end at (startRow all) at here (omega arith)
+            ];
+        low = here .low;
+        within = l;
+        skips = here .skips;
+      }
 
   -- ---- the alternatives of a sequence
 

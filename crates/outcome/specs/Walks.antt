@@ -2,7 +2,7 @@
 -- right, and the alternatives of a sequence are united. What each gives for a fact is what `Rows` says, which `proofs/` shows.
 use Prim.Native.Nat.{ℕ, suc, _+_, _*_, _≤_, _<_}
 use mathlib.Core.Path.{_≡_}
-use mathlib.Core.Bool.{Bool, true, cond}
+use mathlib.Core.Bool.{Bool, true, false, cond}
 use mathlib.Core.List.{List, [], _∷_}
 use lib.ListN.{length, getD, drop}
 use Rattle.image.specs.Word.{kind, payload, isKind, isEntry}
@@ -17,6 +17,10 @@ Within steps table w = (kind w ≡ 8 → 8 * payload w + 8 ≤ length steps) × 
 -- so of each word
 abbrev pub Readable : List ℕ → List ℕ → List ℕ → Type 0
 Readable steps table part = (i : ℕ) → i < length part → Within steps table (getD part i 0)
+
+-- no entry stands at index i
+abbrev pub NoEntry : List ℕ → ℕ → Type 0
+NoEntry part i = i < length part → isEntry (getD part i 0) ≡ false
 
 module _ (steps table : List ℕ) where
   -- the row of an entry

@@ -10,12 +10,12 @@ use image::word::is_entry;
 use image::word::is_kind;
 use image::word::payload_of;
 ghost use mathlib.Core.Path.{_≡_};
-ghost use mathlib.Core.Bool.{true};
+ghost use mathlib.Core.Bool.{true, false};
 ghost use Prim.Native.Nat.{_+_, _*_, _≤_, _<_};
 ghost use lib.ListN.{length, drop};
 ghost use Rattle.image.specs.Word.{isEntry};
 ghost use Rattle.outcome.specs.Words.{noRow};
-ghost use Rattle.outcome.specs.Walks.{Within, Readable, entryWord, sequenceWords, AlternativeRead};
+ghost use Rattle.outcome.specs.Walks.{Within, Readable, entryWord, sequenceWords, AlternativeRead, NoEntry};
 
 // The row of an alternative, and the index of the word after its entries.
 pub struct Read {
@@ -58,7 +58,18 @@ fn read_alternative(all: u64, steps: &[u64], table: &[u64], part: &[u32], at: us
     }
 }
 
-// Unites the alternatives that stand from index `at` on, up to the next sequence.
+// Whether an entry stands at index `at`.
+fn entry_at(part: &[u32], at: usize) -> bool
+    ensures { λ r. ⌜ (r ≡ false → NoEntry (now (part .entry)) at) ⌝ }
+{
+    if at < part.len() {
+        return is_entry(part[at]);
+    }
+    false
+}
+
+// Unites the alternatives that stand from index `at` on, up to the next sequence. An alternative without entries, of which there are many, has
+// the row that reading begins with.
 pub fn read_sequence(all: u64, steps: &[u64], table: &[u64], part: &[u32], at: usize) -> Row
     requires { ⌜ Readable (now steps) (now table) (now part) × (at ≤ length (now part)) ⌝ }
     ensures { λ r. ⌜ r ≡ sequenceWords all (now (steps .entry)) (now (table .entry)) noRow (drop at (now (part .entry))) ⌝ }
@@ -72,10 +83,14 @@ pub fn read_sequence(all: u64, steps: &[u64], table: &[u64], part: &[u32], at: u
         }
         i += 1;
         if is_kind(7, w) {
-            let r = read_alternative(all, steps, table, part, i);
-            let row = r.row;
-            x = united(x, row);
-            i = r.next;
+            if entry_at(part, i) {
+                let r = read_alternative(all, steps, table, part, i);
+                let row = r.row;
+                x = united(x, row);
+                i = r.next;
+            } else {
+                x = united(x, live(start(all)));
+            }
         }
     }
     x

@@ -3,16 +3,19 @@
 use borrow.Author.Needs.{needs}
 use native.Mathlib.Omega.{arith}
 use mathlib.Core.Path.{sym, ap, _∙_}
-use Prim.Native.Nat.{_-_}
+use Prim.Native.Nat.{_+_, _-_}
 use lib.ListN.{length}
-use Rattle.outcome.proofs.Walks.{Uniting, uniting-start, uniting-out, uniting-end, uniting-skip, uniting-turn}
+use Rattle.outcome.proofs.Walks.{Uniting, empty-read, uniting-start, uniting-out, uniting-end, uniting-skip, uniting-turn}
 use Rattle.outcome.proofs.read.read_sequence.Statement.{statement}
 use Rattle.outcome.proofs.read.read_sequence.Tie as tie
 use Rattle.outcome.proofs.read.read_sequence.Reads as reads
 use Rattle.outcome.proofs.read.read_sequence.Lts as lts
 use Rattle.image.proofs.word.is_kind.Reads as is-kind-reads
+use Rattle.outcome.proofs.read.entry_at.Reads as entry-at-reads
 use Rattle.outcome.proofs.read.read_alternative.Reads as read-alternative-reads
+use Rattle.outcome.proofs.row.live.Reads as live-reads
 use Rattle.outcome.proofs.row.none.Reads as none-reads
+use Rattle.outcome.proofs.row.start.Reads as start-reads
 use Rattle.outcome.proofs.row.united.Reads as united-reads
 
 abbrev Inv-loop : tie.InvT-loop
@@ -52,34 +55,64 @@ add-i c = let turn = c .before .before .before in omega (arith, turn .loop-test 
 is-kind-requires-2 : tie.Need-is-kind-requires-2 Inv-loop μ-loop
 is-kind-requires-2 c κs = search needs
 
+entry-at-requires : tie.Need-entry-at-requires Inv-loop μ-loop
+entry-at-requires c κs = search needs
+
 read-alternative-requires : tie.Need-read-alternative-requires Inv-loop μ-loop
 read-alternative-requires c κs =
-    let turn = c .before .before .before .before .before in
+    let turn = c .before .before .before .before .before .before .before in
     (turn .before .before .before .before .before .before .pre .0, omega (arith, turn .loop-test .taken))
 
 united-requires : tie.Need-united-requires Inv-loop μ-loop
 united-requires c κs = search needs
 
 loop-less : tie.Need-loop-less Inv-loop μ-loop
-loop-less c = omega (arith, c .before .before .read-alternative .ensures, c .before .before .before .before .before .before .before .before .loop-test .taken)
+loop-less c =
+    let read = c .before .before in
+    omega (arith, read .read-alternative .ensures, read .before .before .before .before .before .before .before .before .loop-test .taken)
 
 loop-again : tie.Need-loop-again Inv-loop μ-loop
 loop-again c =
     let read = c .before .before in
-    let alternative = read .before .before in
+    let alternative = read .before .before .before .before in
     let sequence = alternative .before .before in
     let at-loop = sequence .before .before .before in
     let a = at-loop .before .before .before .before .before .args in
     rw (c .united .ensures)
     (uniting-turn (a .all) (a .steps .now) (a .table .now) (a .part .now) (a .at) (at-loop .loop .x) (at-loop .loop .i) (at-loop .loop .inv) (omega arith)
-    (sym (sequence .is-kind .ensures) ∙ alternative .before .if1 .left) (sym (alternative .is-kind2 .ensures) ∙ read .before .if2 .taken)
+    (sym (sequence .is-kind .ensures) ∙ alternative .before .if1 .left) (sym (alternative .is-kind2 .ensures) ∙ read .before .before .before .if2 .taken)
     (read .read-alternative .result) (read .read-alternative .ensures))
+
+start-requires : tie.Need-start-requires Inv-loop μ-loop
+start-requires c κs = search needs
+
+live-requires : tie.Need-live-requires Inv-loop μ-loop
+live-requires c κs = search needs
+
+united-requires-2 : tie.Need-united-requires-2 Inv-loop μ-loop
+united-requires-2 c κs = search needs
 
 loop-less-2 : tie.Need-loop-less-2 Inv-loop μ-loop
 loop-less-2 c = search needs
 
 loop-again-2 : tie.Need-loop-again-2 Inv-loop μ-loop
 loop-again-2 c =
+    let live = c .before in
+    let none = live .before .before in
+    let alternative = none .before .before .before in
+    let sequence = alternative .before .before in
+    let at-loop = sequence .before .before .before in
+    let a = at-loop .before .before .before .before .before .args in
+    rw (c .united2 .ensures, live .live .ensures, live .before .start .ensures)
+    (uniting-turn (a .all) (a .steps .now) (a .table .now) (a .part .now) (a .at) (at-loop .loop .x) (at-loop .loop .i) (at-loop .loop .inv) (omega arith)
+    (sym (sequence .is-kind .ensures) ∙ alternative .before .if1 .left) (sym (alternative .is-kind2 .ensures) ∙ none .before .before .if2 .taken) _
+    (empty-read (a .all) (a .steps .now) (a .table .now) (a .part .now) (at-loop .loop .i + 1) (omega arith) (none .before .entry-at .ensures (none .if3 .left))))
+
+loop-less-3 : tie.Need-loop-less-3 Inv-loop μ-loop
+loop-less-3 c = search needs
+
+loop-again-3 : tie.Need-loop-again-3 Inv-loop μ-loop
+loop-again-3 c =
     let alternative = c .before in
     let sequence = alternative .before .before in
     let at-loop = sequence .before .before .before in
@@ -107,10 +140,16 @@ read-sequence-spec =
     returns
     add-i
     is-kind-requires-2
+    entry-at-requires
     read-alternative-requires
     united-requires
     loop-less
     loop-again
+    start-requires
+    live-requires
+    united-requires-2
     loop-less-2
     loop-again-2
+    loop-less-3
+    loop-again-3
     returns-2)
