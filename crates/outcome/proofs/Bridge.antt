@@ -24,7 +24,7 @@ use Rattle.outcome.specs.Execution.{stepOf, noStep}
 use Rattle.outcome.specs.Rows.{entryRow, foldRow, readRow, joinRow, touchRow}
 use Rattle.outcome.specs.Rows as rows
 use Rattle.outcome.specs.Words.{allFacts, startRow, stepRow, joinRows, orRows, liveRow, rowIn, isSet, bitRow}
-use Rattle.outcome.specs.Walks.{maskRow, entryWord, foldWords, alternativeWords, sequenceWords}
+use Rattle.outcome.specs.Walks.{entryWord, foldWords, alternativeWords, sequenceWords}
 use Rattle.outcome.specs.declared.row.Row.{Row}
 use Rattle.outcome.proofs.Rows.{stepRow-touch, join-agree, fold-agree}
 use Rattle.outcome.proofs.Walks.{fold-cons, united-cons}
@@ -54,13 +54,13 @@ set-byte false = refl
 mask-set : (facts : List ℕ) (f : ℕ) → f < 64 → isSet (maskOf facts) f ≡ has f facts
 mask-set facts f l = ap (λ (n : ℕ). eqb n 1) (mask-bit facts f l) ∙ set-byte (has f facts)
 
--- the table of masks has the words of each step
-abbrev pub Masked : Library → List ℕ → Type 0
-Masked L masks =
-    (a : ℕ) → a < length (L .steps)
-    → (getD masks (3 * a) 0 ≡ maskOf (stepOf L a .needs))
-    × (getD masks (3 * a + 1) 0 ≡ maskOf (stepOf L a .sets))
-    × (getD masks (3 * a + 2) 0 ≡ maskOf (stepOf L a .clears))
+-- the row of a step, by its lists of facts
+abbrev pub rowOfStep : ℕ → Step → Row
+rowOfStep all s = stepRow all (maskOf (s .needs)) (maskOf (s .sets)) (maskOf (s .clears))
+
+-- the table has the row of each step
+abbrev pub Stepped : Library → List ℕ → Type 0
+Stepped L steps = (a : ℕ) → a < length (L .steps) → rowIn steps a ≡ rowOfStep (allFacts (L .facts)) (stepOf L a)
 
 -- what a table of words says of fact f
 abbrev pub tableBits : List ℕ → ℕ → ℕ → rows.Row
@@ -69,7 +69,7 @@ tableBits table f c = bitRow (rowIn table c) f
 not-entry : (w : ℕ) → kind w < 8 → isEntry w ≡ false
 not-entry w l = ap₂ _||_ (ne-eqb (kind w) 8 (λ q. omega arith)) (ne-eqb (kind w) 9 (λ q. omega arith))
 
-module _ (L : Library) (h : Head) (masks table : List ℕ) (narrow : L .facts ≤ 64) (counted : length (L .steps) ≡ h .steps) (masked : Masked L masks)
+module _ (L : Library) (h : Head) (steps table : List ℕ) (narrow : L .facts ≤ 64) (counted : length (L .steps) ≡ h .steps) (stepped : Stepped L steps)
     (f : ℕ) (below : f < L .facts) where
   all : ℕ
   all = allFacts (L .facts)
@@ -79,13 +79,12 @@ module _ (L : Library) (h : Head) (masks table : List ℕ) (narrow : L .facts �
   Agree X R = (j : ℕ) → j < 8 → bitRow X f j ≡ R j
 
   -- a step's row
-  mask-row : (a : ℕ) → a < length (L .steps) → Agree (maskRow all masks a) (rows.stepRow L f a)
-  unfolding all Agree
-  mask-row a l j k =
-      let m = masked a l in
+  step-row : (a : ℕ) → a < length (L .steps) → Agree (rowIn steps a) (rows.stepRow L f a)
+  unfolding Agree
+  step-row a l j k =
       let s = stepOf L a in
       let lt : f < 64 = omega arith in
-      ap (λ (r : Row). bitRow r f j) (λ i. stepRow (allFacts (L .facts)) (m .0 i) (m .1 i) (m .2 i))
+      ap (λ (r : Row). bitRow r f j) (stepped a l)
       ∙ step-bits (L .facts) (maskOf (s .needs)) (maskOf (s .sets)) (maskOf (s .clears)) f below narrow (mask-lt (s .needs)) (mask-lt (s .sets))
       (mask-lt (s .clears)) j k
       ∙ ap (λ (b : Bool). touchRow b (isSet (maskOf (s .sets)) f) (isSet (maskOf (s .clears)) f) j) (mask-set (s .needs) f lt)
@@ -100,7 +99,7 @@ module _ (L : Library) (h : Head) (masks table : List ℕ) (narrow : L .facts �
 
   -- the entries of an alternative
   fold-bits : (ws : List ℕ) → All (SequenceWord h) ws → (X : Row) (R : rows.Row) → Agree X R
-      → Agree (foldWords all masks table X ws) (foldRow L f (tableBits table f) R (entriesFrom ws))
+      → Agree (foldWords steps table X ws) (foldRow L f (tableBits table f) R (entriesFrom ws))
   unfolding Agree foldWords foldRow
   fold-bits [] a X R same j k = same j k ∙ ap (λ (es : List Entry). foldRow L f (tableBits table f) R es j) (sym entries-nil)
   fold-bits (w ∷ ws) a X R same j k = go (sort h w (a .0)) (λ (Y : Row) (S : rows.Row). fold-bits ws (a .1) (joinRows X Y) (joinRow R S))
@@ -108,47 +107,47 @@ module _ (L : Library) (h : Head) (masks table : List ℕ) (narrow : L .facts �
       T : rows.Row → List Entry → Bool
       T S es = foldRow L f (tableBits table f) S es j
 
-      out : kind w < 8 → bitRow (foldWords all masks table X (w ∷ ws)) f j ≡ T R (entriesFrom (w ∷ ws))
+      out : kind w < 8 → bitRow (foldWords steps table X (w ∷ ws)) f j ≡ T R (entriesFrom (w ∷ ws))
       out l =
-          ap (λ (r : Row). bitRow r f j) (fold-cons all masks table X w ws false (not-entry w l))
+          ap (λ (r : Row). bitRow r f j) (fold-cons steps table X w ws false (not-entry w l))
           ∙ same j k ∙ ap (T R) (sym (entries-end w ws l))
 
-      on : (Y : Row) (S : rows.Row) (e : Entry) → isEntry w ≡ true → entryWord all masks table w ≡ Y → Agree Y S → entryRow L f (tableBits table f) e ≡ S → entriesFrom (w ∷ ws) ≡ e ∷ entriesFrom ws
-          → (Agree (joinRows X Y) (joinRow R S) → Agree (foldWords all masks table (joinRows X Y) ws) (foldRow L f (tableBits table f) (joinRow R S) (entriesFrom ws)))
-          → bitRow (foldWords all masks table X (w ∷ ws)) f j ≡ T R (entriesFrom (w ∷ ws))
+      on : (Y : Row) (S : rows.Row) (e : Entry) → isEntry w ≡ true → entryWord steps table w ≡ Y → Agree Y S → entryRow L f (tableBits table f) e ≡ S → entriesFrom (w ∷ ws) ≡ e ∷ entriesFrom ws
+          → (Agree (joinRows X Y) (joinRow R S) → Agree (foldWords steps table (joinRows X Y) ws) (foldRow L f (tableBits table f) (joinRow R S) (entriesFrom ws)))
+          → bitRow (foldWords steps table X (w ∷ ws)) f j ≡ T R (entriesFrom (w ∷ ws))
       on Y S e entry is agree row reads rest =
-          ap (λ (r : Row). bitRow r f j) (fold-cons all masks table X w ws true entry ∙ ap (λ (y : Row). foldWords all masks table (joinRows X y) ws) is)
+          ap (λ (r : Row). bitRow r f j) (fold-cons steps table X w ws true entry ∙ ap (λ (y : Row). foldWords steps table (joinRows X y) ws) is)
           ∙ rest (join-entry X R Y S same agree) j k
           ∙ ap (λ (s : rows.Row). T (joinRow R s) (entriesFrom ws)) (sym row)
           ∙ ap (T R) (sym reads)
 
       go : Sort w
-          → ((Y : Row) (S : rows.Row) → Agree (joinRows X Y) (joinRow R S) → Agree (foldWords all masks table (joinRows X Y) ws) (foldRow L f (tableBits table f) (joinRow R S) (entriesFrom ws)))
-          → bitRow (foldWords all masks table X (w ∷ ws)) f j ≡ T R (entriesFrom (w ∷ ws))
+          → ((Y : Row) (S : rows.Row) → Agree (joinRows X Y) (joinRow R S) → Agree (foldWords steps table (joinRows X Y) ws) (foldRow L f (tableBits table f) (joinRow R S) (entriesFrom ws)))
+          → bitRow (foldWords steps table X (w ∷ ws)) f j ≡ T R (entriesFrom (w ∷ ws))
       go (opens-sequence e) rest = out (omega arith)
       go (opens-alternative e) rest = out (omega arith)
       go (names-step e) rest =
           let eight = eq-eqb (kind w) 8 e in
-          on (maskRow all masks (payload w)) (rows.stepRow L f (payload w)) (step (payload w)) (ap (λ (b : Bool). b || isKind 9 w) eight)
-          (ap (λ (b : Bool). cond b (maskRow all masks (payload w)) (rowIn table (payload w))) eight)
-          (mask-row (payload w) (omega (arith, a .0 .step e))) refl (entries-step w ws e)
-          (rest (maskRow all masks (payload w)) (rows.stepRow L f (payload w)))
+          on (rowIn steps (payload w)) (rows.stepRow L f (payload w)) (step (payload w)) (ap (λ (b : Bool). b || isKind 9 w) eight)
+          (ap (λ (b : Bool). cond b (rowIn steps (payload w)) (rowIn table (payload w))) eight)
+          (step-row (payload w) (omega (arith, a .0 .step e))) refl (entries-step w ws e)
+          (rest (rowIn steps (payload w)) (rows.stepRow L f (payload w)))
       go (names-sequence e) rest =
           let eight = ne-eqb (kind w) 8 (λ q. omega arith) in
           on (rowIn table (payload w)) (tableBits table f (payload w)) (call (payload w)) (ap₂ _||_ eight (eq-eqb (kind w) 9 e))
-          (ap (λ (b : Bool). cond b (maskRow all masks (payload w)) (rowIn table (payload w))) eight)
+          (ap (λ (b : Bool). cond b (rowIn steps (payload w)) (rowIn table (payload w))) eight)
           (λ j k. refl) refl (entries-call w ws e) (rest (rowIn table (payload w)) (tableBits table f (payload w)))
 
   -- an alternative
-  alternative-bits : (ws : List ℕ) → All (SequenceWord h) ws → Agree (alternativeWords all masks table ws) (readRow L f (tableBits table f) (entriesFrom ws))
+  alternative-bits : (ws : List ℕ) → All (SequenceWord h) ws → Agree (alternativeWords all steps table ws) (readRow L f (tableBits table f) (entriesFrom ws))
   unfolding Agree alternativeWords all
   alternative-bits ws a j k =
       let whole = fold-bits ws a (startRow all) rows.startRow (start-bits (L .facts) f below) in
-      live-bits (foldWords all masks table (startRow all) ws) f j k ∙ ap₂ _&&_ (whole 0 (omega arith)) (whole j k)
+      live-bits (foldWords steps table (startRow all) ws) f j k ∙ ap₂ _&&_ (whole 0 (omega arith)) (whole j k)
 
   -- a sequence: what it has already, or what one of its alternatives gives
   pub sequence-bits : (ws : List ℕ) → All (SequenceWord h) ws → (X : Row) (j : ℕ) → j < 8
-      → bitRow (sequenceWords (allFacts (L .facts)) masks table X ws) f j
+      → bitRow (sequenceWords (allFacts (L .facts)) steps table X ws) f j
       ≡ (bitRow X f j || some (λ (es : List Entry). readRow L f (tableBits table f) es j) (alternativesFrom ws))
   unfolding some sequenceWords Agree all
   sequence-bits [] a X j k = sym (or-false (bitRow X f j)) ∙ ap (λ (alts : List (List Entry)). bitRow X f j || some (λ (es : List Entry). readRow L f (tableBits table f) es j) alts) (sym alternatives-nil)
@@ -158,24 +157,24 @@ module _ (L : Library) (h : Head) (masks table : List ℕ) (narrow : L .facts �
       T alts = some (λ (es : List Entry). readRow L f (tableBits table f) es j) alts
 
       A : Row
-      A = alternativeWords (allFacts (L .facts)) masks table ws
+      A = alternativeWords (allFacts (L .facts)) steps table ws
 
       S : Row → List ℕ → Row
-      S Y us = sequenceWords (allFacts (L .facts)) masks table Y us
+      S Y us = sequenceWords (allFacts (L .facts)) steps table Y us
 
       skip : (kind w ≡ 8) ⊎ (kind w ≡ 9) → bitRow (S X ws) f j ≡ (bitRow X f j || T (alternativesFrom ws)) → bitRow (S X (w ∷ ws)) f j ≡ (bitRow X f j || T (alternativesFrom (w ∷ ws)))
       skip e rest =
           let six : kind w ≡ 6 → ⊥ = ⊎-elim (λ p q. omega arith) (λ p q. omega arith) e in
           let seven : kind w ≡ 7 → ⊥ = ⊎-elim (λ p q. omega arith) (λ p q. omega arith) e in
-          ap (λ (r : Row). bitRow r f j) (united-cons (allFacts (L .facts)) masks table X w ws false false (ne-eqb (kind w) 6 six) (ne-eqb (kind w) 7 seven))
+          ap (λ (r : Row). bitRow r f j) (united-cons (allFacts (L .facts)) steps table X w ws false false (ne-eqb (kind w) 6 six) (ne-eqb (kind w) 7 seven))
           ∙ rest ∙ ap (λ (alts : List (List Entry)). bitRow X f j || T alts) (sym (alternatives-entry w ws e))
 
       go : Sort w → ((Y : Row) → bitRow (S Y ws) f j ≡ (bitRow Y f j || T (alternativesFrom ws))) → bitRow (S X (w ∷ ws)) f j ≡ (bitRow X f j || T (alternativesFrom (w ∷ ws)))
       go (opens-sequence e) rest =
-          ap (λ (r : Row). bitRow r f j) (united-cons (allFacts (L .facts)) masks table X w ws true (isKind 7 w) (eq-eqb (kind w) 6 e) refl)
+          ap (λ (r : Row). bitRow r f j) (united-cons (allFacts (L .facts)) steps table X w ws true (isKind 7 w) (eq-eqb (kind w) 6 e) refl)
           ∙ sym (or-false (bitRow X f j)) ∙ ap (λ (alts : List (List Entry)). bitRow X f j || T alts) (sym (alternatives-end w ws (omega arith)))
       go (opens-alternative e) rest =
-          ap (λ (r : Row). bitRow r f j) (united-cons (allFacts (L .facts)) masks table X w ws false true (ne-eqb (kind w) 6 (λ q. omega arith)) (eq-eqb (kind w) 7 e))
+          ap (λ (r : Row). bitRow r f j) (united-cons (allFacts (L .facts)) steps table X w ws false true (ne-eqb (kind w) 6 (λ q. omega arith)) (eq-eqb (kind w) 7 e))
           ∙ rest (orRows X A)
           ∙ ap (λ (b : Bool). b || T (alternativesFrom ws)) (or-bits X A f j k ∙ ap (λ (b : Bool). bitRow X f j || b) (alternative-bits ws (a .1) j k))
           ∙ or-assoc (bitRow X f j) (readRow L f (tableBits table f) (entriesFrom ws) j) (T (alternativesFrom ws))

@@ -1,11 +1,12 @@
 -- The tables that are made of the two parts of an accepted image are what the passes ask.
 -- Assumes nothing.
 use Prim.Native.Nat.{ℕ, zero, suc, _+_, _*_, _^_, _≤_, _<_}
+use native.Mathlib.Decide.{decLt}
 use native.Mathlib.Omega.{arith}
 use mathlib.Core.Path.{_≡_, refl, sym, ap, ap₂, _∙_, subst, subst₂}
 use mathlib.Core.Bool.{false}
 use mathlib.Core.List.{List, [], _∷_, _++_}
-use lib.ListN.{length, getD, take, drop, replicate, List·getD-append}
+use lib.ListN.{length, getD, take, drop, replicate, length-replicate, List·getD-append}
 use lib.Seq.{getD-drop, length-take-le}
 use lib.Pow.{pow-pos}
 use Rattle.image.specs.Word.{kind, payload}
@@ -18,41 +19,45 @@ use Rattle.image.proofs.Accepted.{steps-below, faultless, parts, library-is}
 use Rattle.image.proofs.Decode.{steps-length, sequences-length}
 use Rattle.image.proofs.Lookup.{masks-length, row-at, mask-low, places-length, Placed, place-at}
 use Rattle.image.proofs.Rows.{all-at}
-use Rattle.outcome.specs.Area.{outcomes, Blank, TableAsked, FillAsked, libraryIn}
+use Rattle.outcome.specs.Area.{outcomes, Blank, TableAsked, FillAsked, RowsAsked, libraryIn}
 use Rattle.outcome.specs.Execution.{noStep}
-use Rattle.outcome.specs.Words.{allFacts}
+use Rattle.outcome.specs.Words.{allFacts, stepRow, rowIn}
+use Rattle.outcome.specs.Walks.{StepRows}
 use Rattle.outcome.specs.Passes.{Pass, lacking, Visitable, visited}
+use Rattle.outcome.proofs.Bridge.{rowOfStep}
 use Rattle.outcome.proofs.Filled.{table-filled}
-use Rattle.outcome.proofs.Settled.{Given}
+use Rattle.outcome.proofs.Low.{LowRow, none-low, step-low}
+use Rattle.outcome.proofs.Settled.{Given, blank-row}
 
 pub blank-zeros : (n : ℕ) → Blank (replicate n 0)
 blank-zeros zero k = refl
 blank-zeros (suc n) zero = refl
 blank-zeros (suc n) (suc k) = blank-zeros n k
 
--- the words of the masks have no bit from n upward
-masks-low : (n : ℕ) (ss : List Step) (rest : List ℕ) → All (Below n) ss → Blank rest → (k : ℕ) → getD (masks ss ++ rest) k 0 < 2 ^ n
-unfolding masks
-masks-low n [] rest a blank k = rw (blank k) (pow-pos n)
-masks-low n (s ∷ ss) rest a blank zero = mask-low n (s .needs) (a .0 .0)
-masks-low n (s ∷ ss) rest a blank (suc zero) = mask-low n (s .sets) (a .0 .1)
-masks-low n (s ∷ ss) rest a blank (suc (suc zero)) = mask-low n (s .clears) (a .0 .2)
-masks-low n (s ∷ ss) rest a blank (suc (suc (suc k))) = masks-low n ss rest (a .1) blank k
+-- areas of zeros that have the room
+pub zeros-asked : (h : Head) (m n : ℕ) → 3 * h .steps ≤ m → 8 * h .steps ≤ n → RowsAsked h (replicate m 0) (replicate n 0)
+zeros-asked h m n l k =
+    record { masks-room = omega (arith, length-replicate {A = ℕ} m 0); rows-room = omega (arith, length-replicate {A = ℕ} n 0); blank = blank-zeros n }
 
-module _ (h : Head) (steps sequences table : List ℕ) (asked : FillAsked h steps sequences table) (zeros none ms ps : List ℕ)
-    (blank : Blank zeros) (wide : length ms ≡ 3072) (masked : ms ≡ masks (stepsFrom steps) ++ drop (3 * h .steps) zeros)
-    (narrow : length ps ≡ 256) (placed : ps ≡ placesFrom 0 sequences ++ none) where
-  ss : List Step
-  ss = stepsFrom steps
-
+module _ (h : Head) (steps sequences table : List ℕ) (asked : FillAsked h steps sequences table) (ms₀ rs₀ : List ℕ) (areas : RowsAsked h ms₀ rs₀)
+    (all : ℕ) (ones : all ≡ allFacts (h .facts)) (ms rest rs ps none : List ℕ) (masked : ms ≡ masks (stepsFrom steps) ++ rest)
+    (rowed : StepRows all ms (h .steps) rs₀ rs) (wide : length rs ≡ length rs₀) (narrow : length ps ≡ 256) (placed : ps ≡ placesFrom 0 sequences ++ none) where
   count : length (stepsFrom steps) ≡ h .steps
   count = steps-length steps ∙ asked .steps-opened
 
   -- a word of the table of masks
   mask-word : (k : ℕ) → k < 3 * length (stepsFrom steps) → getD ms k 0 ≡ getD (masks (stepsFrom steps)) k 0
   mask-word k l =
-      ap (λ (x : List ℕ). getD x k 0) masked
-      ∙ List·getD-append (masks (stepsFrom steps)) (drop (3 * h .steps) zeros) 0 k (omega (arith, masks-length (stepsFrom steps)))
+      ap (λ (x : List ℕ). getD x k 0) masked ∙ List·getD-append (masks (stepsFrom steps)) rest 0 k (omega (arith, masks-length (stepsFrom steps)))
+
+  -- the row of a step
+  step-is : (a : ℕ) → a < length (stepsFrom steps) → rowIn rs a ≡ rowOfStep (allFacts (h .facts)) (getD (stepsFrom steps) a noStep)
+  step-is a l =
+      let row = row-at (stepsFrom steps) a noStep l in
+      let needs = mask-word (3 * a) (omega arith) ∙ row .0 in
+      let sets = mask-word (3 * a + 1) (omega arith) ∙ row .1 in
+      let clears = mask-word (3 * a + 2) (omega arith) ∙ row .2 in
+      rowed .written a (omega (arith, count)) ∙ (λ i. stepRow (ones i) (needs i) (sets i) (clears i))
 
   place-word : (c : ℕ) → c < h .sequences → getD ps c 0 ≡ getD (placesFrom 0 sequences) c 0
   place-word c l =
@@ -61,42 +66,45 @@ module _ (h : Head) (steps sequences table : List ℕ) (asked : FillAsked h step
   place-is : (c : ℕ) → c < h .sequences → Placed sequences c (getD ps c 0)
   place-is c l = subst (Placed sequences c) (sym (place-word c l)) (place-at sequences c (omega (arith, asked .sequences-opened)))
 
-  fill-given : Given (libraryIn h steps sequences) h ms sequences ps
+  fill-given : Given (libraryIn h steps sequences) h rs sequences ps
   fill-given =
       record {
         narrow = asked .high;
-        steps = count;
+        counted = count;
         sequences = sequences-length sequences ∙ asked .sequences-opened;
-        masked = λ a l.
-            let row = row-at (stepsFrom steps) a noStep l in
-            (mask-word (3 * a) (omega arith) ∙ row .0, mask-word (3 * a + 1) (omega arith) ∙ row .1, mask-word (3 * a + 2) (omega arith) ∙ row .2);
+        stepped = step-is;
         words = asked .sequences;
         reads = refl;
         placed = place-is;
       }
 
-  fill-low : (k : ℕ) → getD ms k 0 < 2 ^ h .facts
-  fill-low k =
-      subst (λ (x : List ℕ). getD x k 0 < 2 ^ h .facts) (sym masked)
-      (masks-low (h .facts) (stepsFrom steps) (drop (3 * h .steps) zeros) (steps-below h steps (asked .steps))
-      (λ j. getD-drop (3 * h .steps) zeros j 0 ∙ blank (3 * h .steps + j)) k)
+  -- no bit is set from F upward
+  fill-low : (a : ℕ) → LowRow (h .facts) (rowIn rs a)
+  fill-low a =
+      elim (decLt a (length (stepsFrom steps))) [
+        | yes l ↦
+            let b = all-at (Below (h .facts)) (stepsFrom steps) (steps-below h steps (asked .steps)) noStep a l in
+            subst (LowRow (h .facts)) (sym (step-is a l))
+            (step-low (h .facts) _ _ _ (mask-low (h .facts) _ (b .0)) (mask-low (h .facts) _ (b .1)) (mask-low (h .facts) _ (b .2)))
+        | no l ↦ subst (LowRow (h .facts)) (sym (rowed .stays a (omega (arith, count)) ∙ blank-row rs₀ (areas .blank) a)) (none-low (h .facts))
+      ]
 
-  pub fill-visitable : (t : List ℕ) → length t ≡ length table → Visitable (h .sequences) ms sequences ps t
+  pub fill-visitable : (t : List ℕ) → length t ≡ length table → Visitable (h .sequences) rs sequences ps t
   fill-visitable t e =
       record {
         readable = λ i l.
             let w = all-at (SequenceWord h) sequences (asked .sequences) 0 i l in
-            ((λ k. omega (arith, w .step k, asked .steps-high)), (λ k. omega (arith, w .sequence k, asked .long)));
+            ((λ k. omega (arith, w .step k, areas .rows-room)), (λ k. omega (arith, w .sequence k, asked .long)));
         rows = omega (arith, asked .long);
         placed = omega (arith, asked .sequences-high);
         within = λ c l. place-is c l .within;
       }
 
-  pub fill-done : (all : ℕ) (t₀ t : List ℕ) → all ≡ allFacts (h .facts) → length t₀ ≡ length table → Blank t₀
-      → Pass (visited all ms sequences ps) lacking (h .sequences) t₀ t false → t ≡ outcomes (libraryIn h steps sequences)
-  fill-done all t₀ t e long clear pass =
-      let p = subst (λ (a : ℕ). Pass (visited a ms sequences ps) lacking (h .sequences) t₀ t false) e pass in
-      table-filled (libraryIn h steps sequences) h ms sequences ps fill-given fill-low t₀ t (long ∙ asked .long) clear (p .reached) (p .settled refl)
+  pub fill-done : (t₀ t : List ℕ) → length t₀ ≡ length table → Blank t₀ → Pass (visited all rs sequences ps) lacking (h .sequences) t₀ t false
+      → t ≡ outcomes (libraryIn h steps sequences)
+  fill-done t₀ t long clear pass =
+      let p = subst (λ (a : ℕ). Pass (visited a rs sequences ps) lacking (h .sequences) t₀ t false) ones pass in
+      table-filled (libraryIn h steps sequences) h rs sequences ps fill-given fill-low t₀ t (long ∙ asked .long) clear (p .reached) (p .settled refl)
 
 -- ---- an accepted image
 

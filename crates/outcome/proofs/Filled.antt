@@ -75,13 +75,13 @@ table-rows L (suc n) c t e words =
     later : (i j : ℕ) → getD t (8 + (8 * i + j)) 0 ≡ getD t (8 * suc i + j) 0
     later i j = let n : 8 + (8 * i + j) ≡ 8 * suc i + j = omega arith in ap (λ (k : ℕ). getD t k 0) n
 
-module _ (L : Library) (h : Head) (masks part places : List ℕ) (given : Given L h masks part places) (low-masks : (k : ℕ) → getD masks k 0 < 2 ^ L .facts)
+module _ (L : Library) (h : Head) (steps part places : List ℕ) (given : Given L h steps part places) (low-steps : (a : ℕ) → LowRow (L .facts) (rowIn steps a))
     (t₀ t : List ℕ) (long : length t₀ ≡ 8 * h .sequences) (blank : (k : ℕ) → getD t₀ k 0 ≡ 0)
-    (reached : Reached (visited (allFacts (L .facts)) masks part places) (h .sequences) t₀ t)
-    (settled : Settled (visited (allFacts (L .facts)) masks part places) (h .sequences) t) where
+    (reached : Reached (visited (allFacts (L .facts)) steps part places) (h .sequences) t₀ t)
+    (settled : Settled (visited (allFacts (L .facts)) steps part places) (h .sequences) t) where
   low : (c : ℕ) → LowRow (L .facts) (rowIn t c)
   low =
-      reached-low (L .facts) masks part places low-masks (h .sequences) (omega arith)
+      reached-low (L .facts) steps part places low-steps (h .sequences) (omega arith)
       (λ c. subst (LowRow (L .facts)) (sym (blank-row t₀ blank c)) (none-low (L .facts))) reached
 
   word-is : (c j : ℕ) → j < 8 → getD t (8 * c + j) 0 ≡ outcomeWord L j c
@@ -91,10 +91,10 @@ module _ (L : Library) (h : Head) (masks part places : List ℕ) (given : Given 
       ∙ column-is (L .facts) (getD (wordsOf (rowIn t c)) j 0) (λ (f : ℕ). columnPossible L j c f) (word-low (L .facts) (rowIn t c) (low c) j k)
       (λ f l.
       bit-set (bit (getD (wordsOf (rowIn t c)) j 0) f) (bit-le (getD (wordsOf (rowIn t c)) j 0) f)
-      ∙ ap boolByte (settled-bits L h masks part places given t₀ t (omega arith) blank reached settled f l j k c))
+      ∙ ap boolByte (settled-bits L h steps part places given t₀ t (omega arith) blank reached settled f l j k c))
 
   pub table-filled : t ≡ outcomes L
   unfolding outcomes
   table-filled =
-      table-rows L (length (L .sequences)) 0 t (omega (arith, reached-length (visits-lower (allFacts (L .facts)) masks part places (h .sequences)) reached, given .sequences))
+      table-rows L (length (L .sequences)) 0 t (omega (arith, reached-length (visits-lower (allFacts (L .facts)) steps part places (h .sequences)) reached, given .sequences))
       (λ i j l k. word-is i j k ∙ ap (outcomeWord L j) (sym (zero-add i)))

@@ -18,4 +18,5 @@ pub mod Execution
 pub mod Published
 pub mod Sample
 pub mod Settled
+pub mod StepRows
 pub mod Stores

@@ -13,7 +13,7 @@ use lib.Pow.{pow-pos, ones-lt}
 use Rattle.image.specs.Word.{payload, isKind, isEntry}
 use Rattle.image.specs.Accepted.{All}
 use Rattle.outcome.specs.Words.{allFacts, noRow, startRow, notWord, stepMarks, stepRow, laterMarks, joinRows, orMarks, orRows, liveMarks, liveRow, rowIn, withRow, wordsOf}
-use Rattle.outcome.specs.Walks.{maskRow, entryWord, foldWords, alternativeWords, sequenceWords}
+use Rattle.outcome.specs.Walks.{entryWord, foldWords, alternativeWords, sequenceWords}
 use Rattle.outcome.specs.Passes.{visitedRow, visited, Reached, here, next}
 use Rattle.outcome.specs.declared.row.Marks.{Marks}
 use Rattle.outcome.specs.declared.row.Row.{Row}
@@ -47,7 +47,7 @@ module _ (n : ℕ) where
   unfolding LowMarks
   step-marks-low one other a b = (a, and-low other (notWord one) b, and-low (allFacts n) (notWord (bitOr one other)) (ones-lt n))
 
-  step-low : (needs sets clears : ℕ) → needs < 2 ^ n → sets < 2 ^ n → clears < 2 ^ n → LowRow (stepRow (allFacts n) needs sets clears)
+  pub step-low : (needs sets clears : ℕ) → needs < 2 ^ n → sets < 2 ^ n → clears < 2 ^ n → LowRow (stepRow (allFacts n) needs sets clears)
   unfolding LowMarks
   step-low needs sets clears a b c =
       record { run = ones-lt n; empty = pow-pos n; last = step-marks-low sets clears b c; first = step-marks-low needs sets a b }
@@ -97,57 +97,57 @@ module _ (n : ℕ) where
 
   -- ---- a walk
 
-  module _ (masks table : List ℕ) (low-masks : (k : ℕ) → getD masks k 0 < 2 ^ n) (low-table : (c : ℕ) → LowRow (rowIn table c)) where
-    entry-low : (w : ℕ) → LowRow (entryWord (allFacts n) masks table w)
+  module _ (steps table : List ℕ) (low-steps : (a : ℕ) → LowRow (rowIn steps a)) (low-table : (c : ℕ) → LowRow (rowIn table c)) where
+    entry-low : (w : ℕ) → LowRow (entryWord steps table w)
     entry-low w = go (isKind 8 w)
       where
-        go : (b : Bool) → LowRow (cond b (maskRow (allFacts n) masks (payload w)) (rowIn table (payload w)))
-        go true = step-low _ _ _ (low-masks (3 * payload w)) (low-masks (3 * payload w + 1)) (low-masks (3 * payload w + 2))
+        go : (b : Bool) → LowRow (cond b (rowIn steps (payload w)) (rowIn table (payload w)))
+        go true = low-steps (payload w)
         go false = low-table (payload w)
 
-    fold-low : (ws : List ℕ) (X : Row) → LowRow X → LowRow (foldWords (allFacts n) masks table X ws)
+    fold-low : (ws : List ℕ) (X : Row) → LowRow X → LowRow (foldWords steps table X ws)
     unfolding foldWords
     fold-low [] X a = a
-    fold-low (w ∷ ws) X a = go (isEntry w) (fold-low ws (joinRows X (entryWord (allFacts n) masks table w)) (join-low X _ a (entry-low w)))
+    fold-low (w ∷ ws) X a = go (isEntry w) (fold-low ws (joinRows X (entryWord steps table w)) (join-low X _ a (entry-low w)))
       where
-        go : (b : Bool) → LowRow (foldWords (allFacts n) masks table (joinRows X (entryWord (allFacts n) masks table w)) ws)
-            → LowRow (cond b (foldWords (allFacts n) masks table (joinRows X (entryWord (allFacts n) masks table w)) ws) X)
+        go : (b : Bool) → LowRow (foldWords steps table (joinRows X (entryWord steps table w)) ws)
+            → LowRow (cond b (foldWords steps table (joinRows X (entryWord steps table w)) ws) X)
         go true rest = rest
         go false rest = a
 
-    alternative-low : (ws : List ℕ) → LowRow (alternativeWords (allFacts n) masks table ws)
+    alternative-low : (ws : List ℕ) → LowRow (alternativeWords (allFacts n) steps table ws)
     unfolding alternativeWords
     alternative-low ws = live-low _ (fold-low ws (startRow (allFacts n)) start-low)
 
-    sequence-low : (ws : List ℕ) (X : Row) → LowRow X → LowRow (sequenceWords (allFacts n) masks table X ws)
+    sequence-low : (ws : List ℕ) (X : Row) → LowRow X → LowRow (sequenceWords (allFacts n) steps table X ws)
     unfolding sequenceWords
     sequence-low [] X a = a
     sequence-low (w ∷ ws) X a =
         go (isKind 6 w) (isKind 7 w)
-        (sequence-low ws (orRows X (alternativeWords (allFacts n) masks table ws)) (union-low X _ a (alternative-low ws)))
+        (sequence-low ws (orRows X (alternativeWords (allFacts n) steps table ws)) (union-low X _ a (alternative-low ws)))
         (sequence-low ws X a)
       where
         S : Row → Row
-        S Y = sequenceWords (allFacts n) masks table Y ws
+        S Y = sequenceWords (allFacts n) steps table Y ws
 
-        go : (b c : Bool) → LowRow (S (orRows X (alternativeWords (allFacts n) masks table ws))) → LowRow (S X)
-            → LowRow (cond b X (cond c (S (orRows X (alternativeWords (allFacts n) masks table ws))) (S X)))
+        go : (b c : Bool) → LowRow (S (orRows X (alternativeWords (allFacts n) steps table ws))) → LowRow (S X)
+            → LowRow (cond b X (cond c (S (orRows X (alternativeWords (allFacts n) steps table ws))) (S X)))
         go true c more rest = a
         go false true more rest = more
         go false false more rest = rest
 
   -- ---- a table
 
-  module _ (masks part places : List ℕ) (low-masks : (k : ℕ) → getD masks k 0 < 2 ^ n) (m : ℕ) where
-    pub reached-low : {t₀ t : List ℕ} → 8 * m ≤ length t₀ → ((c : ℕ) → LowRow (rowIn t₀ c)) → Reached (visited (allFacts n) masks part places) m t₀ t
+  module _ (steps part places : List ℕ) (low-steps : (a : ℕ) → LowRow (rowIn steps a)) (m : ℕ) where
+    pub reached-low : {t₀ t : List ℕ} → 8 * m ≤ length t₀ → ((c : ℕ) → LowRow (rowIn t₀ c)) → Reached (visited (allFacts n) steps part places) m t₀ t
         → (c : ℕ) → LowRow (rowIn t c)
     reached-low room low here = low
     reached-low room low (next {table = s} c l r) = λ d.
         let before = reached-low room low r in
-        let y = sequenceWords (allFacts n) masks s noRow (drop (getD places c 0 + 1) part) in
+        let y = sequenceWords (allFacts n) steps s noRow (drop (getD places c 0 + 1) part) in
         elim (ℕ-discrete d c) [
-          | yes e ↦ subst (λ (k : ℕ). LowRow (rowIn (visited (allFacts n) masks part places s c) k)) (sym e)
-              (subst LowRow (sym (row-same s c (orRows (rowIn s c) y) (omega (arith, reached-length (visits-lower (allFacts n) masks part places m) r))))
-              (union-low (rowIn s c) y (before c) (sequence-low masks s low-masks before (drop (getD places c 0 + 1) part) noRow none-low)))
+          | yes e ↦ subst (λ (k : ℕ). LowRow (rowIn (visited (allFacts n) steps part places s c) k)) (sym e)
+              (subst LowRow (sym (row-same s c (orRows (rowIn s c) y) (omega (arith, reached-length (visits-lower (allFacts n) steps part places m) r))))
+              (union-low (rowIn s c) y (before c) (sequence-low steps s low-steps before (drop (getD places c 0 + 1) part) noRow none-low)))
           | no apart ↦ subst LowRow (sym (row-other s c (orRows (rowIn s c) y) d apart)) (before d)
         ]

@@ -24,7 +24,7 @@ use Rattle.outcome.specs.Words.{allFacts, noRow, orRows, rowIn, withRow,
 use Rattle.outcome.specs.Walks.{sequenceWords}
 use Rattle.outcome.specs.Passes.{visitedRow, visited, Reached, here, next, Settled}
 use Rattle.outcome.specs.declared.row.Row as words
-use Rattle.outcome.proofs.Bridge.{Masked, tableBits, sequence-bits}
+use Rattle.outcome.proofs.Bridge.{Stepped, tableBits, sequence-bits}
 use Rattle.outcome.proofs.Rows.{by-column, columnNumber-below, none-good, or-good, read-good, rows-possible}
 use Rattle.outcome.proofs.Stores.{row-same, row-other}
 use Rattle.outcome.proofs.Tests.{or-right, some-intro}
@@ -75,12 +75,12 @@ member [] i l = absurd (omega arith)
 member (es ∷ alts) zero l = List·Memᴰ·head refl
 member (es ∷ alts) (suc i) l = List·Memᴰ·tail (member alts i (le-of-suc-le-suc l))
 
--- what the tables of an accepted image say: masks and places
-pub record Given (L : Library) (h : Head) (masks part places : List ℕ) : Type 0 where
+-- what the tables of an accepted image say: the rows of the steps, and places
+pub record Given (L : Library) (h : Head) (steps part places : List ℕ) : Type 0 where
   pub narrow : L .facts ≤ 64
-  pub steps : length (L .steps) ≡ h .steps
+  pub counted : length (L .steps) ≡ h .steps
   pub sequences : length (L .sequences) ≡ h .sequences
-  pub masked : Masked L masks
+  pub stepped : Stepped L steps
   pub words : All (SequenceWord h) part
   pub reads : L .sequences ≡ sequencesFrom part
   pub placed : (c : ℕ) → c < h .sequences → Placed part c (getD places c 0)
@@ -90,9 +90,9 @@ all-drop h zero ws a = a
 all-drop h (suc n) [] a = tt
 all-drop h (suc n) (w ∷ ws) a = all-drop h n ws (a .1)
 
-module _ (L : Library) (h : Head) (masks part places : List ℕ) (given : Given L h masks part places) where
+module _ (L : Library) (h : Head) (steps part places : List ℕ) (given : Given L h steps part places) where
   visit : List ℕ → ℕ → List ℕ
-  visit t c = visited (allFacts (L .facts)) masks part places t c
+  visit t c = visited (allFacts (L .facts)) steps part places t c
 
   -- the bits of a row after a visit
   module _ (t : List ℕ) (room : 8 * h .sequences ≤ length t) (c : ℕ) (l : c < h .sequences) (f : ℕ) (below : f < L .facts) where
@@ -104,13 +104,13 @@ module _ (L : Library) (h : Head) (masks part places : List ℕ) (given : Given 
     visit-bits j k =
         let p = getD places c 0 in
         let rest = drop (p + 1) part in
-        let y = sequenceWords (allFacts (L .facts)) masks t noRow rest in
+        let y = sequenceWords (allFacts (L .facts)) steps t noRow rest in
         let alts : alternativesFrom rest ≡ alternativesOf (L .sequences) c =
         ap (λ (n : ℕ). alternativesFrom (drop n part)) (add-one p) ∙ given .placed c l .reads ∙ ap (λ (S : List Sequence). getD S c []) (sym (given .reads)) in
         ap (λ (r : words.Row). bitRow r f j) (row-same t c (orRows (rowIn t c) y) (omega arith))
         ∙ or-bits (rowIn t c) y f j k
         ∙ ap (λ (b : Bool). tableBits t f c j || b)
-        (sequence-bits L h masks t (given .narrow) (given .steps) (given .masked) f below rest (all-drop h (p + 1) part (given .words)) noRow j k
+        (sequence-bits L h steps t (given .narrow) (given .counted) (given .stepped) f below rest (all-drop h (p + 1) part (given .words)) noRow j k
         ∙ ap₂ _||_ (none-row f j k) (ap (λ (alts′ : List Alternative). some (λ (es : List Entry). readRow L f (tableBits t f) es j) alts′) alts))
 
     good-visit : GoodRows L f (tableBits t f) → GoodRows L f (tableBits (visit t c) f)
@@ -135,14 +135,14 @@ module _ (L : Library) (h : Head) (masks part places : List ℕ) (given : Given 
 
   -- from a blank table every row stays good
   reached-good : {t₀ t : List ℕ} → 8 * h .sequences ≤ length t₀ → ((k : ℕ) → getD t₀ k 0 ≡ 0)
-      → Reached (visited (allFacts (L .facts)) masks part places) (h .sequences) t₀ t → (f : ℕ) → f < L .facts → GoodRows L f (tableBits t f)
+      → Reached (visited (allFacts (L .facts)) steps part places) (h .sequences) t₀ t → (f : ℕ) → f < L .facts → GoodRows L f (tableBits t f)
   unfolding visit
   reached-good {t₀} room blank here f below = λ c.
       good-agree L f c (λ (j : ℕ). false) (tableBits t₀ f c) (λ j k. sym (ap (λ (r : words.Row). bitRow r f j) (blank-row t₀ blank c) ∙ none-row f j k)) (none-good L f c)
   reached-good room blank (next {table = s} c l r) f below =
-      good-visit s (omega (arith, reached-length (visits-lower (allFacts (L .facts)) masks part places (h .sequences)) r)) c l f below (reached-good room blank r f below)
+      good-visit s (omega (arith, reached-length (visits-lower (allFacts (L .facts)) steps part places (h .sequences)) r)) c l f below (reached-good room blank r f below)
 
-  settled-closed : (t : List ℕ) → 8 * h .sequences ≤ length t → Settled (visited (allFacts (L .facts)) masks part places) (h .sequences) t
+  settled-closed : (t : List ℕ) → 8 * h .sequences ≤ length t → Settled (visited (allFacts (L .facts)) steps part places) (h .sequences) t
       → (f : ℕ) → f < L .facts → ClosedRows L f (tableBits t f)
   unfolding visit
   settled-closed t room settled f below c i k j u e =
@@ -153,8 +153,8 @@ module _ (L : Library) (h : Head) (masks part places : List ℕ) (given : Given 
 
   -- what the bits of such a table say
   pub settled-bits : (t₀ t : List ℕ) → 8 * h .sequences ≤ length t₀ → ((k : ℕ) → getD t₀ k 0 ≡ 0)
-      → Reached (visited (allFacts (L .facts)) masks part places) (h .sequences) t₀ t → Settled (visited (allFacts (L .facts)) masks part places) (h .sequences) t
+      → Reached (visited (allFacts (L .facts)) steps part places) (h .sequences) t₀ t → Settled (visited (allFacts (L .facts)) steps part places) (h .sequences) t
       → (f : ℕ) → f < L .facts → (j : ℕ) → j < 8 → (c : ℕ) → tableBits t f c j ≡ columnPossible L j c f
   settled-bits t₀ t room blank reached settled f below =
       rows-possible L f (tableBits t f) (reached-good room blank reached f below)
-      (settled-closed t (omega (arith, reached-length (visits-lower (allFacts (L .facts)) masks part places (h .sequences)) reached)) settled f below)
+      (settled-closed t (omega (arith, reached-length (visits-lower (allFacts (L .facts)) steps part places (h .sequences)) reached)) settled f below)

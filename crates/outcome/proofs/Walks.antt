@@ -1,6 +1,7 @@
 -- The loops over a sequence's words: what holds at the head of each, a turn, and the ways out.
 -- Assumes nothing.
 use Prim.Native.Nat.{ℕ, suc, _+_, _*_, _≤_, _<_}
+use native.Mathlib.Decide.{decLt}
 use native.Mathlib.Omega.{arith}
 use native.Mathlib.Numerals.{add-one}
 use mathlib.Core.Path.{_≡_, refl, sym, ap, _∙_}
@@ -13,7 +14,7 @@ use borrow.Author.Tests.{eqb-true, eqb-false, eq-eqb, ne-eqb}
 use Rattle.image.specs.Word.{kind, payload, isKind, isEntry}
 use Rattle.image.proofs.Bools.{or-cases}
 use Rattle.outcome.specs.Words.{noRow, startRow, joinRows, orRows, liveRow}
-use Rattle.outcome.specs.Walks.{Within, Readable, entryWord, foldWords, alternativeWords, sequenceWords, AlternativeRead}
+use Rattle.outcome.specs.Walks.{Within, Readable, entryWord, foldWords, alternativeWords, sequenceWords, AlternativeRead, NoEntry}
 use Rattle.outcome.specs.declared.row.Row.{Row}
 use Rattle.outcome.specs.declared.read.Read.{Read}
 
@@ -27,35 +28,36 @@ entry-high w e =
 
 -- ---- one word
 
-module _ (all : ℕ) (masks table : List ℕ) where
+module _ (steps table : List ℕ) where
   pub fold-cons : (X : Row) (w : ℕ) (ws : List ℕ) (b : Bool) → isEntry w ≡ b
-      → foldWords all masks table X (w ∷ ws) ≡ cond b (foldWords all masks table (joinRows X (entryWord all masks table w)) ws) X
+      → foldWords steps table X (w ∷ ws) ≡ cond b (foldWords steps table (joinRows X (entryWord steps table w)) ws) X
   unfolding foldWords
-  fold-cons X w ws b e = ap (λ (c : Bool). cond c (foldWords all masks table (joinRows X (entryWord all masks table w)) ws) X) e
+  fold-cons X w ws b e = ap (λ (c : Bool). cond c (foldWords steps table (joinRows X (entryWord steps table w)) ws) X) e
 
+module _ (all : ℕ) (steps table : List ℕ) where
   pub united-cons : (X : Row) (w : ℕ) (ws : List ℕ) (a b : Bool) → isKind 6 w ≡ a → isKind 7 w ≡ b
-      → sequenceWords all masks table X (w ∷ ws)
-      ≡ cond a X (cond b (sequenceWords all masks table (orRows X (alternativeWords all masks table ws)) ws) (sequenceWords all masks table X ws))
+      → sequenceWords all steps table X (w ∷ ws)
+      ≡ cond a X (cond b (sequenceWords all steps table (orRows X (alternativeWords all steps table ws)) ws) (sequenceWords all steps table X ws))
   unfolding sequenceWords
   united-cons X w ws a b e f =
-      let S = sequenceWords all masks table in
-      ap (λ (c : Bool). cond c X (cond (isKind 7 w) (S (orRows X (alternativeWords all masks table ws)) ws) (S X ws))) e
-      ∙ ap (λ (c : Bool). cond a X (cond c (S (orRows X (alternativeWords all masks table ws)) ws) (S X ws))) f
+      let S = sequenceWords all steps table in
+      ap (λ (c : Bool). cond c X (cond (isKind 7 w) (S (orRows X (alternativeWords all steps table ws)) ws) (S X ws))) e
+      ∙ ap (λ (c : Bool). cond a X (cond c (S (orRows X (alternativeWords all steps table ws)) ws) (S X ws))) f
 
-module _ (all : ℕ) (masks table part : List ℕ) where
+module _ (all : ℕ) (steps table part : List ℕ) where
   -- ---- the entries of an alternative
 
   pub record Folding (at : ℕ) (x : Row) (i : ℕ) : Type 0 where
     pub low : at ≤ i
     pub within : i ≤ length part
-    pub same : foldWords all masks table x (drop i part) ≡ foldWords all masks table (startRow all) (drop at part)
-    pub skips : (X : Row) → sequenceWords all masks table X (drop at part) ≡ sequenceWords all masks table X (drop i part)
+    pub same : foldWords steps table x (drop i part) ≡ foldWords steps table (startRow all) (drop at part)
+    pub skips : (X : Row) → sequenceWords all steps table X (drop at part) ≡ sequenceWords all steps table X (drop i part)
 
   pub folding-start : (at : ℕ) → at ≤ length part → Folding at (startRow all) at
   folding-start at l = record { low = omega arith; within = l; same = refl; skips = λ X. refl }
 
   module _ (at : ℕ) (x : Row) (i : ℕ) (here : Folding at x i) where
-    pub folding-turn : i < length part → isEntry (getD part i 0) ≡ true → Folding at (joinRows x (entryWord all masks table (getD part i 0))) (i + 1)
+    pub folding-turn : i < length part → isEntry (getD part i 0) ≡ true → Folding at (joinRows x (entryWord steps table (getD part i 0))) (i + 1)
     folding-turn l e =
         let w = getD part i 0 in
         let rest = drop (suc i) part in
@@ -66,51 +68,66 @@ module _ (all : ℕ) (masks table part : List ℕ) where
           low = omega (arith, here .low);
           within = omega arith;
           same =
-              ap (foldWords all masks table (joinRows x (entryWord all masks table w))) next
-              ∙ sym (ap (foldWords all masks table x) cut ∙ fold-cons all masks table x w rest true e)
+              ap (foldWords steps table (joinRows x (entryWord steps table w))) next
+              ∙ sym (ap (foldWords steps table x) cut ∙ fold-cons steps table x w rest true e)
               ∙ here .same;
           skips = λ X.
-              here .skips X ∙ ap (sequenceWords all masks table X) cut
-              ∙ united-cons all masks table X w rest false false (ne-eqb (kind w) 6 (λ q. omega arith)) (ne-eqb (kind w) 7 (λ q. omega arith))
-              ∙ ap (sequenceWords all masks table X) (sym next);
+              here .skips X ∙ ap (sequenceWords all steps table X) cut
+              ∙ united-cons all steps table X w rest false false (ne-eqb (kind w) 6 (λ q. omega arith)) (ne-eqb (kind w) 7 (λ q. omega arith))
+              ∙ ap (sequenceWords all steps table X) (sym next);
         }
 
-    pub folding-out : i < length part → isEntry (getD part i 0) ≡ false → liveRow x ≡ alternativeWords all masks table (drop at part)
+    pub folding-out : i < length part → isEntry (getD part i 0) ≡ false → liveRow x ≡ alternativeWords all steps table (drop at part)
     unfolding alternativeWords
     folding-out l e =
-        ap liveRow (sym (ap (foldWords all masks table x) (drop-cons part i 0 l) ∙ fold-cons all masks table x (getD part i 0) (drop (suc i) part) false e) ∙ here .same)
+        ap liveRow (sym (ap (foldWords steps table x) (drop-cons part i 0 l) ∙ fold-cons steps table x (getD part i 0) (drop (suc i) part) false e) ∙ here .same)
 
-    pub folding-end : i ≡ length part → liveRow x ≡ alternativeWords all masks table (drop at part)
+    pub folding-end : i ≡ length part → liveRow x ≡ alternativeWords all steps table (drop at part)
     unfolding alternativeWords foldWords
-    folding-end l = ap liveRow (sym (ap (foldWords all masks table x) (ap (λ (n : ℕ). drop n part) l ∙ drop-length part)) ∙ here .same)
+    folding-end l = ap liveRow (sym (ap (foldWords steps table x) (ap (λ (n : ℕ). drop n part) l ∙ drop-length part)) ∙ here .same)
+
+  -- an alternative without entries
+  pub empty-read : (at : ℕ) → at ≤ length part → NoEntry part at → AlternativeRead all steps table part at (record { row = liveRow (startRow all); next = at })
+  empty-read at l none =
+      let here = folding-start at l in
+      record {
+        row =
+            elim (decLt at (length part)) [
+              | yes u ↦ folding-out at (startRow all) at here u (none u)
+              | no u ↦ folding-end at (startRow all) at here (omega arith)
+            ];
+        low = here .low;
+        within = l;
+        skips = here .skips;
+      }
 
   -- ---- the alternatives of a sequence
 
   pub record Uniting (at : ℕ) (x : Row) (i : ℕ) : Type 0 where
     pub within : i ≤ length part
-    pub same : sequenceWords all masks table x (drop i part) ≡ sequenceWords all masks table noRow (drop at part)
+    pub same : sequenceWords all steps table x (drop i part) ≡ sequenceWords all steps table noRow (drop at part)
 
   pub uniting-start : (at : ℕ) → at ≤ length part → Uniting at noRow at
   uniting-start at l = record { within = l; same = refl }
 
   module _ (at : ℕ) (x : Row) (i : ℕ) (here : Uniting at x i) where
     -- the next sequence
-    pub uniting-out : i < length part → isKind 6 (getD part i 0) ≡ true → x ≡ sequenceWords all masks table noRow (drop at part)
+    pub uniting-out : i < length part → isKind 6 (getD part i 0) ≡ true → x ≡ sequenceWords all steps table noRow (drop at part)
     uniting-out l e =
-        sym (ap (sequenceWords all masks table x) (drop-cons part i 0 l) ∙ united-cons all masks table x (getD part i 0) (drop (suc i) part) true (isKind 7 (getD part i 0)) e refl)
+        sym (ap (sequenceWords all steps table x) (drop-cons part i 0 l) ∙ united-cons all steps table x (getD part i 0) (drop (suc i) part) true (isKind 7 (getD part i 0)) e refl)
         ∙ here .same
 
-    pub uniting-end : i ≡ length part → x ≡ sequenceWords all masks table noRow (drop at part)
+    pub uniting-end : i ≡ length part → x ≡ sequenceWords all steps table noRow (drop at part)
     unfolding sequenceWords
-    uniting-end l = sym (ap (sequenceWords all masks table x) (ap (λ (n : ℕ). drop n part) l ∙ drop-length part)) ∙ here .same
+    uniting-end l = sym (ap (sequenceWords all steps table x) (ap (λ (n : ℕ). drop n part) l ∙ drop-length part)) ∙ here .same
 
     after : (b : Bool) → i < length part → isKind 6 (getD part i 0) ≡ false → isKind 7 (getD part i 0) ≡ b
-        → cond b (sequenceWords all masks table (orRows x (alternativeWords all masks table (drop (i + 1) part))) (drop (i + 1) part))
-        (sequenceWords all masks table x (drop (i + 1) part))
-        ≡ sequenceWords all masks table noRow (drop at part)
+        → cond b (sequenceWords all steps table (orRows x (alternativeWords all steps table (drop (i + 1) part))) (drop (i + 1) part))
+        (sequenceWords all steps table x (drop (i + 1) part))
+        ≡ sequenceWords all steps table noRow (drop at part)
     after b l e f =
         rw (add-one i)
-        (sym (ap (sequenceWords all masks table x) (drop-cons part i 0 l) ∙ united-cons all masks table x (getD part i 0) (drop (suc i) part) false b e f) ∙ here .same)
+        (sym (ap (sequenceWords all steps table x) (drop-cons part i 0 l) ∙ united-cons all steps table x (getD part i 0) (drop (suc i) part) false b e f) ∙ here .same)
 
     -- an entry
     pub uniting-skip : i < length part → isKind 6 (getD part i 0) ≡ false → isKind 7 (getD part i 0) ≡ false → Uniting at x (i + 1)
@@ -118,12 +135,12 @@ module _ (all : ℕ) (masks table part : List ℕ) where
 
     -- an alternative
     pub uniting-turn : i < length part → isKind 6 (getD part i 0) ≡ false → isKind 7 (getD part i 0) ≡ true → (r : Read)
-        → AlternativeRead all masks table part (i + 1) r → Uniting at (orRows x (r .row)) (r .next)
+        → AlternativeRead all steps table part (i + 1) r → Uniting at (orRows x (r .row)) (r .next)
     uniting-turn l e f r read =
         record {
           within = read .within;
           same =
               sym (read .skips (orRows x (r .row)))
-              ∙ ap (λ (y : Row). sequenceWords all masks table (orRows x y) (drop (i + 1) part)) (read .row)
+              ∙ ap (λ (y : Row). sequenceWords all steps table (orRows x y) (drop (i + 1) part)) (read .row)
               ∙ after true l e f;
         }

@@ -55,6 +55,12 @@ pub record FillAsked (h : Head) (first second table : List ℕ) : Type 0 where
   pub sequences-opened : opened 6 second ≡ h .sequences
   pub long : length table ≡ 8 * h .sequences
 
+-- what is asked of the areas for the steps: three words a step for their masks, and eight blank ones for their rows
+pub record RowsAsked (h : Head) (masks rows : List ℕ) : Type 0 where
+  pub masks-room : 3 * h .steps ≤ length masks
+  pub rows-room : 8 * h .steps ≤ length rows
+  pub blank : Blank rows
+
 -- the library that the two parts hold
 abbrev pub libraryIn : Head → List ℕ → List ℕ → Library
 libraryIn h steps sequences = record { facts = h .facts; steps = stepsFrom steps; sequences = sequencesFrom sequences }

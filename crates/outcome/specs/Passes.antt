@@ -69,16 +69,16 @@ lacking [] = 0
 lacking (x ∷ xs) = 2 ^ 64 - 1 - x + lacking xs
 
 -- what a visit of the sequences below n asks of the areas
-pub record Visitable (n : ℕ) (masks part places table : List ℕ) : Type 0 where
-  pub readable : Readable masks table part
+pub record Visitable (n : ℕ) (steps part places table : List ℕ) : Type 0 where
+  pub readable : Readable steps table part
   pub rows : 8 * n ≤ length table
   pub placed : n ≤ length places
   pub within : (c : ℕ) → c < n → getD places c 0 < length part
 
-module _ (all : ℕ) (masks part places : List ℕ) where
+module _ (all : ℕ) (steps part places : List ℕ) where
   -- the row of sequence c after a visit
   abbrev pub visitedRow : List ℕ → ℕ → Row
-  visitedRow table c = orRows (rowIn table c) (sequenceWords all masks table noRow (drop (getD places c 0 + 1) part))
+  visitedRow table c = orRows (rowIn table c) (sequenceWords all steps table noRow (drop (getD places c 0 + 1) part))
 
   -- the table after a visit of sequence c
   abbrev pub visited : List ℕ → ℕ → List ℕ

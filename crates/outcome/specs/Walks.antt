@@ -2,40 +2,41 @@
 -- right, and the alternatives of a sequence are united. What each gives for a fact is what `Rows` says, which `proofs/` shows.
 use Prim.Native.Nat.{ℕ, suc, _+_, _*_, _≤_, _<_}
 use mathlib.Core.Path.{_≡_}
-use mathlib.Core.Bool.{Bool, true, cond}
+use mathlib.Core.Bool.{Bool, true, false, cond}
 use mathlib.Core.List.{List, [], _∷_}
 use lib.ListN.{length, getD, drop}
 use Rattle.image.specs.Word.{kind, payload, isKind, isEntry}
-use Rattle.outcome.specs.Words.{noRow, startRow, stepRow, joinRows, orRows, liveRow, rowIn, withRow}
+use Rattle.outcome.specs.Words.{noRow, startRow, stepRow, joinRows, orRows, liveRow, rowIn}
 use Rattle.outcome.specs.declared.row.Row.{Row}
 use Rattle.outcome.specs.declared.read.Read.{Read}
 
--- an entry names a row of the table of masks or of the table of outcomes
+-- an entry names a row of the steps' table or of the table of outcomes
 abbrev pub Within : List ℕ → List ℕ → ℕ → Type 0
-Within masks table w = (kind w ≡ 8 → 3 * payload w + 3 ≤ length masks) × (kind w ≡ 9 → 8 * payload w + 8 ≤ length table)
+Within steps table w = (kind w ≡ 8 → 8 * payload w + 8 ≤ length steps) × (kind w ≡ 9 → 8 * payload w + 8 ≤ length table)
 
 -- so of each word
 abbrev pub Readable : List ℕ → List ℕ → List ℕ → Type 0
-Readable masks table part = (i : ℕ) → i < length part → Within masks table (getD part i 0)
+Readable steps table part = (i : ℕ) → i < length part → Within steps table (getD part i 0)
 
--- the row of step a, by the table of masks
-abbrev pub maskRow : ℕ → List ℕ → ℕ → Row
-maskRow all masks a = stepRow all (getD masks (3 * a) 0) (getD masks (3 * a + 1) 0) (getD masks (3 * a + 2) 0)
+-- no entry stands at index i
+abbrev pub NoEntry : List ℕ → ℕ → Type 0
+NoEntry part i = i < length part → isEntry (getD part i 0) ≡ false
 
-module _ (all : ℕ) (masks table : List ℕ) where
+module _ (steps table : List ℕ) where
   -- the row of an entry
   abbrev pub entryWord : ℕ → Row
-  entryWord w = cond (isKind 8 w) (maskRow all masks (payload w)) (rowIn table (payload w))
+  entryWord w = cond (isKind 8 w) (rowIn steps (payload w)) (rowIn table (payload w))
 
   -- the row after the entries that stand from here on, where that of those before is X
   unfoldable pub foldWords : Row → List ℕ → Row
   foldWords X [] = X
   foldWords X (w ∷ ws) = cond (isEntry w) (foldWords (joinRows X (entryWord w)) ws) X
 
+module _ (all : ℕ) (steps table : List ℕ) where
   -- the row of the alternative whose entries stand from here on
   unfoldable pub alternativeWords : List ℕ → Row
   unfolding foldWords
-  alternativeWords ws = liveRow (foldWords (startRow all) ws)
+  alternativeWords ws = liveRow (foldWords steps table (startRow all) ws)
 
   -- X with the rows of the alternatives that stand from here on, up to the next sequence
   unfoldable pub sequenceWords : Row → List ℕ → Row
@@ -49,3 +50,12 @@ module _ (all : ℕ) (masks table : List ℕ) where
     pub low : at ≤ r .next
     pub within : r .next ≤ length part
     pub skips : (X : Row) → sequenceWords X (drop at part) ≡ sequenceWords X (drop (r .next) part)
+
+-- the row of step a, by the table of masks
+abbrev pub maskRow : ℕ → List ℕ → ℕ → Row
+maskRow all masks a = stepRow all (getD masks (3 * a) 0) (getD masks (3 * a + 1) 0) (getD masks (3 * a + 2) 0)
+
+-- the rows of the steps below n are written, and the others stay
+pub record StepRows (all : ℕ) (masks : List ℕ) (n : ℕ) (before after : List ℕ) : Type 0 where
+  pub written : (a : ℕ) → a < n → rowIn after a ≡ maskRow all masks a
+  pub stays : (a : ℕ) → n ≤ a → rowIn after a ≡ rowIn before a

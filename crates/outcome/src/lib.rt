@@ -3,4 +3,5 @@ pub mod order;
 pub mod pass;
 pub mod read;
 pub mod row;
+pub mod steps;
 pub mod table;

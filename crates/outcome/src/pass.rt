@@ -15,19 +15,19 @@ ghost use Rattle.outcome.specs.Passes.{Visit, Pass, Swept, Complete, Mar
 // Unites the row of sequence `c` with what its alternatives give. Answers whether that changed it.
 fn visit(
     all: u64,
-    masks: &[u64],
+    steps: &[u64],
     part: &[u32],
     places: &[u32],
     table: &mut [u64],
     n: usize,
     c: usize,
 ) -> bool
-    requires { ⌜ Visitable n (now masks) (now part) (now places) (now table) × (c < n) ⌝ }
-    ensures { λ r. ⌜ Visit (visited all (now (masks .entry)) (now (part .entry)) (now (places .entry))) lacking (now (table .entry)) c (now (table .exit)) r ⌝ }
+    requires { ⌜ Visitable n (now steps) (now part) (now places) (now table) × (c < n) ⌝ }
+    ensures { λ r. ⌜ Visit (visited all (now (steps .entry)) (now (part .entry)) (now (places .entry))) lacking (now (table .entry)) c (now (table .exit)) r ⌝ }
 {
     let old = row_at(table, c);
     let at = places[c] as usize + 1;
-    let new = united(old, read_sequence(all, masks, table, part, at));
+    let new = united(old, read_sequence(all, steps, table, part, at));
     put_row(table, c, new);
     !same(old, new)
 }
@@ -35,19 +35,19 @@ fn visit(
 // Visits every sequence once, in the order of their numbers. Answers whether anything changed.
 fn plain_pass(
     all: u64,
-    masks: &[u64],
+    steps: &[u64],
     part: &[u32],
     places: &[u32],
     table: &mut [u64],
     n: usize,
 ) -> bool
-    requires { ⌜ Visitable n (now masks) (now part) (now places) (now table) ⌝ }
-    ensures { λ r. ⌜ Pass (visited all (now (masks .entry)) (now (part .entry)) (now (places .entry))) lacking n (now (table .entry)) (now (table .exit)) r ⌝ }
+    requires { ⌜ Visitable n (now steps) (now part) (now places) (now table) ⌝ }
+    ensures { λ r. ⌜ Pass (visited all (now (steps .entry)) (now (part .entry)) (now (places .entry))) lacking n (now (table .entry)) (now (table .exit)) r ⌝ }
 {
     let mut changed = false;
     let mut c = 0;
     while c < n {
-        changed = visit(all, masks, part, places, table, n, c) | changed;
+        changed = visit(all, steps, part, places, table, n, c) | changed;
         c += 1;
     }
     changed
@@ -114,7 +114,7 @@ pub fn place_of(forward: bool, len: usize, i: usize) -> usize
 // Visits the sequences that `order` names, first to last or last to first; other numbers are passed over. Answers whether anything changed.
 fn pass(
     all: u64,
-    masks: &[u64],
+    steps: &[u64],
     part: &[u32],
     places: &[u32],
     order: &[usize],
@@ -122,8 +122,8 @@ fn pass(
     table: &mut [u64],
     n: usize,
 ) -> bool
-    requires { ⌜ Visitable n (now masks) (now part) (now places) (now table) ⌝ }
-    ensures { λ r. ⌜ Swept (visited all (now (masks .entry)) (now (part .entry)) (now (places .entry))) lacking n (now (order .entry)) (now (table .entry)) (now (table .exit)) r ⌝ }
+    requires { ⌜ Visitable n (now steps) (now part) (now places) (now table) ⌝ }
+    ensures { λ r. ⌜ Swept (visited all (now (steps .entry)) (now (part .entry)) (now (places .entry))) lacking n (now (order .entry)) (now (table .entry)) (now (table .exit)) r ⌝ }
 {
     let mut changed = false;
     let mut i = 0;
@@ -131,7 +131,7 @@ fn pass(
         let c = order[place_of(forward, order.len(), i)];
         i += 1;
         if c < n {
-            changed = visit(all, masks, part, places, table, n, c) | changed;
+            changed = visit(all, steps, part, places, table, n, c) | changed;
         }
     }
     changed
@@ -140,18 +140,18 @@ fn pass(
 // Passes in the order and against it, in turn, until one changes nothing.
 fn settle_in_order(
     all: u64,
-    masks: &[u64],
+    steps: &[u64],
     part: &[u32],
     places: &[u32],
     order: &[usize],
     table: &mut [u64],
     n: usize,
 )
-    requires { ⌜ Visitable n (now masks) (now part) (now places) (now table) × Complete (now order) n ⌝ }
-    ensures { λ _. ⌜ Pass (visited all (now (masks .entry)) (now (part .entry)) (now (places .entry))) lacking n (now (table .entry)) (now (table .exit)) false ⌝ }
+    requires { ⌜ Visitable n (now steps) (now part) (now places) (now table) × Complete (now order) n ⌝ }
+    ensures { λ _. ⌜ Pass (visited all (now (steps .entry)) (now (part .entry)) (now (places .entry))) lacking n (now (table .entry)) (now (table .exit)) false ⌝ }
 {
     let mut forward = true;
-    while pass(all, masks, part, places, order, forward, table, n) {
+    while pass(all, steps, part, places, order, forward, table, n) {
         forward = !forward;
     }
 }
@@ -159,34 +159,34 @@ fn settle_in_order(
 // Passes in the order of the numbers until one changes nothing.
 fn settle_plainly(
     all: u64,
-    masks: &[u64],
+    steps: &[u64],
     part: &[u32],
     places: &[u32],
     table: &mut [u64],
     n: usize,
 )
-    requires { ⌜ Visitable n (now masks) (now part) (now places) (now table) ⌝ }
-    ensures { λ _. ⌜ Pass (visited all (now (masks .entry)) (now (part .entry)) (now (places .entry))) lacking n (now (table .entry)) (now (table .exit)) false ⌝ }
+    requires { ⌜ Visitable n (now steps) (now part) (now places) (now table) ⌝ }
+    ensures { λ _. ⌜ Pass (visited all (now (steps .entry)) (now (part .entry)) (now (places .entry))) lacking n (now (table .entry)) (now (table .exit)) false ⌝ }
 {
-    while plain_pass(all, masks, part, places, table, n) {}
+    while plain_pass(all, steps, part, places, table, n) {}
 }
 
 // Passes until nothing changes.
 pub fn settle(
     all: u64,
-    masks: &[u64],
+    steps: &[u64],
     part: &[u32],
     places: &[u32],
     order: &[usize],
     table: &mut [u64],
     n: usize,
 )
-    requires { ⌜ Visitable n (now masks) (now part) (now places) (now table) ⌝ }
-    ensures { λ _. ⌜ Pass (visited all (now (masks .entry)) (now (part .entry)) (now (places .entry))) lacking n (now (table .entry)) (now (table .exit)) false ⌝ }
+    requires { ⌜ Visitable n (now steps) (now part) (now places) (now table) ⌝ }
+    ensures { λ _. ⌜ Pass (visited all (now (steps .entry)) (now (part .entry)) (now (places .entry))) lacking n (now (table .entry)) (now (table .exit)) false ⌝ }
 {
     if complete(order, n) {
-        settle_in_order(all, masks, part, places, order, table, n);
+        settle_in_order(all, steps, part, places, order, table, n);
     } else {
-        settle_plainly(all, masks, part, places, table, n);
+        settle_plainly(all, steps, part, places, table, n);
     }
 }

@@ -3,7 +3,6 @@ use crate::row::Row;
 use crate::row::joined;
 use crate::row::live;
 use crate::row::none;
-use crate::row::of_step;
 use crate::row::row_at;
 use crate::row::start;
 use crate::row::united;
@@ -11,12 +10,12 @@ use image::word::is_entry;
 use image::word::is_kind;
 use image::word::payload_of;
 ghost use mathlib.Core.Path.{_≡_};
-ghost use mathlib.Core.Bool.{true};
+ghost use mathlib.Core.Bool.{true, false};
 ghost use Prim.Native.Nat.{_+_, _*_, _≤_, _<_};
 ghost use lib.ListN.{length, drop};
 ghost use Rattle.image.specs.Word.{isEntry};
 ghost use Rattle.outcome.specs.Words.{noRow};
-ghost use Rattle.outcome.specs.Walks.{Within, Readable, maskRow, entryWord, sequenceWords, AlternativeRead};
+ghost use Rattle.outcome.specs.Walks.{Within, Readable, entryWord, sequenceWords, AlternativeRead, NoEntry};
 
 // The row of an alternative, and the index of the word after its entries.
 pub struct Read {
@@ -24,30 +23,21 @@ pub struct Read {
     pub next: usize,
 }
 
-// The row of step `a`, by the table of masks.
-fn step_row(all: u64, masks: &[u64], a: u32) -> Row
-    requires { ⌜ 3 * a + 3 ≤ length (now masks) ⌝ }
-    ensures { λ r. ⌜ r ≡ maskRow all (now (masks .entry)) a ⌝ }
-{
-    let at = 3 * a as usize;
-    of_step(all, masks[at], masks[at + 1], masks[at + 2])
-}
-
-// The row of an entry.
-fn entry_row(all: u64, masks: &[u64], table: &[u64], w: u32) -> Row
-    requires { ⌜ Within (now masks) (now table) w × (isEntry w ≡ true) ⌝ }
-    ensures { λ r. ⌜ r ≡ entryWord all (now (masks .entry)) (now (table .entry)) w ⌝ }
+// The row of an entry, by the rows of the steps and of the sequences.
+fn entry_row(steps: &[u64], table: &[u64], w: u32) -> Row
+    requires { ⌜ Within (now steps) (now table) w × (isEntry w ≡ true) ⌝ }
+    ensures { λ r. ⌜ r ≡ entryWord (now (steps .entry)) (now (table .entry)) w ⌝ }
 {
     if is_kind(8, w) {
-        return step_row(all, masks, payload_of(w));
+        return row_at(steps, payload_of(w) as usize);
     }
     row_at(table, payload_of(w) as usize)
 }
 
 // Reads the entries that stand from index `at` on.
-fn read_alternative(all: u64, masks: &[u64], table: &[u64], part: &[u32], at: usize) -> Read
-    requires { ⌜ Readable (now masks) (now table) (now part) × (at ≤ length (now part)) ⌝ }
-    ensures { λ r. ⌜ AlternativeRead all (now (masks .entry)) (now (table .entry)) (now (part .entry)) at r ⌝ }
+fn read_alternative(all: u64, steps: &[u64], table: &[u64], part: &[u32], at: usize) -> Read
+    requires { ⌜ Readable (now steps) (now table) (now part) × (at ≤ length (now part)) ⌝ }
+    ensures { λ r. ⌜ AlternativeRead all (now (steps .entry)) (now (table .entry)) (now (part .entry)) at r ⌝ }
 {
     let mut x = start(all);
     let mut i = at;
@@ -59,7 +49,7 @@ fn read_alternative(all: u64, masks: &[u64], table: &[u64], part: &[u32], at: us
                 next: i,
             };
         }
-        x = joined(x, entry_row(all, masks, table, w));
+        x = joined(x, entry_row(steps, table, w));
         i += 1;
     }
     Read {
@@ -68,10 +58,21 @@ fn read_alternative(all: u64, masks: &[u64], table: &[u64], part: &[u32], at: us
     }
 }
 
-// Unites the alternatives that stand from index `at` on, up to the next sequence.
-pub fn read_sequence(all: u64, masks: &[u64], table: &[u64], part: &[u32], at: usize) -> Row
-    requires { ⌜ Readable (now masks) (now table) (now part) × (at ≤ length (now part)) ⌝ }
-    ensures { λ r. ⌜ r ≡ sequenceWords all (now (masks .entry)) (now (table .entry)) noRow (drop at (now (part .entry))) ⌝ }
+// Whether an entry stands at index `at`.
+fn entry_at(part: &[u32], at: usize) -> bool
+    ensures { λ r. ⌜ (r ≡ false → NoEntry (now (part .entry)) at) ⌝ }
+{
+    if at < part.len() {
+        return is_entry(part[at]);
+    }
+    false
+}
+
+// Unites the alternatives that stand from index `at` on, up to the next sequence. An alternative without entries, of which there are many, has
+// the row that reading begins with.
+pub fn read_sequence(all: u64, steps: &[u64], table: &[u64], part: &[u32], at: usize) -> Row
+    requires { ⌜ Readable (now steps) (now table) (now part) × (at ≤ length (now part)) ⌝ }
+    ensures { λ r. ⌜ r ≡ sequenceWords all (now (steps .entry)) (now (table .entry)) noRow (drop at (now (part .entry))) ⌝ }
 {
     let mut x = none();
     let mut i = at;
@@ -82,10 +83,14 @@ pub fn read_sequence(all: u64, masks: &[u64], table: &[u64], part: &[u32], at: u
         }
         i += 1;
         if is_kind(7, w) {
-            let r = read_alternative(all, masks, table, part, i);
-            let row = r.row;
-            x = united(x, row);
-            i = r.next;
+            if entry_at(part, i) {
+                let r = read_alternative(all, steps, table, part, i);
+                let row = r.row;
+                x = united(x, row);
+                i = r.next;
+            } else {
+                x = united(x, live(start(all)));
+            }
         }
     }
     x

@@ -2,6 +2,7 @@
 use crate::order::finishing_order;
 use crate::pass::settle;
 use crate::row::all_facts;
+use crate::steps::write_step_rows;
 use image::answer::Head;
 use image::parts::sequences_part;
 use image::parts::steps_part;
@@ -12,7 +13,7 @@ ghost use mathlib.Core.List.{_++_};
 ghost use Prim.Native.Nat.{_+_, _*_, _≤_, _<_};
 ghost use lib.ListN.{length, drop};
 ghost use Rattle.image.specs.Library.{libraryOf};
-ghost use Rattle.outcome.specs.Area.{outcomes, TableAsked, FillAsked, Blank, libraryIn};
+ghost use Rattle.outcome.specs.Area.{outcomes, TableAsked, FillAsked, RowsAsked, Blank, libraryIn};
 
 // Clears an area.
 fn clear(area: &mut [u64])
@@ -25,30 +26,47 @@ fn clear(area: &mut [u64])
     }
 }
 
-// Fills `table`, which has eight words a sequence, from the two parts of an accepted image.
-fn fill(h: Head, steps: &[u32], sequences: &[u32], table: &mut [u64])
-    requires { ⌜ FillAsked h (now steps) (now sequences) (now table) ⌝ }
+// Fills `table`, which has eight words a sequence, from the two parts of an accepted image. The other areas have three words and eight
+// words a step.
+fn fill_by(
+    h: Head,
+    steps: &[u32],
+    sequences: &[u32],
+    masks: &mut [u64],
+    rows: &mut [u64],
+    table: &mut [u64],
+)
+    requires { ⌜ FillAsked h (now steps) (now sequences) (now table) × RowsAsked h (now masks) (now rows) ⌝ }
     ensures { λ _. ⌜ now (table .exit) ≡ outcomes (libraryIn h (now (steps .entry)) (now (sequences .entry))) ⌝ }
 {
-    let mut masks = [0u64; 3072];
     let mut places = [0u32; 256];
     let mut next = [0usize; 256];
     let mut stack = [0usize; 256];
     let mut order = [0usize; 256];
     let n = h.sequences as usize;
-    write_masks(h, steps, &mut masks);
+    let all = all_facts(h.facts);
+    write_masks(h, steps, masks);
+    write_step_rows(all, masks, h.steps as usize, rows);
     write_places(h, sequences, &mut places);
     finishing_order(sequences, &places[..n], &mut next, &mut stack, &mut order);
     clear(table);
-    settle(
-        all_facts(h.facts),
-        &masks,
-        sequences,
-        &places,
-        &order[..n],
-        table,
-        n,
-    );
+    settle(all, rows, sequences, &places, &order[..n], table, n);
+}
+
+// So with areas of its own: small ones where there are few steps, since it takes time to make them.
+fn fill(h: Head, steps: &[u32], sequences: &[u32], table: &mut [u64])
+    requires { ⌜ FillAsked h (now steps) (now sequences) (now table) ⌝ }
+    ensures { λ _. ⌜ now (table .exit) ≡ outcomes (libraryIn h (now (steps .entry)) (now (sequences .entry))) ⌝ }
+{
+    if h.steps <= 64 {
+        let mut masks = [0u64; 192];
+        let mut rows = [0u64; 512];
+        fill_by(h, steps, sequences, &mut masks, &mut rows, table);
+    } else {
+        let mut masks = [0u64; 3072];
+        let mut rows = [0u64; 8192];
+        fill_by(h, steps, sequences, &mut masks, &mut rows, table);
+    }
 }
 
 // Writes the outcome table of an accepted image into the area. Words past it stay.

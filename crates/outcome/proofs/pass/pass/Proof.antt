@@ -15,11 +15,11 @@ use Rattle.outcome.proofs.pass.place_of.Reads as place-of-reads
 use Rattle.outcome.proofs.pass.visit.Reads as visit-reads
 
 abbrev Inv-loop : tie.InvT-loop
-Inv-loop all masks part places order forward table₀ n changed₀ i₀ table changed i =
-    Sweeping (visited all masks part places) lacking n order forward table₀ table changed i
+Inv-loop all steps part places order forward table₀ n changed₀ i₀ table changed i =
+    Sweeping (visited all steps part places) lacking n order forward table₀ table changed i
 
 abbrev μ-loop : tie.MeasureT-loop
-μ-loop all masks part places order forward table₀ n changed₀ i₀ table changed i = length order - i
+μ-loop all steps part places order forward table₀ n changed₀ i₀ table changed i = length order - i
 
 loop-holds : tie.Need-loop-holds Inv-loop μ-loop
 loop-holds c =
@@ -45,7 +45,7 @@ visit-requires c κs =
     let at-loop = c .before .before .before .before .before in
     let start = at-loop .before .before .before .before .before .before in
     let a = start .args in
-    (visitable-at (at-loop .loop .table) (reached-length (visits-lower (a .all) (a .masks .now) (a .part .now) (a .places .now) (a .n)) (at-loop .loop .inv .reached)) (start .pre), c .before .if1 .taken)
+    (visitable-at (at-loop .loop .table) (reached-length (visits-lower (a .all) (a .steps .now) (a .part .now) (a .places .now) (a .n)) (at-loop .loop .inv .reached)) (start .pre), c .before .if1 .taken)
 
 loop-less : tie.Need-loop-less Inv-loop μ-loop
 loop-less c = search needs
@@ -57,7 +57,7 @@ loop-again c =
     let at-loop = place .before .before in
     let start = at-loop .before .before .before .before .before .before in
     let a = start .args in
-    sweeping-turn (visits-lower (a .all) (a .masks .now) (a .part .now) (a .places .now) (a .n)) (a .order .now) (a .forward) (a .table .now) (at-loop .loop .table) (at-loop .loop .changed) (at-loop .loop .i) _ (visit .visit .last .1 .1 .1 .1 .0) (visit .visit .result)
+    sweeping-turn (visits-lower (a .all) (a .steps .now) (a .part .now) (a .places .now) (a .n)) (a .order .now) (a .forward) (a .table .now) (at-loop .loop .table) (at-loop .loop .changed) (at-loop .loop .i) _ (visit .visit .last .1 .1 .1 .1 .0) (visit .visit .result)
     (start .pre .rows) (place .before .loop-test .taken) (ap (λ (j : ℕ). getD (a .order .now) j 0) (place .place-of .ensures .0)) (visit .before .before .if1 .taken) (at-loop .loop .inv) (visit .visit .ensures)
 
 loop-less-2 : tie.Need-loop-less-2 Inv-loop μ-loop
@@ -74,7 +74,7 @@ loop-again-2 c =
 same-length : tie.Need-same-length Inv-loop μ-loop
 same-length c =
     let a = c .before .before .before .before .before .before .before .args in
-    reached-length (visits-lower (a .all) (a .masks .now) (a .part .now) (a .places .now) (a .n)) (c .before .loop .inv .reached)
+    reached-length (visits-lower (a .all) (a .steps .now) (a .part .now) (a .places .now) (a .n)) (c .before .loop .inv .reached)
 
 returns : tie.Need-returns Inv-loop μ-loop
 returns c =

@@ -12,10 +12,10 @@ use Rattle.outcome.proofs.pass.plain_pass.Lts as lts
 use Rattle.outcome.proofs.pass.visit.Reads as visit-reads
 
 abbrev Inv-loop : tie.InvT-loop
-Inv-loop all masks part places table₀ n changed₀ c₀ table changed c = Passing (visited all masks part places) lacking n table₀ table changed c
+Inv-loop all steps part places table₀ n changed₀ c₀ table changed c = Passing (visited all steps part places) lacking n table₀ table changed c
 
 abbrev μ-loop : tie.MeasureT-loop
-μ-loop all masks part places table₀ n changed₀ c₀ table changed c = n - c
+μ-loop all steps part places table₀ n changed₀ c₀ table changed c = n - c
 
 loop-holds : tie.Need-loop-holds Inv-loop μ-loop
 loop-holds c = let a = c .before .before .before .before .args in passing-start (a .table .now)
@@ -25,7 +25,7 @@ visit-requires c κs =
     let at-loop = c .before .before in
     let start = at-loop .before .before .before .before .before in
     let a = start .args in
-    (visitable-at (at-loop .loop .table) (reached-length (visits-lower (a .all) (a .masks .now) (a .part .now) (a .places .now) (a .n)) (at-loop .loop .inv .reached)) (start .pre), c .before .loop-test .taken)
+    (visitable-at (at-loop .loop .table) (reached-length (visits-lower (a .all) (a .steps .now) (a .part .now) (a .places .now) (a .n)) (at-loop .loop .inv .reached)) (start .pre), c .before .loop-test .taken)
 
 add-c : tie.Need-add-c Inv-loop μ-loop
 add-c c = search needs
@@ -39,11 +39,11 @@ loop-again c =
     let at-loop = visit .before .before .before in
     let start = at-loop .before .before .before .before .before in
     let a = start .args in
-    passing-turn (visits-lower (a .all) (a .masks .now) (a .part .now) (a .places .now) (a .n)) (a .table .now) (at-loop .loop .table) (at-loop .loop .changed) (at-loop .loop .c) (visit .visit .last .1 .1 .1 .1 .0) (visit .visit .result)
+    passing-turn (visits-lower (a .all) (a .steps .now) (a .part .now) (a .places .now) (a .n)) (a .table .now) (at-loop .loop .table) (at-loop .loop .changed) (at-loop .loop .c) (visit .visit .last .1 .1 .1 .1 .0) (visit .visit .result)
     (start .pre .rows) (visit .before .before .loop-test .taken) (at-loop .loop .inv) (visit .visit .ensures)
 
 same-length : tie.Need-same-length Inv-loop μ-loop
-same-length c = let a = c .before .before .before .before .before .before .args in reached-length (visits-lower (a .all) (a .masks .now) (a .part .now) (a .places .now) (a .n)) (c .before .loop .inv .reached)
+same-length c = let a = c .before .before .before .before .before .before .args in reached-length (visits-lower (a .all) (a .steps .now) (a .part .now) (a .places .now) (a .n)) (c .before .loop .inv .reached)
 
 returns : tie.Need-returns Inv-loop μ-loop
 returns c =

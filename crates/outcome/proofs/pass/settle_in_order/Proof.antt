@@ -11,11 +11,11 @@ use Rattle.outcome.proofs.pass.settle_in_order.Lts as lts
 use Rattle.outcome.proofs.pass.pass.Reads as pass-reads
 
 abbrev Inv-loop : tie.InvT-loop
-Inv-loop all masks part places order table₀ n forward₀ table forward =
-    Reached (visited all masks part places) n table₀ table
+Inv-loop all steps part places order table₀ n forward₀ table forward =
+    Reached (visited all steps part places) n table₀ table
 
 abbrev μ-loop : tie.MeasureT-loop
-μ-loop all masks part places order table₀ n forward₀ table forward = lacking table
+μ-loop all steps part places order table₀ n forward₀ table forward = lacking table
 
 loop-holds : tie.Need-loop-holds Inv-loop μ-loop
 loop-holds c = here
@@ -25,7 +25,7 @@ pass-requires c κs =
     let at-loop = c .before in
     let start = at-loop .before .before .before .before .before .before in
     let a = start .args in
-    visitable-at (at-loop .loop .table) (reached-length (visits-lower (a .all) (a .masks .now) (a .part .now) (a .places .now) (a .n)) (at-loop .loop .inv)) (start .pre .0)
+    visitable-at (at-loop .loop .table) (reached-length (visits-lower (a .all) (a .steps .now) (a .part .now) (a .places .now) (a .n)) (at-loop .loop .inv)) (start .pre .0)
 
 loop-less : tie.Need-loop-less Inv-loop μ-loop
 loop-less c = c .before .before .before .pass .ensures .falls (c .if1 .taken)
@@ -40,7 +40,7 @@ same-length c =
     let turn = c .before .before .before in
     let at-loop = turn .before .before in
     let a = at-loop .before .before .before .before .before .before .args in
-    reached-length (visits-lower (a .all) (a .masks .now) (a .part .now) (a .places .now) (a .n)) (reached-on (at-loop .loop .inv) (turn .pass .ensures .reached))
+    reached-length (visits-lower (a .all) (a .steps .now) (a .part .now) (a .places .now) (a .n)) (reached-on (at-loop .loop .inv) (turn .pass .ensures .reached))
 
 returns : tie.Need-returns Inv-loop μ-loop
 returns c =
@@ -48,8 +48,8 @@ returns c =
     let at-loop = turn .before .before in
     let start = at-loop .before .before .before .before .before .before in
     let a = start .args in
-    subst (Pass (visited (a .all) (a .masks .now) (a .part .now) (a .places .now)) lacking (a .n) (a .table .now) (turn .pass .last .1 .1 .1 .1 .1 .1 .0)) (c .if1 .left)
-    (pass-after (visits-lower (a .all) (a .masks .now) (a .part .now) (a .places .now) (a .n)) (a .table .now) (at-loop .loop .table) (turn .pass .last .1 .1 .1 .1 .1 .1 .0) (turn .pass .result) (start .pre .0 .rows) (at-loop .loop .inv) (swept-pass (a .order .now) (at-loop .loop .table) (turn .pass .last .1 .1 .1 .1 .1 .1 .0) (turn .pass .result) (start .pre .1) (turn .pass .ensures)))
+    subst (Pass (visited (a .all) (a .steps .now) (a .part .now) (a .places .now)) lacking (a .n) (a .table .now) (turn .pass .last .1 .1 .1 .1 .1 .1 .0)) (c .if1 .left)
+    (pass-after (visits-lower (a .all) (a .steps .now) (a .part .now) (a .places .now) (a .n)) (a .table .now) (at-loop .loop .table) (turn .pass .last .1 .1 .1 .1 .1 .1 .0) (turn .pass .result) (start .pre .0 .rows) (at-loop .loop .inv) (swept-pass (a .order .now) (at-loop .loop .table) (turn .pass .last .1 .1 .1 .1 .1 .1 .0) (turn .pass .result) (start .pre .1) (turn .pass .ensures)))
 
 pub settle-in-order-spec : {M : Type 1} → statement M
 settle-in-order-spec =

@@ -7,7 +7,6 @@ use mathlib.Core.Bool.{true, false}
 use Prim.Native.Nat.{ℕ}
 use Rattle.image.specs.Word.{kind, payload}
 use Rattle.outcome.specs.Words.{rowIn}
-use Rattle.outcome.specs.Walks.{maskRow}
 use Rattle.outcome.proofs.Walks.{entry-kinds}
 use Rattle.outcome.proofs.read.entry_row.Statement.{statement}
 use Rattle.outcome.proofs.read.entry_row.Tie as tie
@@ -15,7 +14,6 @@ use Rattle.outcome.proofs.read.entry_row.Reads as reads
 use Rattle.outcome.proofs.read.entry_row.Lts as lts
 use Rattle.image.proofs.word.is_kind.Reads as is-kind-reads
 use Rattle.image.proofs.word.payload_of.Reads as payload-of-reads
-use Rattle.outcome.proofs.read.step_row.Reads as step-row-reads
 use Rattle.outcome.proofs.row.row_at.Reads as row-at-reads
 
 is-kind-requires : tie.Need-is-kind-requires
@@ -24,8 +22,11 @@ is-kind-requires c κs = search needs
 payload-of-requires : tie.Need-payload-of-requires
 payload-of-requires c κs = search needs
 
-step-row-requires : tie.Need-step-row-requires
-step-row-requires c κs =
+cast-row-at : tie.Need-cast-row-at
+cast-row-at c = search needs
+
+row-at-requires : tie.Need-row-at-requires
+row-at-requires c κs =
     let kinds = c .before .before in
     let start = kinds .before .before .before in
     rw (c .payload-of .ensures) (start .pre .0 .0 (eqb-true (kind (start .args .w)) 8 (sym (kinds .is-kind .ensures) ∙ c .before .if1 .taken)))
@@ -35,16 +36,16 @@ returns c =
     let kinds = c .before .before .before in
     let start = kinds .before .before .before in
     simp (sym (kinds .is-kind .ensures) ∙ c .before .before .if1 .taken)
-    (c .step-row .ensures ∙ ap (maskRow (start .args .all) (start .args .masks .now)) (c .before .payload-of .ensures))
+    (c .row-at .ensures ∙ ap (rowIn (start .args .steps .now)) (c .before .payload-of .ensures))
 
 payload-of-requires-2 : tie.Need-payload-of-requires-2
 payload-of-requires-2 c κs = search needs
 
-cast-row-at : tie.Need-cast-row-at
-cast-row-at c = search needs
+cast-row-at-2 : tie.Need-cast-row-at-2
+cast-row-at-2 c = search needs
 
-row-at-requires : tie.Need-row-at-requires
-row-at-requires c κs =
+row-at-requires-2 : tie.Need-row-at-requires-2
+row-at-requires-2 c κs =
     let kinds = c .before .before in
     let start = kinds .before .before .before in
     rw (c .payload-of2 .ensures)
@@ -56,7 +57,7 @@ returns-2 c =
     let kinds = c .before .before .before in
     let start = kinds .before .before .before in
     simp (sym (kinds .is-kind .ensures) ∙ c .before .before .if1 .left)
-    (c .row-at .ensures ∙ ap (rowIn (start .args .table .now)) (c .before .payload-of2 .ensures))
+    (c .row-at2 .ensures ∙ ap (rowIn (start .args .table .now)) (c .before .payload-of2 .ensures))
 
 pub entry-row-spec : {M : Type 1} → statement M
 entry-row-spec =
@@ -64,9 +65,10 @@ entry-row-spec =
     (tie.spec
     is-kind-requires
     payload-of-requires
-    step-row-requires
-    returns
-    payload-of-requires-2
     cast-row-at
     row-at-requires
+    returns
+    payload-of-requires-2
+    cast-row-at-2
+    row-at-requires-2
     returns-2)

@@ -19,10 +19,10 @@ use Rattle.outcome.proofs.row.live.Reads as live-reads
 use Rattle.outcome.proofs.row.start.Reads as start-reads
 
 abbrev Inv-loop : tie.InvT-loop
-Inv-loop all masks table part at x₀ i₀ x i = Folding all masks table part at x i
+Inv-loop all steps table part at x₀ i₀ x i = Folding all steps table part at x i
 
 abbrev μ-loop : tie.MeasureT-loop
-μ-loop all masks table part at x₀ i₀ x i = length part - i
+μ-loop all steps table part at x₀ i₀ x i = length part - i
 
 start-requires : tie.Need-start-requires Inv-loop μ-loop
 start-requires c κs = search needs
@@ -31,7 +31,7 @@ loop-holds : tie.Need-loop-holds Inv-loop μ-loop
 loop-holds c =
     let start = c .before .before .before .before in
     let a = start .args in
-    rw (c .start .ensures) (folding-start (a .all) (a .masks .now) (a .table .now) (a .part .now) (a .at) (start .pre .1))
+    rw (c .start .ensures) (folding-start (a .all) (a .steps .now) (a .table .now) (a .part .now) (a .at) (start .pre .1))
 
 mul-w : tie.Need-mul-w Inv-loop μ-loop
 mul-w c = search needs
@@ -53,7 +53,7 @@ returns c =
     record {
       row =
           c .live .ensures
-          ∙ folding-out (a .all) (a .masks .now) (a .table .now) (a .part .now) (a .at) (at-loop .loop .x) (at-loop .loop .i) (at-loop .loop .inv) (omega arith)
+          ∙ folding-out (a .all) (a .steps .now) (a .table .now) (a .part .now) (a .at) (at-loop .loop .x) (at-loop .loop .i) (at-loop .loop .inv) (omega arith)
           (sym (entry .is-entry .ensures) ∙ not-true _ (c .before .if1 .taken));
       low = at-loop .loop .inv .low;
       within = at-loop .loop .inv .within;
@@ -83,7 +83,7 @@ loop-again c =
     let at-loop = entry .before .before .before in
     let a = at-loop .before .before .before .before .before .args in
     rw (c .joined .ensures, c .before .entry-row .ensures)
-    (folding-turn (a .all) (a .masks .now) (a .table .now) (a .part .now) (a .at) (at-loop .loop .x) (at-loop .loop .i) (at-loop .loop .inv) (omega arith)
+    (folding-turn (a .all) (a .steps .now) (a .table .now) (a .part .now) (a .at) (at-loop .loop .x) (at-loop .loop .i) (at-loop .loop .inv) (omega arith)
     (sym (entry .is-entry .ensures) ∙ not-false _ (c .before .before .if1 .left)))
 
 live-requires-2 : tie.Need-live-requires-2 Inv-loop μ-loop
@@ -94,7 +94,7 @@ returns-2 c =
     let at-loop = c .before .before in
     let a = at-loop .before .before .before .before .before .args in
     record {
-      row = c .live2 .ensures ∙ folding-end (a .all) (a .masks .now) (a .table .now) (a .part .now) (a .at) (at-loop .loop .x) (at-loop .loop .i) (at-loop .loop .inv) (omega arith);
+      row = c .live2 .ensures ∙ folding-end (a .all) (a .steps .now) (a .table .now) (a .part .now) (a .at) (at-loop .loop .x) (at-loop .loop .i) (at-loop .loop .inv) (omega arith);
       low = at-loop .loop .inv .low;
       within = at-loop .loop .inv .within;
       skips = at-loop .loop .inv .skips;
