@@ -25,7 +25,7 @@ use Rattle.chain.specs.Stands.{entryAt}
 use Rattle.chain.specs.Ranks.{Ranks, Look, Reached, Linked, Closed, unranked, entryRank, linkLook, depthLook, hasMark, canStay, canRun, aheadOf, behindOf, touchLook, untouchedLook}
 use Rattle.chain.specs.Answer.{Answer, none, shown, chosenAlternative, chosenPosition, followed, linksFrom, touchAnswer, untouchedAnswer, ranksIn}
 use Rattle.chain.specs.Walk.{linkFrom, alternativeFrom}
-use Rattle.chain.specs.Tables.{entryNumber, markOf, inRanks, stepMark, markIn, runIn, stayIn, aheadIn, behindIn, lookIn, alternativesAt}
+use Rattle.chain.specs.Tables.{entryNumber, markOf, inRanks, stepMark, markIn, runIn, stayIn, possibleIn, aheadIn, behindIn, lookIn, alternativesAt}
 use Rattle.chain.specs.Choice.{linkIn, linkEntry, linkAt, linksIn, quietLink, answerIn}
 use Rattle.chain.specs.Described.{isFirst, markNumber, Asks, Described}
 use Rattle.chain.specs.declared.entry.Asked.{Asked}
@@ -86,13 +86,22 @@ module _ (L : Library) (q : Asked) (Q : Question) (masks table part places : Lis
   run-is (step a) = refl
   run-is (call d) = ap (λ (n : ℕ). inColumn (getD table n 0) f) (sym (add-zero (8 * d))) ∙ described .rows d 0 f (omega arith) (asks .fact)
 
+  -- the columns of the question's side
+  pub possible-is : (d : ℕ) (m : Mark) → possibleIn q table d (markNumber m) ≡ possibleOutcome L (record { side = Q .side; mark = m }) d f
+  possible-is d m = rw (asks .first) (go (Q .side) m)
+    where
+      go : (s : Side) (m : Mark)
+          → inColumn (getD table (8 * d + (cond (isFirst s) 5 2 + markNumber m)) 0) f ≡ possibleOutcome L (record { side = s; mark = m }) d f
+      go last present = described .rows d 2 f (omega arith) (asks .fact)
+      go last absent = described .rows d 3 f (omega arith) (asks .fact)
+      go last untouched = described .rows d 4 f (omega arith) (asks .fact)
+      go first present = described .rows d 5 f (omega arith) (asks .fact)
+      go first absent = described .rows d 6 f (omega arith) (asks .fact)
+      go first untouched = described .rows d 7 f (omega arith) (asks .fact)
+
   stay-is : (e : Entry) → stayIn q masks table e ≡ canStay L Q f e
   stay-is (step a) = rw (step-mark a) (same-number (itemTouch L (Q .side) f a) untouched)
-  stay-is (call d) = rw (asks .first) (go (Q .side))
-    where
-      go : (s : Side) → inColumn (getD table (8 * d + cond (isFirst s) 7 4) 0) f ≡ possibleOutcome L (record { side = s; mark = untouched }) d f
-      go last = described .rows d 4 f (omega arith) (asks .fact)
-      go first = described .rows d 7 f (omega arith) (asks .fact)
+  stay-is (call d) = possible-is d untouched
 
   ahead-is : aheadIn q masks table ≡ aheadOf L Q f (Q .side)
   ahead-is = fun-ext (λ e. ap (λ (b : Bool). cond b (stayIn q masks table e) (runIn q masks table e)) (asks .first) ∙ go (Q .side) e)

@@ -35,15 +35,16 @@ use Rattle.outcome.specs.Touch.{Mark, present, absent, untouched, Question}
 use Rattle.outcome.specs.Passes.{Pass}
 use Rattle.chain.specs.Scan.{total}
 use Rattle.chain.specs.Ranks.{Look, unranked, touchLook, untouchedLook}
-use Rattle.chain.specs.Answer.{answer}
+use Rattle.chain.specs.Answer.{answer, none}
 use Rattle.chain.specs.Visits.{Visits, Settled}
-use Rattle.chain.specs.Tables.{lookIn, Readable, Visitable, alternativesAt, visitedRanks}
+use Rattle.chain.specs.Tables.{possibleIn, lookIn, Readable, Visitable, alternativesAt, visitedRanks}
 use Rattle.chain.specs.Choice.{Choosable, answerIn}
 use Rattle.chain.specs.Described.{Asks, Described, isFirst, markNumber, sideBy, markBy, questionBy}
 use Rattle.chain.specs.declared.entry.Asked.{Asked}
+use Rattle.chain.proofs.Answers.{answer-possible}
 use Rattle.chain.proofs.Visits.{touch-good, settled-touch, settled-untouched}
 use Rattle.chain.proofs.Settling.{pass-visits, pass-settled}
-use Rattle.chain.proofs.Describes.{touch-look, quiet-look, touch-answer, quiet-answer}
+use Rattle.chain.proofs.Describes.{possible-is, touch-look, quiet-look, touch-answer, quiet-answer}
 
 -- past the words of a list there is nothing
 blank-after : (xs rest : List ℕ) (k : ℕ) → Blank rest → length xs ≤ k → getD (xs ++ rest) k 0 ≡ 0
@@ -156,6 +157,9 @@ row-bits L rest blank d j f k below =
 module _ (image : List ℕ) (h : Head) (accepted : checked image ≡ Accepted h) where
   pub image-long : 2 ≤ length image
   image-long = faultless image h accepted .low
+
+  pub facts-high : h .facts ≤ 64
+  facts-high = faultless image h accepted .facts-high
 
   pub masks-asked : (first area : List ℕ) → first ≡ stepsPart image → length area ≡ 3072 → StepsAsked h first area
   masks-asked first area cut long =
@@ -322,6 +326,11 @@ module _ (image : List ℕ) (h : Head) (first part ms table ps : List ℕ) (made
         none = omega (arith, has .sequences);
         fact = omega (arith, has .facts);
       }
+
+  pub none-found : (q : Asked) (Q : Question) → Asks L q Q → (c : ℕ) → possibleIn q table c (q .mark) ≡ false → answer L Q c (q .fact) ≡ none
+  none-found q Q asks c e =
+      answer-possible L Q c (q .fact) .1
+      (sym (possible-is L q Q ms table part ps asks tables-describe c (Q .mark)) ∙ ap (possibleIn q table c) (sym (asks .mark)) ∙ e)
 
   pub answer-found : (q : Asked) (Q : Question) → Asks L q Q → (n m : ℕ) (before ranks : List ℕ) → n ≡ h .sequences → h .sequences ≤ m
       → before ≡ replicate m (q .none) → Pass (visitedRanks q ms table part ps) total n before ranks false → (c : ℕ) → c < h .sequences

@@ -42,14 +42,18 @@ stepMark q masks a =
 abbrev pub markIn : Asked → List ℕ → Item → Bool
 markIn q masks a = eqb (stepMark q masks a) (q .mark)
 
+-- the outcome table has mark m, on the question's side, for sequence d: columns 2 to 4 are those of the last side, 5 to 7 of the first
+abbrev pub possibleIn : Asked → List ℕ → ℕ → ℕ → Bool
+possibleIn q table d m = inColumn (getD table (8 * d + (cond (q .first) 5 2 + m)) 0) (q .fact)
+
 module _ (q : Asked) (masks table : List ℕ) where
   -- "has a run": column 0 of the outcome table
   abbrev pub runIn : Entry → Bool
   runIn = entryPasses (λ a. true) (λ d. inColumn (getD table (8 * d) 0) (q .fact))
 
-  -- "can stay untouched": column 4 on the last side, 7 on the first
+  -- "can stay untouched"
   abbrev pub stayIn : Entry → Bool
-  stayIn = entryPasses (λ a. eqb (stepMark q masks a) 2) (λ d. inColumn (getD table (8 * d + cond (q .first) 7 4) 0) (q .fact))
+  stayIn = entryPasses (λ a. eqb (stepMark q masks a) 2) (λ d. possibleIn q table d 2)
 
   abbrev pub aheadIn : Entry → Bool
   aheadIn e = cond (q .first) (stayIn e) (runIn e)

@@ -1,6 +1,7 @@
 // The chain call: refusals 1 to 7 and 9 to 12, a chain, or none.
 use crate::answer::Chained;
 use crate::entry::Asked;
+use crate::entry::has_mark;
 use crate::pass::settle;
 use crate::write::write_chain;
 use image::answer::Checked;
@@ -37,6 +38,9 @@ fn find(h: Head, image: &[u32], q: Asked, c: u32, area: &mut [u32]) -> Chained
     write_masks(h, steps_part(image), &mut masks);
     write_places(h, part, &mut places);
     outcome_table(h, image, &mut table);
+    if !has_mark(q, &table, c as usize, q.mark) {
+        return Chained::None;
+    }
     finishing_order(part, &places[..n], &mut next, &mut stack, &mut order);
     settle(q, &masks, &table, part, &places, &order[..n], &mut ranks, n);
     write_chain(q, &masks, &table, &ranks, part, &places, area, c)

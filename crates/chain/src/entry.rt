@@ -9,7 +9,7 @@ ghost use Prim.Native.Nat.{ℕ, _+_, _*_, _≤_, _<_};
 ghost use lib.ListN.{length};
 ghost use Rattle.image.specs.Word.{isEntry};
 ghost use Rattle.image.specs.Library.{call};
-ghost use Rattle.chain.specs.Tables.{markOf, stepMark, entryOf, traitsIn, Within};
+ghost use Rattle.chain.specs.Tables.{markOf, stepMark, entryOf, possibleIn, traitsIn, Within};
 
 // The question: its side, the mark asked for there (0 and 1 for the two touches, 2 for untouched), the fact, and what stands for "no rank".
 pub struct Asked {
@@ -74,14 +74,25 @@ fn sided(first: bool, rank: u32, stays: bool, runs: bool) -> Traits
     }
 }
 
-// The outcome table's column of those that can stay untouched.
-fn stay_column(first: bool) -> usize
-    ensures { λ r. ⌜ (r ≡ cond first 7 4) × (r ≤ 7) ⌝ }
+// The column of a side's first mark in the outcome table.
+fn first_column(first: bool) -> usize
+    ensures { λ r. ⌜ (r ≡ cond first 5 2) × (r ≤ 5) ⌝ }
 {
     if first {
-        return 7;
+        return 5;
     }
-    4
+    2
+}
+
+// Whether the outcome table has the mark, on the question's side, for sequence `d`.
+pub fn has_mark(q: Asked, table: &[u64], d: usize, mark: u32) -> bool
+    requires { ⌜ (q .fact < 64) × (8 * d + 8 ≤ length (now table)) × (mark ≤ 2) ⌝ }
+    ensures { λ r. ⌜ r ≡ possibleIn q (now (table .entry)) d mark ⌝ }
+{
+    holds(
+        table[8 * d + (first_column(q.first) + mark as usize)],
+        q.fact,
+    )
 }
 
 // The traits of sequence `d`, by its row of the outcome table and its rank.
@@ -89,10 +100,8 @@ fn sequence_traits(q: Asked, table: &[u64], ranks: &[u32], d: usize) -> Traits
     requires { ⌜ (q .fact < 64) × (8 * d + 8 ≤ length (now table)) × (d < length (now ranks)) ⌝ }
     ensures { λ r. ⌜ ((masks : List ℕ) → r ≡ traitsIn q masks (now (table .entry)) (now (ranks .entry)) (call d)) ⌝ }
 {
-    let at = 8 * d;
-    let runs = holds(table[at], q.fact);
-    let stays = holds(table[at + stay_column(q.first)], q.fact);
-    sided(q.first, ranks[d], stays, runs)
+    let runs = holds(table[8 * d], q.fact);
+    sided(q.first, ranks[d], has_mark(q, table, d, 2), runs)
 }
 
 // The traits of an entry.

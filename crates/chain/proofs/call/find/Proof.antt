@@ -1,16 +1,19 @@
 -- `chain::call::find` meets its contract: the tables made of the image describe its library, and settled ranks give the answer.
 -- Assumes nothing.
 use borrow.Author.Needs.{needs}
+use borrow.Author.Tests.{not-true}
 use native.Mathlib.Omega.{arith}
-use mathlib.Core.Path.{refl, sym}
+use mathlib.Core.Path.{refl, sym, _∙_}
 use lib.ListN.{length-take}
 use lib.Seq.{length-take-le}
 use Rattle.outcome.proofs.Fill.{blank-zeros}
-use Rattle.chain.proofs.Finding.{image-long, masks-asked, places-asked, table-asked, few-sequences, made-of, tables-visitable, tables-choosable, asks-by, answer-found}
+use Rattle.chain.proofs.Finding.{image-long, facts-high, masks-asked, places-asked, table-asked, few-sequences, made-of, tables-visitable, tables-choosable, asks-by, none-found, answer-found}
+use Rattle.chain.proofs.Writing.{none-answered}
 use Rattle.chain.proofs.call.find.Statement.{statement}
 use Rattle.chain.proofs.call.find.Tie as tie
 use Rattle.chain.proofs.call.find.Reads as reads
 use Rattle.chain.proofs.call.find.Lts as lts
+use Rattle.chain.proofs.entry.has_mark.Reads as has-mark-reads
 use Rattle.chain.proofs.pass.settle.Reads as settle-reads
 use Rattle.chain.proofs.write.write_chain.Reads as write-chain-reads
 use Rattle.image.proofs.parts.sequences_part.Reads as sequences-part-reads
@@ -63,17 +66,47 @@ outcome-table-requires c κs =
     let a = start .args in
     table-asked (a .image .now) (a .h) (start .pre .accepted) _ refl
 
+slice-aggregate-has-mark : tie.Need-slice-aggregate-has-mark
+slice-aggregate-has-mark c = search needs
+
+has-mark-requires : tie.Need-has-mark-requires
+has-mark-requires c κs =
+    let table = c .before .before in
+    let places = table .before .before .before in
+    let masks = places .before .before .before in
+    let first = masks .before .before in
+    let part = first .before in
+    let start = part .before .before .before .before in
+    let a = start .args in
+    (omega (arith, start .pre .fact, facts-high (a .image .now) (a .h) (start .pre .accepted)), omega (arith, table .outcome-table .kept, start .pre .sequence, few-sequences (a .image .now) (a .h) (start .pre .accepted)), start .pre .mark)
+
+returns : tie.Need-returns
+returns c =
+    let table = c .before .before .before .before in
+    let places = table .before .before .before in
+    let masks = places .before .before .before in
+    let first = masks .before .before in
+    let part = first .before in
+    let start = part .before .before .before .before in
+    let a = start .args in
+    let made =
+    made-of (a .image .now) (a .h) _ _ _ _ _ _ _ _ (start .pre .accepted) (first .steps-part .ensures) (part .sequences-part .ensures) (blank-zeros 3072) (blank-zeros 2048)
+    (blank-zeros 256) (masks .write-masks .ensures) (table .outcome-table .ensures) (places .write-places .ensures) (omega (arith, masks .write-masks .kept))
+    (omega (arith, table .outcome-table .kept)) (omega (arith, places .write-places .kept)) in
+    none-answered _ (a .area .now)
+    (none-found (a .image .now) (a .h) _ _ _ _ _ made (a .q) _ (asks-by (a .image .now) (a .h) _ _ _ _ _ made (a .q) (start .pre .mark) (start .pre .fact) (start .pre .none)) (a .c) (sym (c .before .has-mark .ensures) ∙ not-true _ (c .if1 .taken)))
+
 array-share-prefix-places : tie.Need-array-share-prefix-places
 array-share-prefix-places c =
-    let start = c .before .before .before .before .before .before .before .before .before .before .before .before .before .before in
+    let start = c .before .before .before .before .before .before .before .before .before .before .before .before .before .before .before .before .before in
     let a = start .args in
-    omega (arith, c .before .before .before .before .write-places .kept, few-sequences (a .image .now) (a .h) (start .pre .accepted))
+    omega (arith, c .before .before .before .before .before .before .before .write-places .kept, few-sequences (a .image .now) (a .h) (start .pre .accepted))
 
 slice-aggregate-finishing-order : tie.Need-slice-aggregate-finishing-order
 slice-aggregate-finishing-order c =
-    let start = c .before .before .before .before .before .before .before .before .before .before .before .before .before .before .before in
+    let start = c .before .before .before .before .before .before .before .before .before .before .before .before .before .before .before .before .before .before in
     let a = start .args in
-    sym (length-take-le _ _ (omega (arith, c .before .before .before .before .before .write-places .kept, few-sequences (a .image .now) (a .h) (start .pre .accepted))))
+    sym (length-take-le _ _ (omega (arith, c .before .before .before .before .before .before .before .before .write-places .kept, few-sequences (a .image .now) (a .h) (start .pre .accepted))))
 
 slice-aggregate-finishing-order-2 : tie.Need-slice-aggregate-finishing-order-2
 slice-aggregate-finishing-order-2 c = search needs
@@ -86,7 +119,7 @@ slice-aggregate-finishing-order-4 c = search needs
 
 finishing-order-requires : tie.Need-finishing-order-requires
 finishing-order-requires c κs =
-    let places = c .before .before .before .before .before .before .before .before in
+    let places = c .before .before .before .before .before .before .before .before .before .before .before in
     let start = places .before .before .before .before .before .before .before .before .before .before in
     let a = start .args in
     omega (arith, length-take (a .h .sequences) (places .write-places .last .1 .1 .0), few-sequences (a .image .now) (a .h) (start .pre .accepted))
@@ -102,13 +135,13 @@ slice-aggregate-settle-3 c = search needs
 
 array-share-prefix-order : tie.Need-array-share-prefix-order
 array-share-prefix-order c =
-    let start = c .before .before .before .before .before .before .before .before .before .before .before .before .before .before .before .before .before .before .before .before .before .before .before .before .before in
+    let start = c .before .before .before .before .before .before .before .before .before .before .before .before .before .before .before .before .before .before .before .before .before .before .before .before .before .before .before .before in
     let a = start .args in
     omega (arith, c .before .before .before .before .before .before .finishing-order .kept, few-sequences (a .image .now) (a .h) (start .pre .accepted))
 
 slice-aggregate-settle-4 : tie.Need-slice-aggregate-settle-4
 slice-aggregate-settle-4 c =
-    let start = c .before .before .before .before .before .before .before .before .before .before .before .before .before .before .before .before .before .before .before .before .before .before .before .before .before .before in
+    let start = c .before .before .before .before .before .before .before .before .before .before .before .before .before .before .before .before .before .before .before .before .before .before .before .before .before .before .before .before .before in
     let a = start .args in
     sym (length-take-le _ _ (omega (arith, c .before .before .before .before .before .before .before .finishing-order .kept, few-sequences (a .image .now) (a .h) (start .pre .accepted))))
 
@@ -117,7 +150,7 @@ slice-aggregate-settle-5 c = search needs
 
 settle-requires : tie.Need-settle-requires
 settle-requires c κs =
-    let table = c .before .before .before .before .before .before .before .before .before .before .before .before .before .before in
+    let table = c .before .before .before .before .before .before .before .before .before .before .before .before .before .before .before .before .before in
     let places = table .before .before .before in
     let masks = places .before .before .before in
     let first = masks .before .before in
@@ -145,7 +178,7 @@ slice-aggregate-write-chain-4 c = search needs
 write-chain-requires : tie.Need-write-chain-requires
 write-chain-requires c κs =
     let settled = c .before .before .before .before .before .before in
-    let table = settled .before .before .before .before .before .before .before .before .before .before .before .before .before .before .before in
+    let table = settled .before .before .before .before .before .before .before .before .before .before .before .before .before .before .before .before .before .before in
     let places = table .before .before .before in
     let masks = places .before .before .before in
     let first = masks .before .before in
@@ -161,10 +194,10 @@ write-chain-requires c κs =
 same-length : tie.Need-same-length
 same-length c = search needs
 
-returns : tie.Need-returns
-returns c =
+returns-2 : tie.Need-returns-2
+returns-2 c =
     let settled = c .before .before .before .before .before .before .before .before .before in
-    let table = settled .before .before .before .before .before .before .before .before .before .before .before .before .before .before .before in
+    let table = settled .before .before .before .before .before .before .before .before .before .before .before .before .before .before .before .before .before .before in
     let places = table .before .before .before in
     let masks = places .before .before .before in
     let first = masks .before .before in
@@ -191,6 +224,9 @@ find-spec =
     write-places-requires
     slice-aggregate-outcome-table
     outcome-table-requires
+    slice-aggregate-has-mark
+    has-mark-requires
+    returns
     array-share-prefix-places
     slice-aggregate-finishing-order
     slice-aggregate-finishing-order-2
@@ -210,4 +246,4 @@ find-spec =
     slice-aggregate-write-chain-4
     write-chain-requires
     same-length
-    returns)
+    returns-2)
