@@ -18,7 +18,7 @@ use Rattle.image.proofs.Accepted.{steps-below, faultless, parts, library-is}
 use Rattle.image.proofs.Decode.{steps-length, sequences-length}
 use Rattle.image.proofs.Lookup.{masks-length, row-at, mask-low, places-length, Placed, place-at}
 use Rattle.image.proofs.Rows.{all-at}
-use Rattle.outcome.specs.Area.{outcomes, Blank, TableAsked, FillAsked, libraryIn}
+use Rattle.outcome.specs.Area.{outcomes, Blank, TableAsked, FillAsked, Areas, libraryIn}
 use Rattle.outcome.specs.Execution.{noStep}
 use Rattle.outcome.specs.Words.{allFacts}
 use Rattle.outcome.specs.Passes.{Pass, lacking, Visitable, visited}
@@ -38,6 +38,14 @@ masks-low n (s ∷ ss) rest a blank zero = mask-low n (s .needs) (a .0 .0)
 masks-low n (s ∷ ss) rest a blank (suc zero) = mask-low n (s .sets) (a .0 .1)
 masks-low n (s ∷ ss) rest a blank (suc (suc zero)) = mask-low n (s .clears) (a .0 .2)
 masks-low n (s ∷ ss) rest a blank (suc (suc (suc k))) = masks-low n ss rest (a .1) blank k
+
+pub prepare-asked : (h : Head) (steps sequences table ms ps order : List ℕ) → FillAsked h steps sequences table → Areas ms ps order
+    → StepsAsked h steps ms × SequencesAsked h sequences ps × (h .sequences ≤ 256)
+prepare-asked h steps sequences table ms ps order asked areas = (
+  record { facts = asked .high; words = asked .steps; numbered = asked .steps-numbered; opened = asked .steps-opened; room = omega (arith, asked .steps-high, areas .wide) },
+  record { short = asked .short; numbered = asked .sequences-numbered; opened = asked .sequences-opened; room = omega (arith, asked .sequences-high, areas .narrow) },
+  asked .sequences-high,
+)
 
 module _ (h : Head) (steps sequences table : List ℕ) (asked : FillAsked h steps sequences table) (zeros none ms ps : List ℕ)
     (blank : Blank zeros) (wide : length ms ≡ 3072) (masked : ms ≡ masks (stepsFrom steps) ++ drop (3 * h .steps) zeros)
