@@ -76,10 +76,19 @@ abbrev pub Within : List ℕ → List ℕ → List ℕ → ℕ → Type 0
 Within masks table ranks w =
     (kind w ≡ 8 → 3 * payload w + 3 ≤ length masks) × (kind w ≡ 9 → (8 * payload w + 8 ≤ length table) × (payload w < length ranks))
 
+-- an entry names a step's row or a rank
+abbrev pub Ranked : List ℕ → List ℕ → ℕ → Type 0
+Ranked masks ranks w = (kind w ≡ 8 → 3 * payload w + 3 ≤ length masks) × (kind w ≡ 9 → payload w < length ranks)
+
 -- what is asked of the tables: a fact has its bit, and each entry among the words names a row
 pub record Readable (q : Asked) (masks table ranks part : List ℕ) : Type 0 where
   pub fact : q .fact < 64
   pub within : (i : ℕ) → i < length part → Within masks table ranks (getD part i 0)
+
+-- and where the outcome table is not read
+pub record Rankable (q : Asked) (masks ranks part : List ℕ) : Type 0 where
+  pub fact : q .fact < 64
+  pub within : (i : ℕ) → i < length part → Ranked masks ranks (getD part i 0)
 
 -- what a reader of an alternative promises, whose entries stand from an index on: what it comes to, and where its entries end
 pub record AlternativeRead (worth : Alternative → ℕ) (part : List ℕ) (at : ℕ) (r : Read) : Type 0 where

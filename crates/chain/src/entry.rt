@@ -3,13 +3,15 @@ use column::sets::holds;
 use image::word::is_kind;
 use image::word::payload_of;
 ghost use mathlib.Core.Path.{_≡_};
-ghost use mathlib.Core.Bool.{true, cond};
+ghost use mathlib.Core.Bool.{true, cond, _||_};
 ghost use mathlib.Core.List.{List};
 ghost use Prim.Native.Nat.{ℕ, _+_, _*_, _≤_, _<_};
 ghost use lib.ListN.{length};
+ghost use lib.Dec.{eqb};
 ghost use Rattle.image.specs.Word.{isEntry};
 ghost use Rattle.image.specs.Library.{call};
-ghost use Rattle.chain.specs.Tables.{markOf, stepMark, entryOf, possibleIn, traitsIn, Within};
+ghost use Rattle.chain.specs.Ranks.{entryRank};
+ghost use Rattle.chain.specs.Tables.{markOf, stepMark, markIn, inRanks, entryOf, possibleIn, traitsIn, Within, Ranked};
 
 // The question: its side, the mark asked for there (0 and 1 for the two touches, 2 for untouched), the fact, and what stands for "no rank".
 pub struct Asked {
@@ -85,7 +87,7 @@ fn first_column(first: bool) -> usize
 }
 
 // Whether the outcome table has the mark, on the question's side, for sequence `d`.
-pub fn has_mark(q: Asked, table: &[u64], d: usize, mark: u32) -> bool
+fn has_mark(q: Asked, table: &[u64], d: usize, mark: u32) -> bool
     requires { ⌜ (q .fact < 64) × (8 * d + 8 ≤ length (now table)) × (mark ≤ 2) ⌝ }
     ensures { λ r. ⌜ r ≡ possibleIn q (now (table .entry)) d mark ⌝ }
 {
@@ -95,6 +97,14 @@ pub fn has_mark(q: Asked, table: &[u64], d: usize, mark: u32) -> bool
     )
 }
 
+// Whether a run with the outcome asked for is not ruled out: the outcome table is read where the question asks for a touch.
+pub fn is_open(q: Asked, table: &[u64], c: usize) -> bool
+    requires { ⌜ (q .fact < 64) × (8 * c + 8 ≤ length (now table)) × (q .mark ≤ 2) ⌝ }
+    ensures { λ r. ⌜ r ≡ (eqb (q .mark) 2 || possibleIn q (now (table .entry)) c (q .mark)) ⌝ }
+{
+    (q.mark == 2) | has_mark(q, table, c, q.mark)
+}
+
 // The traits of sequence `d`, by its row of the outcome table and its rank.
 fn sequence_traits(q: Asked, table: &[u64], ranks: &[u32], d: usize) -> Traits
     requires { ⌜ (q .fact < 64) × (8 * d + 8 ≤ length (now table)) × (d < length (now ranks)) ⌝ }
@@ -102,6 +112,17 @@ fn sequence_traits(q: Asked, table: &[u64], ranks: &[u32], d: usize) -> Traits
 {
     let runs = holds(table[8 * d], q.fact);
     sided(q.first, ranks[d], has_mark(q, table, d, 2), runs)
+}
+
+// The rank of an entry.
+pub fn rank_of(q: Asked, masks: &[u64], ranks: &[u32], w: u32) -> u32
+    requires { ⌜ (q .fact < 64) × Ranked (now masks) (now ranks) w × (isEntry w ≡ true) ⌝ }
+    ensures { λ r. ⌜ r ≡ entryRank (q .none) (markIn q (now (masks .entry))) (inRanks q (now (ranks .entry))) (entryOf w) ⌝ }
+{
+    if is_kind(8, w) {
+        return kept(step_mark(q, masks, payload_of(w)) == q.mark, 0, q.none);
+    }
+    ranks[payload_of(w) as usize]
 }
 
 // The traits of an entry.
