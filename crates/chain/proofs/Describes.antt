@@ -25,7 +25,7 @@ use Rattle.chain.specs.Stands.{entryAt}
 use Rattle.chain.specs.Ranks.{Ranks, Look, Reached, Linked, Closed, unranked, entryRank, linkLook, depthLook, hasMark, canStay, canRun, aheadOf, behindOf, touchLook, untouchedLook}
 use Rattle.chain.specs.Answer.{Answer, none, shown, chosenAlternative, chosenPosition, followed, linksFrom, touchAnswer, untouchedAnswer, ranksIn}
 use Rattle.chain.specs.Walk.{linkFrom, alternativeFrom}
-use Rattle.chain.specs.Tables.{entryNumber, markOf, inRanks, stepMark, markIn, runIn, stayIn, aheadIn, behindIn, lookIn, alternativesAt}
+use Rattle.chain.specs.Tables.{entryNumber, markOf, inRanks, stepMark, markIn, runIn, stayIn, possibleIn, aheadIn, behindIn, lookIn, alternativesAt}
 use Rattle.chain.specs.Choice.{linkIn, linkEntry, linkAt, linksIn, quietLink, answerIn}
 use Rattle.chain.specs.Described.{isFirst, markNumber, Asks, Described}
 use Rattle.chain.specs.declared.entry.Asked.{Asked}
@@ -53,7 +53,7 @@ by-test : (b : Bool) (x y : Answer) → cond b x y ≡ elim b [ true ↦ x | fal
 by-test true x y = refl
 by-test false x y = refl
 
-module _ (L : Library) (q : Asked) (Q : Question) (masks table part places : List ℕ) (asks : Asks L q Q) (described : Described L masks table part places) where
+module _ (L : Library) (q : Asked) (Q : Question) (masks table part places : List ℕ) (asks : Asks L q Q) (described : Described L Q masks table part places) where
   abbrev f : ℕ
   f = q .fact
 
@@ -82,31 +82,40 @@ module _ (L : Library) (q : Asked) (Q : Question) (masks table part places : Lis
   mark-is : markIn q masks ≡ hasMark L Q f
   mark-is = fun-ext (λ a. rw (step-mark a, asks .mark) (same-number (itemTouch L (Q .side) f a) (Q .mark)))
 
-  run-is : (e : Entry) → runIn q masks table e ≡ canRun L Q f e
-  run-is (step a) = refl
-  run-is (call d) = ap (λ (n : ℕ). inColumn (getD table n 0) f) (sym (add-zero (8 * d))) ∙ described .rows d 0 f (omega arith) (asks .fact)
+  run-is : Q .mark ≢ untouched → (e : Entry) → runIn q masks table e ≡ canRun L Q f e
+  run-is touch (step a) = refl
+  run-is touch (call d) = ap (λ (n : ℕ). inColumn (getD table n 0) f) (sym (add-zero (8 * d))) ∙ described .rows touch d 0 f (omega arith) (asks .fact)
 
-  stay-is : (e : Entry) → stayIn q masks table e ≡ canStay L Q f e
-  stay-is (step a) = rw (step-mark a) (same-number (itemTouch L (Q .side) f a) untouched)
-  stay-is (call d) = rw (asks .first) (go (Q .side))
+  -- the columns of the question's side
+  pub possible-is : Q .mark ≢ untouched → (d : ℕ) (m : Mark) → possibleIn q table d (markNumber m) ≡ possibleOutcome L (record { side = Q .side; mark = m }) d f
+  possible-is touch d m = rw (asks .first) (go (Q .side) m)
     where
-      go : (s : Side) → inColumn (getD table (8 * d + cond (isFirst s) 7 4) 0) f ≡ possibleOutcome L (record { side = s; mark = untouched }) d f
-      go last = described .rows d 4 f (omega arith) (asks .fact)
-      go first = described .rows d 7 f (omega arith) (asks .fact)
+      go : (s : Side) (m : Mark)
+          → inColumn (getD table (8 * d + (cond (isFirst s) 5 2 + markNumber m)) 0) f ≡ possibleOutcome L (record { side = s; mark = m }) d f
+      go last present = described .rows touch d 2 f (omega arith) (asks .fact)
+      go last absent = described .rows touch d 3 f (omega arith) (asks .fact)
+      go last untouched = described .rows touch d 4 f (omega arith) (asks .fact)
+      go first present = described .rows touch d 5 f (omega arith) (asks .fact)
+      go first absent = described .rows touch d 6 f (omega arith) (asks .fact)
+      go first untouched = described .rows touch d 7 f (omega arith) (asks .fact)
 
-  ahead-is : aheadIn q masks table ≡ aheadOf L Q f (Q .side)
-  ahead-is = fun-ext (λ e. ap (λ (b : Bool). cond b (stayIn q masks table e) (runIn q masks table e)) (asks .first) ∙ go (Q .side) e)
+  stay-is : Q .mark ≢ untouched → (e : Entry) → stayIn q masks table e ≡ canStay L Q f e
+  stay-is touch (step a) = rw (step-mark a) (same-number (itemTouch L (Q .side) f a) untouched)
+  stay-is touch (call d) = possible-is touch d untouched
+
+  ahead-is : Q .mark ≢ untouched → aheadIn q masks table ≡ aheadOf L Q f (Q .side)
+  ahead-is touch = fun-ext (λ e. ap (λ (b : Bool). cond b (stayIn q masks table e) (runIn q masks table e)) (asks .first) ∙ go (Q .side) e)
     where
       go : (s : Side) (e : Entry) → cond (isFirst s) (stayIn q masks table e) (runIn q masks table e) ≡ aheadOf L Q f s e
-      go last e = run-is e
-      go first e = stay-is e
+      go last e = run-is touch e
+      go first e = stay-is touch e
 
-  behind-is : behindIn q masks table ≡ behindOf L Q f (Q .side)
-  behind-is = fun-ext (λ e. ap (λ (b : Bool). cond b (runIn q masks table e) (stayIn q masks table e)) (asks .first) ∙ go (Q .side) e)
+  behind-is : Q .mark ≢ untouched → behindIn q masks table ≡ behindOf L Q f (Q .side)
+  behind-is touch = fun-ext (λ e. ap (λ (b : Bool). cond b (runIn q masks table e) (stayIn q masks table e)) (asks .first) ∙ go (Q .side) e)
     where
       go : (s : Side) (e : Entry) → cond (isFirst s) (runIn q masks table e) (stayIn q masks table e) ≡ behindOf L Q f s e
-      go last e = stay-is e
-      go first e = run-is e
+      go last e = stay-is touch e
+      go first e = run-is touch e
 
   rank-is : (ranks : List ℕ) → entryRank (q .none) (markIn q masks) (inRanks q ranks) ≡ entryRank (unranked L) (hasMark L Q f) (ranksIn L ranks)
   rank-is ranks =
@@ -133,7 +142,7 @@ module _ (L : Library) (q : Asked) (Q : Question) (masks table part places : Lis
   touch-look touch =
       ap lookBy (two-is false (touch-number (Q .mark) touch))
       ∙ ap₂ (λ (n : ℕ) (t : Item → Bool). linkLook n t (aheadIn q masks table) (behindIn q masks table)) (asks .none) mark-is
-      ∙ ap₂ (λ (a b : Entry → Bool). linkLook (unranked L) (hasMark L Q f) a b) ahead-is behind-is
+      ∙ ap₂ (λ (a b : Entry → Bool). linkLook (unranked L) (hasMark L Q f) a b) (ahead-is touch) (behind-is touch)
 
   pub quiet-look : Q .mark ≡ untouched → lookIn q masks table ≡ untouchedLook L Q f
   quiet-look quiet =
@@ -175,7 +184,7 @@ module _ (L : Library) (q : Asked) (Q : Question) (masks table part places : Lis
           ap (λ (alts : List Alternative). linkFrom (q .none) (entryRank (q .none) (markIn q masks) (inRanks q ranks)) (aheadIn q masks table) (behindIn q masks table) c k 0 alts)
           (described .placed c lt)
           ∙ ap₂ (λ (n : ℕ) (r : Entry → ℕ). linkFrom n r (aheadIn q masks table) (behindIn q masks table) c k 0 (alternativesOf (L .sequences) c)) (asks .none) (rank-is ranks)
-          ∙ ap₂ (λ (a b : Entry → Bool). linkFrom (unranked L) (entryRank (unranked L) (hasMark L Q f) T) a b c k 0 (alternativesOf (L .sequences) c)) ahead-is behind-is
+          ∙ ap₂ (λ (a b : Entry → Bool). linkFrom (unranked L) (entryRank (unranked L) (hasMark L Q f) T) a b c k 0 (alternativesOf (L .sequences) c)) (ahead-is touch) (behind-is touch)
           ∙ sym (link-from (L .sequences) (unranked L) (hasMark L Q f) (aheadOf L Q f (Q .side)) (behindOf L Q f (Q .side)) T k low c)
 
       -- the links after the one that is chosen

@@ -7,10 +7,11 @@ use native.Mathlib.Numerals.{add-one}
 use native.Mathlib.Omega.{arith}
 use mathlib.Core.Path.{_≡_, refl, sym, ap, ap₂, _∙_, subst}
 use mathlib.Core.Logic.{_≢_, _⊎_, inl, inr, ⊎-elim}
-use mathlib.Core.Bool.{Bool, true, false, false≢true}
+use mathlib.Core.Bool.{Bool, true, false, false≢true, _||_}
 use mathlib.Core.List.{List, [], _∷_, _++_}
-use lib.ListN.{length, getD, drop, replicate, List·getD-append, List·getD-eq-default, length-append}
+use lib.ListN.{length, getD, take, drop, replicate, List·getD-append, List·getD-eq-default, length-append}
 use lib.Seq.{getD-append-add, getD-drop}
+use lib.Dec.{eqb}
 use Rattle.column.specs.Sets.{inColumn}
 use Rattle.column.proofs.Bits.{bit-none, column-none}
 use Rattle.column.proofs.Operations.{in-column}
@@ -18,32 +19,34 @@ use Rattle.image.specs.Checked.{checked}
 use Rattle.image.specs.Rules.{opened}
 use Rattle.image.specs.Library.{Library, Step, Sequence, alternativesFrom, stepsFrom, sequencesFrom, stepsPart, sequencesPart, libraryOf}
 use Rattle.image.specs.Accepted.{All, SequenceWord, Counted}
-use Rattle.image.specs.Tables.{maskOf, masks, placesFrom, StepsAsked, SequencesAsked}
+use Rattle.image.specs.Tables.{maskOf, masks, placesFrom}
 use Rattle.image.specs.declared.answer.Head.{Head}
 use Rattle.image.specs.declared.answer.Checked.the-variants.{Accepted}
 use Rattle.image.proofs.Accepted.{faultless, parts, counted, library-is}
 use Rattle.image.proofs.Lookup.{masks-length, row-at, places-length, Placed, place-at}
 use Rattle.image.proofs.Rows.{all-at}
-use Rattle.outcome.specs.Area.{outcomeWord, outcomeRows, outcomes, Blank, TableAsked}
+use Rattle.outcome.specs.Area.{outcomeWord, outcomeRows, outcomes, Blank, TableAsked, FillAsked, libraryIn}
 use Rattle.outcome.specs.Execution.{noStep, stepOf}
 use Rattle.outcome.specs.Possible.{columnOf, columnPossible, hasRun}
 use Rattle.outcome.specs.Run.{alternativesOf}
 use Rattle.outcome.proofs.Columns.{column-iff}
+use Rattle.outcome.proofs.Fill.{fill-asked}
 use Rattle.outcome.proofs.Outcome.{present≢untouched, absent≢untouched}
 use Rattle.outcome.proofs.Tests.{passes-or-not}
 use Rattle.outcome.specs.Touch.{Mark, present, absent, untouched, Question}
 use Rattle.outcome.specs.Passes.{Pass}
 use Rattle.chain.specs.Scan.{total}
 use Rattle.chain.specs.Ranks.{Look, unranked, touchLook, untouchedLook}
-use Rattle.chain.specs.Answer.{answer}
+use Rattle.chain.specs.Answer.{answer, none}
 use Rattle.chain.specs.Visits.{Visits, Settled}
-use Rattle.chain.specs.Tables.{lookIn, Readable, Visitable, alternativesAt, visitedRanks}
+use Rattle.chain.specs.Tables.{possibleIn, lookIn, Readable, Visitable, alternativesAt, visitedRanks}
 use Rattle.chain.specs.Choice.{Choosable, answerIn}
-use Rattle.chain.specs.Described.{Asks, Described, isFirst, markNumber, sideBy, markBy, questionBy}
+use Rattle.chain.specs.Described.{Asks, Described, TablesMade, isFirst, markNumber, sideBy, markBy, questionBy}
 use Rattle.chain.specs.declared.entry.Asked.{Asked}
+use Rattle.chain.proofs.Answers.{answer-possible}
 use Rattle.chain.proofs.Visits.{touch-good, settled-touch, settled-untouched}
 use Rattle.chain.proofs.Settling.{pass-visits, pass-settled}
-use Rattle.chain.proofs.Describes.{touch-look, quiet-look, touch-answer, quiet-answer}
+use Rattle.chain.proofs.Describes.{possible-is, touch-look, quiet-look, touch-answer, quiet-answer}
 
 -- past the words of a list there is nothing
 blank-after : (xs rest : List ℕ) (k : ℕ) → Blank rest → length xs ≤ k → getD (xs ++ rest) k 0 ≡ 0
@@ -157,28 +160,20 @@ module _ (image : List ℕ) (h : Head) (accepted : checked image ≡ Accepted h)
   pub image-long : 2 ≤ length image
   image-long = faultless image h accepted .low
 
-  pub masks-asked : (first area : List ℕ) → first ≡ stepsPart image → length area ≡ 3072 → StepsAsked h first area
-  masks-asked first area cut long =
-      let f = faultless image h accepted in
-      let p = parts image h accepted in
-      subst (λ (x : List ℕ). StepsAsked h x area) (sym cut)
-      (record { facts = f .facts-high; words = p .steps; numbered = p .steps-numbered; opened = p .steps-opened; room = omega (arith, f .steps-high) })
+  pub facts-high : h .facts ≤ 64
+  facts-high = faultless image h accepted .facts-high
 
-  pub places-asked : (part area : List ℕ) → part ≡ sequencesPart image → length area ≡ 256 → SequencesAsked h part area
-  places-asked part area cut long =
-      let f = faultless image h accepted in
-      let p = parts image h accepted in
-      subst (λ (x : List ℕ). SequencesAsked h x area) (sym cut)
-      (record { short = p .sequences-short; numbered = p .sequences-numbered; opened = p .sequences-opened; room = omega (arith, f .sequences-high) })
-
-  pub table-asked : (area : List ℕ) → length area ≡ 2048 → TableAsked h image area
-  table-asked area long = record { accepted = accepted; room = omega (arith, faultless image h accepted .sequences-high) }
+  pub tables-asked : (first part area : List ℕ) → first ≡ stepsPart image → part ≡ sequencesPart image → length area ≡ 2048
+      → FillAsked h first part (take (8 * h .sequences) area) × (8 * h .sequences ≤ length area)
+  tables-asked first part area p q long =
+      let asked : TableAsked h image area = record { accepted = accepted; room = omega (arith, faultless image h accepted .sequences-high) } in
+      (fill-asked h image area asked first part p q, asked .room)
 
   pub few-sequences : h .sequences ≤ 256
   few-sequences = faultless image h accepted .sequences-high
 
--- the two parts of the image, and the tables made of it: masks, outcomes and places
-pub record Made (image : List ℕ) (h : Head) (first part ms table ps : List ℕ) : Type 0 where
+-- the two parts of the image, and the tables made of it: masks, places, and outcomes where the question asks for a touch
+pub record Made (image : List ℕ) (h : Head) (Q : Question) (first part ms table ps : List ℕ) : Type 0 where
   pub accepted : checked image ≡ Accepted h
   pub steps : first ≡ stepsPart image
   pub sequences : part ≡ sequencesPart image
@@ -187,7 +182,7 @@ pub record Made (image : List ℕ) (h : Head) (first part ms table ps : List ℕ
   pub masked : ms ≡ masks (stepsFrom first) ++ past-masks
   pub past-table : List ℕ
   pub blank-table : Blank past-table
-  pub filled : table ≡ outcomes (libraryOf image) ++ past-table
+  pub filled : Q .mark ≢ untouched → table ≡ outcomes (libraryIn h first part) ++ past-table
   pub past-places : List ℕ
   pub blank-places : Blank past-places
   pub placed : ps ≡ placesFrom 0 part ++ past-places
@@ -196,35 +191,34 @@ pub record Made (image : List ℕ) (h : Head) (first part ms table ps : List ℕ
   pub narrow : length ps ≡ 256
 
 -- from blank areas
-pub made-of : (image : List ℕ) (h : Head) (first part ms table ps zeros₁ zeros₂ zeros₃ : List ℕ) → checked image ≡ Accepted h
+pub made-of : (image : List ℕ) (h : Head) (q : Asked) (first part ms table ps zeros₁ zeros₂ zeros₃ : List ℕ) → checked image ≡ Accepted h
     → first ≡ stepsPart image → part ≡ sequencesPart image → Blank zeros₁ → Blank zeros₂ → Blank zeros₃
-    → ms ≡ masks (stepsFrom first) ++ drop (3 * h .steps) zeros₁ → table ≡ outcomes (libraryOf image) ++ drop (8 * h .sequences) zeros₂
-    → ps ≡ placesFrom 0 part ++ drop (h .sequences) zeros₃ → length ms ≡ 3072 → length table ≡ 2048 → length ps ≡ 256
-    → Made image h first part ms table ps
-made-of image h first part ms table ps zeros₁ zeros₂ zeros₃ accepted steps sequences b₁ b₂ b₃ masked filled placed wide tall narrow =
+    → TablesMade h q first part zeros₁ zeros₃ zeros₂ ms ps table → length ms ≡ 3072 → length table ≡ 2048 → length ps ≡ 256
+    → Made image h (questionBy q) first part ms table ps
+made-of image h q first part ms table ps zeros₁ zeros₂ zeros₃ accepted steps sequences b₁ b₂ b₃ made wide tall narrow =
     record {
       accepted = accepted;
       steps = steps;
       sequences = sequences;
       past-masks = drop (3 * h .steps) zeros₁;
       blank-masks = blank-drop (3 * h .steps) zeros₁ b₁;
-      masked = masked;
+      masked = made .prepared .masked;
       past-table = drop (8 * h .sequences) zeros₂;
       blank-table = blank-drop (8 * h .sequences) zeros₂ b₂;
-      filled = filled;
+      filled = made .filled;
       past-places = drop (h .sequences) zeros₃;
       blank-places = blank-drop (h .sequences) zeros₃ b₃;
-      placed = placed;
+      placed = made .prepared .placed;
       wide = wide;
       tall = tall;
       narrow = narrow;
     }
 
-module _ (image : List ℕ) (h : Head) (first part ms table ps : List ℕ) (made : Made image h first part ms table ps) where
+module _ (image : List ℕ) (h : Head) (Q : Question) (first part ms table ps : List ℕ) (made : Made image h Q first part ms table ps) where
   abbrev L : Library
   L = libraryOf image
 
-  library-made : L ≡ record { facts = h .facts; steps = stepsFrom first; sequences = sequencesFrom part }
+  library-made : L ≡ libraryIn h first part
   library-made =
       library-is image h (made .accepted)
       ∙ ap₂ (λ (x y : List ℕ). record { facts = h .facts; steps = stepsFrom x; sequences = sequencesFrom y }) (sym (made .steps)) (sym (made .sequences))
@@ -240,7 +234,7 @@ module _ (image : List ℕ) (h : Head) (first part ms table ps : List ℕ) (made
       ∙ List·getD-append (placesFrom 0 part) (made .past-places) 0 c (omega (arith, places-length 0 part)) in
       subst (Placed part c) (sym word) (place-at part c (omega arith))
 
-  pub tables-describe : Described L ms table part ps
+  pub tables-describe : Described L Q ms table part ps
   tables-describe =
       let same = library-made in
       let has = counted image h (made .accepted) in
@@ -251,7 +245,9 @@ module _ (image : List ℕ) (h : Head) (first part ms table ps : List ℕ) (made
         needs = λ a. ap (λ (x : List ℕ). getD x (3 * a) 0) (made .masked) ∙ words a .0 ∙ ap (λ (s : Step). maskOf (s .needs)) (steps a);
         sets = λ a. ap (λ (x : List ℕ). getD x (3 * a + 1) 0) (made .masked) ∙ words a .1 ∙ ap (λ (s : Step). maskOf (s .sets)) (steps a);
         clears = λ a. ap (λ (x : List ℕ). getD x (3 * a + 2) 0) (made .masked) ∙ words a .2 ∙ ap (λ (s : Step). maskOf (s .clears)) (steps a);
-        rows = λ d j f k below. ap (λ (x : List ℕ). inColumn (getD x (8 * d + j) 0) f) (made .filled) ∙ row-bits L (made .past-table) (made .blank-table) d j f k below;
+        rows = λ touch d j f k below.
+            ap (λ (x : List ℕ). inColumn (getD x (8 * d + j) 0) f) (made .filled touch ∙ ap (λ (M : Library). outcomes M ++ made .past-table) (sym same))
+            ∙ row-bits L (made .past-table) (made .blank-table) d j f k below;
         placed = λ c l.
             ap (λ (n : ℕ). alternativesFrom (drop n part)) (add-one (getD ps c 0))
             ∙ place-is c (omega (arith, has .sequences)) .reads ∙ ap (λ (M : Library). alternativesOf (M .sequences) c) (sym same);
@@ -323,10 +319,23 @@ module _ (image : List ℕ) (h : Head) (first part ms table ps : List ℕ) (made
         fact = omega (arith, has .facts);
       }
 
-  pub answer-found : (q : Asked) (Q : Question) → Asks L q Q → (n m : ℕ) (before ranks : List ℕ) → n ≡ h .sequences → h .sequences ≤ m
+  or-false : (a b : Bool) → (a || b) ≡ false → (a ≡ false) × (b ≡ false)
+  or-false false b e = (refl, e)
+  or-false true b e = absurd (false≢true (sym e))
+
+  -- a question that the outcome table rules out asks for a touch, and has no chain
+  pub none-found : (q : Asked) → Asks L q Q → (c : ℕ) → (eqb (q .mark) 2 || possibleIn q table c (q .mark)) ≡ false → answer L Q c (q .fact) ≡ none
+  none-found q asks c e =
+      let tests = or-false (eqb (q .mark) 2) (possibleIn q table c (q .mark)) e in
+      let touch : Q .mark ≢ untouched =
+      λ quiet. false≢true (sym (tests .0) ∙ ap (λ (n : ℕ). eqb n 2) (asks .mark ∙ ap markNumber quiet)) in
+      answer-possible L Q c (q .fact) .1
+      (sym (possible-is L q Q ms table part ps asks tables-describe touch c (Q .mark)) ∙ ap (possibleIn q table c) (sym (asks .mark)) ∙ tests .1)
+
+  pub answer-found : (q : Asked) → Asks L q Q → (n m : ℕ) (before ranks : List ℕ) → n ≡ h .sequences → h .sequences ≤ m
       → before ≡ replicate m (q .none) → Pass (visitedRanks q ms table part ps) total n before ranks false → (c : ℕ) → c < h .sequences
       → answerIn q ms table ranks part ps c ≡ answer L Q c (q .fact)
-  answer-found q Q asks n m before ranks count room start pass c lt =
+  answer-found q asks n m before ranks count room start pass c lt =
       ⊎-elim
       (λ touch.
       let look = touch-look L q Q ms table part ps asks tables-describe touch in

@@ -42,14 +42,18 @@ stepMark q masks a =
 abbrev pub markIn : Asked → List ℕ → Item → Bool
 markIn q masks a = eqb (stepMark q masks a) (q .mark)
 
+-- the outcome table has mark m, on the question's side, for sequence d: columns 2 to 4 are those of the last side, 5 to 7 of the first
+abbrev pub possibleIn : Asked → List ℕ → ℕ → ℕ → Bool
+possibleIn q table d m = inColumn (getD table (8 * d + (cond (q .first) 5 2 + m)) 0) (q .fact)
+
 module _ (q : Asked) (masks table : List ℕ) where
   -- "has a run": column 0 of the outcome table
   abbrev pub runIn : Entry → Bool
   runIn = entryPasses (λ a. true) (λ d. inColumn (getD table (8 * d) 0) (q .fact))
 
-  -- "can stay untouched": column 4 on the last side, 7 on the first
+  -- "can stay untouched"
   abbrev pub stayIn : Entry → Bool
-  stayIn = entryPasses (λ a. eqb (stepMark q masks a) 2) (λ d. inColumn (getD table (8 * d + cond (q .first) 7 4) 0) (q .fact))
+  stayIn = entryPasses (λ a. eqb (stepMark q masks a) 2) (λ d. possibleIn q table d 2)
 
   abbrev pub aheadIn : Entry → Bool
   aheadIn e = cond (q .first) (stayIn e) (runIn e)
@@ -72,10 +76,19 @@ abbrev pub Within : List ℕ → List ℕ → List ℕ → ℕ → Type 0
 Within masks table ranks w =
     (kind w ≡ 8 → 3 * payload w + 3 ≤ length masks) × (kind w ≡ 9 → (8 * payload w + 8 ≤ length table) × (payload w < length ranks))
 
+-- an entry names a step's row or a rank
+abbrev pub Ranked : List ℕ → List ℕ → ℕ → Type 0
+Ranked masks ranks w = (kind w ≡ 8 → 3 * payload w + 3 ≤ length masks) × (kind w ≡ 9 → payload w < length ranks)
+
 -- what is asked of the tables: a fact has its bit, and each entry among the words names a row
 pub record Readable (q : Asked) (masks table ranks part : List ℕ) : Type 0 where
   pub fact : q .fact < 64
   pub within : (i : ℕ) → i < length part → Within masks table ranks (getD part i 0)
+
+-- and where the outcome table is not read
+pub record Rankable (q : Asked) (masks ranks part : List ℕ) : Type 0 where
+  pub fact : q .fact < 64
+  pub within : (i : ℕ) → i < length part → Ranked masks ranks (getD part i 0)
 
 -- what a reader of an alternative promises, whose entries stand from an index on: what it comes to, and where its entries end
 pub record AlternativeRead (worth : Alternative → ℕ) (part : List ℕ) (at : ℕ) (r : Read) : Type 0 where

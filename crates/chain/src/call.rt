@@ -1,6 +1,7 @@
 // The chain call: refusals 1 to 7 and 9 to 12, a chain, or none.
 use crate::answer::Chained;
 use crate::entry::Asked;
+use crate::entry::is_open;
 use crate::pass::settle;
 use crate::write::write_chain;
 use image::answer::Checked;
@@ -9,16 +10,47 @@ use image::answer::Refusal;
 use image::check::check;
 use image::parts::sequences_part;
 use image::parts::steps_part;
-use image::tables::write_masks;
-use image::tables::write_places;
-use outcome::order::finishing_order;
-use outcome::table::outcome_table;
+use outcome::table::fill;
+use outcome::table::prepare;
 ghost use mathlib.Core.Path.{_≡_};
+ghost use Prim.Native.Nat.{_*_, _≤_};
+ghost use lib.ListN.{length, take};
 ghost use Rattle.image.specs.Checked.{checked};
 ghost use Rattle.image.specs.Library.{libraryOf};
+ghost use Rattle.outcome.specs.Area.{FillAsked, Areas};
 ghost use Rattle.chain.specs.Answer.{answer};
-ghost use Rattle.chain.specs.Described.{FindAsked, questionBy};
+ghost use Rattle.chain.specs.Described.{FindAsked, TablesMade, questionBy};
 ghost use Rattle.chain.specs.Reply.{accepts, Answered, Called};
+
+// Makes the tables that the question reads, from the two parts of an accepted image: the outcome table only where it asks for a touch.
+fn make_tables(
+    h: Head,
+    q: Asked,
+    steps: &[u32],
+    part: &[u32],
+    masks: &mut [u64],
+    places: &mut [u32],
+    order: &mut [usize],
+    table: &mut [u64],
+)
+    requires { ⌜ FillAsked h (now steps) (now part) (take (8 * h .sequences) (now table)) × Areas (now masks) (now places) (now order) × (8 * h .sequences ≤ length (now table)) ⌝ }
+    ensures { λ _. ⌜ TablesMade h q (now (steps .entry)) (now (part .entry)) (now (masks .entry)) (now (places .entry)) (now (table .entry)) (now (masks .exit)) (now (places .exit)) (now (table .exit)) ⌝ }
+{
+    if q.mark == 2 {
+        prepare(h, steps, part, masks, places, order);
+        return;
+    }
+    let words = 8 * h.sequences as usize;
+    fill(
+        h,
+        steps,
+        part,
+        masks,
+        places,
+        order,
+        &mut table[..words],
+    );
+}
 
 // Finds the answer to a question of sequence `c` of an accepted image.
 fn find(h: Head, image: &[u32], q: Asked, c: u32, area: &mut [u32]) -> Chained
@@ -27,17 +59,24 @@ fn find(h: Head, image: &[u32], q: Asked, c: u32, area: &mut [u32]) -> Chained
 {
     let mut masks = [0u64; 3072];
     let mut places = [0u32; 256];
-    let mut table = [0u64; 2048];
-    let mut next = [0usize; 256];
-    let mut stack = [0usize; 256];
     let mut order = [0usize; 256];
+    let mut table = [0u64; 2048];
     let mut ranks = [q.none; 256];
     let n = h.sequences as usize;
     let part = sequences_part(image);
-    write_masks(h, steps_part(image), &mut masks);
-    write_places(h, part, &mut places);
-    outcome_table(h, image, &mut table);
-    finishing_order(part, &places[..n], &mut next, &mut stack, &mut order);
+    make_tables(
+        h,
+        q,
+        steps_part(image),
+        part,
+        &mut masks,
+        &mut places,
+        &mut order,
+        &mut table,
+    );
+    if !is_open(q, &table, c as usize) {
+        return Chained::None;
+    }
     settle(q, &masks, &table, part, &places, &order[..n], &mut ranks, n);
     write_chain(q, &masks, &table, &ranks, part, &places, area, c)
 }

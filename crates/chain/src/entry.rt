@@ -3,13 +3,15 @@ use column::sets::holds;
 use image::word::is_kind;
 use image::word::payload_of;
 ghost use mathlib.Core.Path.{_≡_};
-ghost use mathlib.Core.Bool.{true, cond};
+ghost use mathlib.Core.Bool.{true, cond, _||_};
 ghost use mathlib.Core.List.{List};
 ghost use Prim.Native.Nat.{ℕ, _+_, _*_, _≤_, _<_};
 ghost use lib.ListN.{length};
+ghost use lib.Dec.{eqb};
 ghost use Rattle.image.specs.Word.{isEntry};
 ghost use Rattle.image.specs.Library.{call};
-ghost use Rattle.chain.specs.Tables.{markOf, stepMark, entryOf, traitsIn, Within};
+ghost use Rattle.chain.specs.Ranks.{entryRank};
+ghost use Rattle.chain.specs.Tables.{markOf, stepMark, markIn, inRanks, entryOf, possibleIn, traitsIn, Within, Ranked};
 
 // The question: its side, the mark asked for there (0 and 1 for the two touches, 2 for untouched), the fact, and what stands for "no rank".
 pub struct Asked {
@@ -74,14 +76,33 @@ fn sided(first: bool, rank: u32, stays: bool, runs: bool) -> Traits
     }
 }
 
-// The outcome table's column of those that can stay untouched.
-fn stay_column(first: bool) -> usize
-    ensures { λ r. ⌜ (r ≡ cond first 7 4) × (r ≤ 7) ⌝ }
+// The column of a side's first mark in the outcome table.
+fn first_column(first: bool) -> usize
+    ensures { λ r. ⌜ (r ≡ cond first 5 2) × (r ≤ 5) ⌝ }
 {
     if first {
-        return 7;
+        return 5;
     }
-    4
+    2
+}
+
+// Whether the outcome table has the mark, on the question's side, for sequence `d`.
+fn has_mark(q: Asked, table: &[u64], d: usize, mark: u32) -> bool
+    requires { ⌜ (q .fact < 64) × (8 * d + 8 ≤ length (now table)) × (mark ≤ 2) ⌝ }
+    ensures { λ r. ⌜ r ≡ possibleIn q (now (table .entry)) d mark ⌝ }
+{
+    holds(
+        table[8 * d + (first_column(q.first) + mark as usize)],
+        q.fact,
+    )
+}
+
+// Whether a run with the outcome asked for is not ruled out: the outcome table is read where the question asks for a touch.
+pub fn is_open(q: Asked, table: &[u64], c: usize) -> bool
+    requires { ⌜ (q .fact < 64) × (8 * c + 8 ≤ length (now table)) × (q .mark ≤ 2) ⌝ }
+    ensures { λ r. ⌜ r ≡ (eqb (q .mark) 2 || possibleIn q (now (table .entry)) c (q .mark)) ⌝ }
+{
+    (q.mark == 2) | has_mark(q, table, c, q.mark)
 }
 
 // The traits of sequence `d`, by its row of the outcome table and its rank.
@@ -89,10 +110,19 @@ fn sequence_traits(q: Asked, table: &[u64], ranks: &[u32], d: usize) -> Traits
     requires { ⌜ (q .fact < 64) × (8 * d + 8 ≤ length (now table)) × (d < length (now ranks)) ⌝ }
     ensures { λ r. ⌜ ((masks : List ℕ) → r ≡ traitsIn q masks (now (table .entry)) (now (ranks .entry)) (call d)) ⌝ }
 {
-    let at = 8 * d;
-    let runs = holds(table[at], q.fact);
-    let stays = holds(table[at + stay_column(q.first)], q.fact);
-    sided(q.first, ranks[d], stays, runs)
+    let runs = holds(table[8 * d], q.fact);
+    sided(q.first, ranks[d], has_mark(q, table, d, 2), runs)
+}
+
+// The rank of an entry.
+pub fn rank_of(q: Asked, masks: &[u64], ranks: &[u32], w: u32) -> u32
+    requires { ⌜ (q .fact < 64) × Ranked (now masks) (now ranks) w × (isEntry w ≡ true) ⌝ }
+    ensures { λ r. ⌜ r ≡ entryRank (q .none) (markIn q (now (masks .entry))) (inRanks q (now (ranks .entry))) (entryOf w) ⌝ }
+{
+    if is_kind(8, w) {
+        return kept(step_mark(q, masks, payload_of(w)) == q.mark, 0, q.none);
+    }
+    ranks[payload_of(w) as usize]
 }
 
 // The traits of an entry.

@@ -1,6 +1,7 @@
 // What an alternative comes to by the ranks as they stand, and the rank of a sequence lowered by its alternatives.
 use crate::entry::Asked;
 use crate::entry::kept;
+use crate::entry::rank_of;
 use crate::entry::traits_of;
 use image::word::is_entry;
 use image::word::is_kind;
@@ -10,7 +11,7 @@ ghost use lib.ListN.{length, drop};
 ghost use Rattle.image.specs.Library.{alternativesFrom};
 ghost use Rattle.chain.specs.Ranks.{depthLook, linkLook};
 ghost use Rattle.chain.specs.Walk.{loweredFrom};
-ghost use Rattle.chain.specs.Tables.{inRanks, markIn, aheadIn, behindIn, lookIn, Readable, AlternativeRead};
+ghost use Rattle.chain.specs.Tables.{inRanks, markIn, aheadIn, behindIn, lookIn, Readable, Rankable, AlternativeRead};
 
 // What an alternative comes to, and the index of the word after its entries.
 pub struct Read {
@@ -37,15 +38,8 @@ fn greatest(a: u32, b: u32) -> u32
 }
 
 // The greatest depth among the entries that stand from index `at` on.
-fn greatest_depth(
-    q: Asked,
-    masks: &[u64],
-    table: &[u64],
-    ranks: &[u32],
-    part: &[u32],
-    at: usize,
-) -> Read
-    requires { ⌜ Readable q (now masks) (now table) (now ranks) (now part) × (at ≤ length (now part)) ⌝ }
+fn greatest_depth(q: Asked, masks: &[u64], ranks: &[u32], part: &[u32], at: usize) -> Read
+    requires { ⌜ Rankable q (now masks) (now ranks) (now part) × (at ≤ length (now part)) ⌝ }
     ensures { λ r. ⌜ AlternativeRead (depthLook (q .none) (markIn q (now (masks .entry))) (inRanks q (now (ranks .entry)))) (now (part .entry)) at r ⌝ }
 {
     let mut depth = 0;
@@ -58,8 +52,7 @@ fn greatest_depth(
                 next: i,
             };
         }
-        let t = traits_of(q, masks, table, ranks, w);
-        depth = greatest(depth, t.rank);
+        depth = greatest(depth, rank_of(q, masks, ranks, w));
         i += 1;
     }
     Read {
@@ -116,7 +109,7 @@ pub fn read_alternative(
     ensures { λ r. ⌜ AlternativeRead (lookIn q (now (masks .entry)) (now (table .entry)) (inRanks q (now (ranks .entry)))) (now (part .entry)) at r ⌝ }
 {
     if q.mark == 2 {
-        return greatest_depth(q, masks, table, ranks, part, at);
+        return greatest_depth(q, masks, ranks, part, at);
     }
     fewest_links(q, masks, table, ranks, part, at)
 }

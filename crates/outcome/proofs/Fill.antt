@@ -13,13 +13,13 @@ use Rattle.image.specs.Word.{kind, payload}
 use Rattle.image.specs.Rules.{opened}
 use Rattle.image.specs.Library.{Library, Step, stepsFrom, sequencesFrom, stepsPart, sequencesPart, libraryOf}
 use Rattle.image.specs.Accepted.{All, Below, StepWord, SequenceWord}
-use Rattle.image.specs.Tables.{maskOf, masks, placesFrom, StepsAsked, SequencesAsked}
+use Rattle.image.specs.Tables.{SequencesAsked, StepsAsked, maskOf, masks, placesFrom}
 use Rattle.image.specs.declared.answer.Head.{Head}
 use Rattle.image.proofs.Accepted.{steps-below, faultless, parts, library-is}
 use Rattle.image.proofs.Decode.{steps-length, sequences-length}
 use Rattle.image.proofs.Lookup.{masks-length, row-at, mask-low, places-length, Placed, place-at}
 use Rattle.image.proofs.Rows.{all-at}
-use Rattle.outcome.specs.Area.{outcomes, Blank, TableAsked, FillAsked, RowsAsked, libraryIn}
+use Rattle.outcome.specs.Area.{outcomes, Blank, TableAsked, FillAsked, RowsAsked, Areas, libraryIn}
 use Rattle.outcome.specs.Execution.{noStep}
 use Rattle.outcome.specs.Words.{allFacts, stepRow, rowIn}
 use Rattle.outcome.specs.Walks.{StepRows}
@@ -34,10 +34,17 @@ blank-zeros zero k = refl
 blank-zeros (suc n) zero = refl
 blank-zeros (suc n) (suc k) = blank-zeros n k
 
--- areas of zeros that have the room
-pub zeros-asked : (h : Head) (m n : ℕ) → 3 * h .steps ≤ m → 8 * h .steps ≤ n → RowsAsked h (replicate m 0) (replicate n 0)
-zeros-asked h m n l k =
-    record { masks-room = omega (arith, length-replicate {A = ℕ} m 0); rows-room = omega (arith, length-replicate {A = ℕ} n 0); blank = blank-zeros n }
+-- rows of zeros that have the room
+pub rows-asked : (h : Head) (ms : List ℕ) (n : ℕ) → 3 * h .steps ≤ length ms → 8 * h .steps ≤ n → RowsAsked h ms (replicate n 0)
+rows-asked h ms n l k = record { masks-room = l; rows-room = omega (arith, length-replicate {A = ℕ} n 0); blank = blank-zeros n }
+
+pub prepare-asked : (h : Head) (steps sequences table ms ps order : List ℕ) → FillAsked h steps sequences table → Areas ms ps order
+    → StepsAsked h steps ms × SequencesAsked h sequences ps × (h .sequences ≤ 256)
+prepare-asked h steps sequences table ms ps order asked areas = (
+  record { facts = asked .high; words = asked .steps; numbered = asked .steps-numbered; opened = asked .steps-opened; room = omega (arith, asked .steps-high, areas .wide) },
+  record { short = asked .short; numbered = asked .sequences-numbered; opened = asked .sequences-opened; room = omega (arith, asked .sequences-high, areas .narrow) },
+  asked .sequences-high,
+)
 
 module _ (h : Head) (steps sequences table : List ℕ) (asked : FillAsked h steps sequences table) (ms₀ rs₀ : List ℕ) (areas : RowsAsked h ms₀ rs₀)
     (all : ℕ) (ones : all ≡ allFacts (h .facts)) (ms rest rs ps none : List ℕ) (masked : ms ≡ masks (stepsFrom steps) ++ rest)

@@ -2,10 +2,11 @@
 -- possible.
 use Prim.Native.Nat.{ℕ, zero, suc, _*_, _≤_}
 use mathlib.Core.Path.{_≡_}
-use mathlib.Core.List.{List, [], _∷_}
-use lib.ListN.{length, getD}
+use mathlib.Core.List.{List, [], _∷_, _++_}
+use lib.ListN.{length, getD, drop}
 use Rattle.image.specs.Library.{Library, stepsFrom, sequencesFrom}
 use Rattle.image.specs.Checked.{checked}
+use Rattle.image.specs.Tables.{masks, placesFrom}
 use Rattle.image.specs.Rules.{opened}
 use Rattle.image.specs.Accepted.{All, StepWord, SequenceWord, Numbered}
 use Rattle.image.specs.declared.answer.Head.{Head}
@@ -60,6 +61,18 @@ pub record RowsAsked (h : Head) (masks rows : List ℕ) : Type 0 where
   pub masks-room : 3 * h .steps ≤ length masks
   pub rows-room : 8 * h .steps ≤ length rows
   pub blank : Blank rows
+
+-- what is made of the two parts on the way: the steps' masks and the sequences' places. Words past them stay.
+pub record Prepared (h : Head) (first second masks-before places-before ms ps : List ℕ) : Type 0 where
+  pub masked : ms ≡ masks (stepsFrom first) ++ drop (3 * h .steps) masks-before
+  pub placed : ps ≡ placesFrom 0 second ++ drop (h .sequences) places-before
+
+-- the areas that are lent for them and for the finishing order
+pub record Areas (ms ps order : List ℕ) : Type 0 where
+  pub blank : Blank ms
+  pub wide : length ms ≡ 3072
+  pub narrow : length ps ≡ 256
+  pub long : length order ≡ 256
 
 -- the library that the two parts hold
 abbrev pub libraryIn : Head → List ℕ → List ℕ → Library

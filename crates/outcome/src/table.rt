@@ -13,7 +13,8 @@ ghost use mathlib.Core.List.{_++_};
 ghost use Prim.Native.Nat.{_+_, _*_, _≤_, _<_};
 ghost use lib.ListN.{length, drop};
 ghost use Rattle.image.specs.Library.{libraryOf};
-ghost use Rattle.outcome.specs.Area.{outcomes, TableAsked, FillAsked, RowsAsked, Blank, libraryIn};
+ghost use Rattle.image.specs.Tables.{StepsAsked, SequencesAsked};
+ghost use Rattle.outcome.specs.Area.{outcomes, TableAsked, FillAsked, RowsAsked, Areas, Prepared, Blank, libraryIn};
 
 // Clears an area.
 fn clear(area: &mut [u64])
@@ -26,46 +27,68 @@ fn clear(area: &mut [u64])
     }
 }
 
-// Fills `table`, which has eight words a sequence, from the two parts of an accepted image. The other areas have three words and eight
-// words a step.
+// Writes, from the two parts of an accepted image, the steps' masks, the sequences' places and their finishing order into lent areas.
+pub fn prepare(
+    h: Head,
+    steps: &[u32],
+    sequences: &[u32],
+    masks: &mut [u64],
+    places: &mut [u32],
+    order: &mut [usize],
+)
+    requires { ⌜ StepsAsked h (now steps) (now masks) × SequencesAsked h (now sequences) (now places) × (h .sequences ≤ 256) ⌝ }
+    ensures { λ _. ⌜ Prepared h (now (steps .entry)) (now (sequences .entry)) (now (masks .entry)) (now (places .entry)) (now (masks .exit)) (now (places .exit)) ⌝ }
+{
+    let mut next = [0usize; 256];
+    let mut stack = [0usize; 256];
+    let n = h.sequences as usize;
+    write_masks(h, steps, masks);
+    write_places(h, sequences, places);
+    finishing_order(sequences, &places[..n], &mut next, &mut stack, order);
+}
+
+// Fills `table`, which has eight words a sequence, from the two parts of an accepted image, and what is made of them on the way. The area
+// for the rows of the steps is blank.
 fn fill_by(
     h: Head,
     steps: &[u32],
     sequences: &[u32],
     masks: &mut [u64],
+    places: &mut [u32],
+    order: &mut [usize],
     rows: &mut [u64],
     table: &mut [u64],
 )
-    requires { ⌜ FillAsked h (now steps) (now sequences) (now table) × RowsAsked h (now masks) (now rows) ⌝ }
-    ensures { λ _. ⌜ now (table .exit) ≡ outcomes (libraryIn h (now (steps .entry)) (now (sequences .entry))) ⌝ }
+    requires { ⌜ FillAsked h (now steps) (now sequences) (now table) × Areas (now masks) (now places) (now order) × RowsAsked h (now masks) (now rows) ⌝ }
+    ensures { λ _. ⌜ Prepared h (now (steps .entry)) (now (sequences .entry)) (now (masks .entry)) (now (places .entry)) (now (masks .exit)) (now (places .exit)) × (now (table .exit) ≡ outcomes (libraryIn h (now (steps .entry)) (now (sequences .entry)))) ⌝ }
 {
-    let mut places = [0u32; 256];
-    let mut next = [0usize; 256];
-    let mut stack = [0usize; 256];
-    let mut order = [0usize; 256];
     let n = h.sequences as usize;
     let all = all_facts(h.facts);
-    write_masks(h, steps, masks);
+    prepare(h, steps, sequences, masks, places, order);
     write_step_rows(all, masks, h.steps as usize, rows);
-    write_places(h, sequences, &mut places);
-    finishing_order(sequences, &places[..n], &mut next, &mut stack, &mut order);
     clear(table);
-    settle(all, rows, sequences, &places, &order[..n], table, n);
+    settle(all, rows, sequences, places, &order[..n], table, n);
 }
 
-// So with areas of its own: small ones where there are few steps, since it takes time to make them.
-fn fill(h: Head, steps: &[u32], sequences: &[u32], table: &mut [u64])
-    requires { ⌜ FillAsked h (now steps) (now sequences) (now table) ⌝ }
-    ensures { λ _. ⌜ now (table .exit) ≡ outcomes (libraryIn h (now (steps .entry)) (now (sequences .entry))) ⌝ }
+// So with an area for the rows of its own: a small one where there are few steps, since it takes time to make it.
+pub fn fill(
+    h: Head,
+    steps: &[u32],
+    sequences: &[u32],
+    masks: &mut [u64],
+    places: &mut [u32],
+    order: &mut [usize],
+    table: &mut [u64],
+)
+    requires { ⌜ FillAsked h (now steps) (now sequences) (now table) × Areas (now masks) (now places) (now order) ⌝ }
+    ensures { λ _. ⌜ Prepared h (now (steps .entry)) (now (sequences .entry)) (now (masks .entry)) (now (places .entry)) (now (masks .exit)) (now (places .exit)) × (now (table .exit) ≡ outcomes (libraryIn h (now (steps .entry)) (now (sequences .entry)))) ⌝ }
 {
     if h.steps <= 64 {
-        let mut masks = [0u64; 192];
         let mut rows = [0u64; 512];
-        fill_by(h, steps, sequences, &mut masks, &mut rows, table);
+        fill_by(h, steps, sequences, masks, places, order, &mut rows, table);
     } else {
-        let mut masks = [0u64; 3072];
         let mut rows = [0u64; 8192];
-        fill_by(h, steps, sequences, &mut masks, &mut rows, table);
+        fill_by(h, steps, sequences, masks, places, order, &mut rows, table);
     }
 }
 
@@ -74,11 +97,17 @@ pub fn outcome_table(h: Head, image: &[u32], area: &mut [u64])
     requires { ⌜ TableAsked h (now image) (now area) ⌝ }
     ensures { λ _. ⌜ now (area .exit) ≡ outcomes (libraryOf (now (image .entry))) ++ drop (8 * h .sequences) (now (area .entry)) ⌝ }
 {
+    let mut masks = [0u64; 3072];
+    let mut places = [0u32; 256];
+    let mut order = [0usize; 256];
     let words = 8 * h.sequences as usize;
     fill(
         h,
         steps_part(image),
         sequences_part(image),
+        &mut masks,
+        &mut places,
+        &mut order,
         &mut area[..words],
     );
 }

@@ -10,7 +10,10 @@ use Rattle.chain.proofs.read.fewest_links.Reads as fewest-links-reads
 use Rattle.chain.proofs.read.greatest_depth.Reads as greatest-depth-reads
 
 greatest-depth-requires : tie.Need-greatest-depth-requires
-greatest-depth-requires c κs = search needs
+greatest-depth-requires c κs =
+    let start = c .before .before .before .before .before .before in
+    let readable = start .pre .0 in
+    (record { fact = readable .fact; within = λ i l. let w = readable .within i l in (w .0, λ k. w .1 k .1) }, start .pre .1)
 
 returns : tie.Need-returns
 returns c =
