@@ -16,7 +16,7 @@ use Rattle.chain.specs.Tables.{entryOf, inRanks, markIn, aheadIn, behind
 use Rattle.chain.specs.declared.entry.Asked.{Asked}
 use Rattle.chain.specs.declared.entry.Traits.{Traits}
 use Rattle.chain.specs.declared.read.Read.{Read}
-use Rattle.chain.proofs.Walk.{depth-from, fewest-from}
+use Rattle.chain.proofs.Walk.{depth-from, fewest-from, lowered-least}
 use Rattle.chain.proofs.Folds.{Folding, folding-start, folding-turn, folding-out, folding-end, Walking, walking-turn, walking-skip, walking-out, walking-end}
 
 -- ---- an alternative
@@ -121,6 +121,9 @@ module _ (worth : Alternative → ℕ) (part : List ℕ) (whole : ℕ) where
     lowering-turn l e found read =
         walking-turn part whole (loweredFrom worth r) i here l e (loweredFrom worth (min r (1 + found .value))) (found .next) (read .within) (read .skips)
         (ap (λ (x : ℕ). loweredFrom worth (min r x) (alternativesFrom (drop (i + 1) part))) (sym (one-add (found .value) ∙ ap suc (read .value))))
+
+    pub lowering-low : r ≤ 1 → r ≡ whole
+    lowering-low l = sym (lowered-least worth r (alternativesFrom (drop i part)) l) ∙ here .same
 
     pub lowering-skip : i < length part → isKind 7 (getD part i 0) ≡ false → isEntry (getD part i 0) ≡ true → Lowering r (i + 1)
     lowering-skip l e f = walking-skip part whole (loweredFrom worth r) i here l e f

@@ -47,6 +47,14 @@ from-least value r (es ∷ alts) =
     least-min v r x zero = omega arith
     least-min v r x (suc n) = let h = least-min v r x n in omega arith
 
+-- no alternative lowers a rank of 1
+pub lowered-least : (value : Alternative → ℕ) (r : ℕ) (alts : List Alternative) → r ≤ 1 → loweredFrom value r alts ≡ r
+unfolding loweredFrom
+lowered-least value r [] l = refl
+lowered-least value r (es ∷ alts) l =
+    let same : min r (suc (value es)) ≡ r = omega arith in
+    ap (λ (x : ℕ). loweredFrom value x alts) same ∙ lowered-least value r alts l
+
 pub lowered-low : (value : Alternative → ℕ) (r : ℕ) (alts : List Alternative) → loweredFrom value r alts ≤ r
 unfolding loweredFrom
 lowered-low value r [] = omega arith

@@ -124,7 +124,7 @@ fn lower(r: u32, value: u32) -> u32
     r
 }
 
-// The rank lowered by the alternatives that stand from index `at` on, up to the next sequence.
+// The rank lowered by the alternatives that stand from index `at` on, up to the next sequence. A sequence has no rank below 1.
 pub fn lowered_rank(
     q: Asked,
     masks: &[u64],
@@ -140,6 +140,9 @@ pub fn lowered_rank(
     let mut r = rank;
     let mut i = at;
     while i < part.len() {
+        if r < 2 {
+            return r;
+        }
         let w = part[i];
         i += 1;
         if is_kind(7, w) {

@@ -9,7 +9,7 @@ use lib.ListN.{length, drop}
 use Rattle.image.specs.Library.{alternativesFrom}
 use Rattle.chain.specs.Walk.{loweredFrom}
 use Rattle.chain.specs.Tables.{inRanks, lookIn}
-use Rattle.chain.proofs.Looks.{Lowering, lowering-turn, lowering-skip, lowering-out, lowering-end}
+use Rattle.chain.proofs.Looks.{Lowering, lowering-low, lowering-turn, lowering-skip, lowering-out, lowering-end}
 use Rattle.chain.proofs.read.lowered_rank.Statement.{statement}
 use Rattle.chain.proofs.read.lowered_rank.Tie as tie
 use Rattle.chain.proofs.read.lowered_rank.Reads as reads
@@ -32,6 +32,14 @@ loop-holds c =
     let start = c .before .before .before .before in
     record { within = start .pre .1; same = refl }
 
+returns : tie.Need-returns Inv-loop μ-loop
+returns c =
+    let at-loop = c .before .before in
+    let a = at-loop .before .before .before .before .before .args in
+    lowering-low (lookIn (a .q) (a .masks .now) (a .table .now) (inRanks (a .q) (a .ranks .now))) (a .part .now)
+    (loweredFrom (lookIn (a .q) (a .masks .now) (a .table .now) (inRanks (a .q) (a .ranks .now))) (a .rank) (alternativesFrom (drop (a .at) (a .part .now))))
+    (at-loop .loop .r) (at-loop .loop .i) (at-loop .loop .inv) (omega (arith, c .if1 .taken))
+
 mul-w : tie.Need-mul-w Inv-loop μ-loop
 mul-w c = search needs
 
@@ -40,7 +48,7 @@ shared-slice-read-w c = search needs
 
 add-i : tie.Need-add-i Inv-loop μ-loop
 add-i c =
-    let turn = c .before in
+    let turn = c .before .before in
     omega (arith, turn .loop-test .taken, turn .before .before .before .before .before .before .good)
 
 is-kind-requires : tie.Need-is-kind-requires Inv-loop μ-loop
@@ -48,7 +56,7 @@ is-kind-requires c κs = search needs
 
 read-alternative-requires : tie.Need-read-alternative-requires Inv-loop μ-loop
 read-alternative-requires c κs =
-    let turn = c .before .before .before in
+    let turn = c .before .before .before .before in
     (turn .before .before .before .before .before .before .pre .0, omega (arith, turn .loop-test .taken))
 
 lower-requires : tie.Need-lower-requires Inv-loop μ-loop
@@ -57,33 +65,33 @@ lower-requires c κs = search needs
 loop-less : tie.Need-loop-less Inv-loop μ-loop
 loop-less c =
     let read = c .before in
-    omega (arith, read .read-alternative .ensures, read .before .before .before .before .loop-test .taken)
+    omega (arith, read .read-alternative .ensures, read .before .before .before .before .before .loop-test .taken)
 
 loop-again : tie.Need-loop-again Inv-loop μ-loop
 loop-again c =
     let read = c .before in
     let kinds = read .before .before in
-    let at-loop = kinds .before .before .before in
+    let at-loop = kinds .before .before .before .before in
     let a = at-loop .before .before .before .before .before .args in
     rw (c .lower .ensures)
     (lowering-turn (lookIn (a .q) (a .masks .now) (a .table .now) (inRanks (a .q) (a .ranks .now))) (a .part .now)
     (loweredFrom (lookIn (a .q) (a .masks .now) (a .table .now) (inRanks (a .q) (a .ranks .now))) (a .rank) (alternativesFrom (drop (a .at) (a .part .now))))
     (at-loop .loop .r) (at-loop .loop .i) (at-loop .loop .inv) (omega arith)
-    (sym (kinds .is-kind .ensures) ∙ read .before .if1 .taken) (read .read-alternative .result) (read .read-alternative .ensures))
+    (sym (kinds .is-kind .ensures) ∙ read .before .if2 .taken) (read .read-alternative .result) (read .read-alternative .ensures))
 
 is-entry-requires : tie.Need-is-entry-requires Inv-loop μ-loop
 is-entry-requires c κs = search needs
 
-returns : tie.Need-returns Inv-loop μ-loop
-returns c =
+returns-2 : tie.Need-returns-2 Inv-loop μ-loop
+returns-2 c =
     let entry = c .before in
     let kinds = entry .before .before in
-    let at-loop = kinds .before .before .before in
+    let at-loop = kinds .before .before .before .before in
     let a = at-loop .before .before .before .before .before .args in
     lowering-out (lookIn (a .q) (a .masks .now) (a .table .now) (inRanks (a .q) (a .ranks .now))) (a .part .now)
     (loweredFrom (lookIn (a .q) (a .masks .now) (a .table .now) (inRanks (a .q) (a .ranks .now))) (a .rank) (alternativesFrom (drop (a .at) (a .part .now))))
     (at-loop .loop .r) (at-loop .loop .i) (at-loop .loop .inv) (omega arith)
-    (sym (kinds .is-kind .ensures) ∙ entry .before .if1 .left) (sym (entry .is-entry .ensures) ∙ not-true _ (c .if2 .taken))
+    (sym (kinds .is-kind .ensures) ∙ entry .before .if2 .left) (sym (entry .is-entry .ensures) ∙ not-true _ (c .if3 .taken))
 
 loop-less-2 : tie.Need-loop-less-2 Inv-loop μ-loop
 loop-less-2 c = search needs
@@ -92,15 +100,15 @@ loop-again-2 : tie.Need-loop-again-2 Inv-loop μ-loop
 loop-again-2 c =
     let entry = c .before in
     let kinds = entry .before .before in
-    let at-loop = kinds .before .before .before in
+    let at-loop = kinds .before .before .before .before in
     let a = at-loop .before .before .before .before .before .args in
     lowering-skip (lookIn (a .q) (a .masks .now) (a .table .now) (inRanks (a .q) (a .ranks .now))) (a .part .now)
     (loweredFrom (lookIn (a .q) (a .masks .now) (a .table .now) (inRanks (a .q) (a .ranks .now))) (a .rank) (alternativesFrom (drop (a .at) (a .part .now))))
     (at-loop .loop .r) (at-loop .loop .i) (at-loop .loop .inv) (omega arith)
-    (sym (kinds .is-kind .ensures) ∙ entry .before .if1 .left) (sym (entry .is-entry .ensures) ∙ not-false _ (c .if2 .left))
+    (sym (kinds .is-kind .ensures) ∙ entry .before .if2 .left) (sym (entry .is-entry .ensures) ∙ not-false _ (c .if3 .left))
 
-returns-2 : tie.Need-returns-2 Inv-loop μ-loop
-returns-2 c =
+returns-3 : tie.Need-returns-3 Inv-loop μ-loop
+returns-3 c =
     let at-loop = c .before in
     let a = at-loop .before .before .before .before .before .args in
     lowering-end (lookIn (a .q) (a .masks .now) (a .table .now) (inRanks (a .q) (a .ranks .now))) (a .part .now)
@@ -114,6 +122,7 @@ lowered-rank-spec =
     Inv-loop
     μ-loop
     loop-holds
+    returns
     mul-w
     shared-slice-read-w
     add-i
@@ -123,7 +132,7 @@ lowered-rank-spec =
     loop-less
     loop-again
     is-entry-requires
-    returns
+    returns-2
     loop-less-2
     loop-again-2
-    returns-2)
+    returns-3)
