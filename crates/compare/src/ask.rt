@@ -80,6 +80,14 @@ fn possible(cards: &[u64], c: usize, question: u32, f: u32, empty: &[bool], rank
     }
 }
 
+// Whether the entry of a link that leaves `r` links with itself is right: the last one's is a step with the touch, the others' a sequence.
+fn goes_on(w: u32, actions: &[u32], question: u32, r: u32) -> bool {
+    if r == 1 {
+        return is_kind(8, w) & (action(actions, w) & touch(question) != 0);
+    }
+    is_kind(9, w)
+}
+
 // Looks at the link at index `i` of the area: it is to be about `c`, and to leave `r` links with itself. Answers the entry that it names.
 fn look_at_link(tally: &mut [u64], part: &[u32], places: &[usize], c: usize, question: u32, actions: &[u32], run: &[bool], empty: &[bool], short: &[u32], ranks: &[u32], r: u32, area: &[u32], i: usize) -> u32 {
     let one = word(area, i);
@@ -87,11 +95,7 @@ fn look_at_link(tally: &mut [u64], part: &[u32], places: &[usize], c: usize, que
     let right = links::link_right(part, places, c, one, two, 2 < question, actions, side(question), run, empty);
     tally::expect(tally, right, b"a link does not stand");
     let w = links::named_entry(part, places, c, one, two);
-    if r == 1 {
-        tally::expect(tally, is_kind(8, w) & (action(actions, w) & touch(question) != 0), b"the last link does not end with the touch");
-    } else {
-        tally::expect(tally, is_kind(9, w), b"a link that is not the last names no sequence");
-    }
+    tally::expect(tally, goes_on(w, actions, question, r), b"a link's entry is no step with the touch, or no sequence");
     let choice = rounds::lowest_link(part, place(places, c), short, actions, touch(question), ranks, r);
     let lowest = (links::alternative_of(one) == choice.alternative) & (number(two) == choice.position as usize);
     tally::expect(tally, lowest, b"a link is not the lowest choice");
@@ -101,7 +105,7 @@ fn look_at_link(tally: &mut [u64], part: &[u32], places: &[usize], c: usize, que
 
 // Looks at the `n` links of a chain about sequence `c`.
 fn look_at_links(tally: &mut [u64], part: &[u32], places: &[usize], c: usize, question: u32, actions: &[u32], run: &[bool], empty: &[bool], short: &[u32], ranks: &[u32], n: u32, area: &[u32]) {
-    let mut left = n;
+    let mut left = n % 257;
     let mut at = c;
     let mut i: usize = 0;
     while 0 < left {
@@ -128,14 +132,18 @@ fn twice(n: u32) -> usize {
     std::num::wrapping_add_usize(m, m)
 }
 
+// Looks at the answer "none".
+fn look_at_none(tally: &mut [u64], so: bool, area: &[u32]) {
+    tally::expect(tally, !so, b"none where a run has the outcome");
+    tally::expect(tally, stays(area, 0), b"none, and words are changed");
+}
+
 // Looks at a chain of `n` links.
-fn look_at_chain(tally: &mut [u64], part: &[u32], places: &[usize], c: usize, question: u32, actions: &[u32], run: &[bool], empty: &[bool], restricted: &[u32], short: &[u32], ranks: &[u32], n: u32, area: &[u32]) {
+fn look_at_chain(tally: &mut [u64], so: bool, part: &[u32], places: &[usize], c: usize, question: u32, actions: &[u32], run: &[bool], empty: &[bool], restricted: &[u32], short: &[u32], ranks: &[u32], n: u32, area: &[u32]) {
     tally::count(tally, tally::CHAINS, 1);
+    tally::expect(tally, so, b"a chain where no run has the outcome");
     tally::expect(tally, stays(area, twice(n)), b"words past the chain are changed");
-    if area.len() < twice(n) {
-        tally::expect(tally, false, b"more links than the area holds");
-        return;
-    }
+    tally::expect(tally, twice(n) <= area.len(), b"a chain of more links than there are sequences");
     if question % 3 == 2 {
         look_at_quiet(tally, part, places, c, question, actions, run, empty, restricted, ranks, n, area);
         return;
@@ -155,17 +163,9 @@ fn ask(tally: &mut [u64], image: &[u32], part: &[u32], places: &[usize], cards: 
     tally::expect(tally, so == (0 < word(ranks, c)), b"the columns and the rounds of the second engine differ");
     fill(area);
     match chain::call::chain(image, c as u64, question as u64, f as u64, area) {
-        Chained::Shown(found) => {
-            tally::expect(tally, so, b"a chain where no run has the outcome");
-            look_at_chain(tally, part, places, c, question, actions, run, empty, restricted, short, ranks, found.count, area);
-        }
-        Chained::None => {
-            tally::expect(tally, !so, b"none where a run has the outcome");
-            tally::expect(tally, stays(area, 0), b"none, and words are changed");
-        }
-        Chained::Refused(_) => {
-            tally::expect(tally, false, b"the chain call refuses");
-        }
+        Chained::Shown(found) => look_at_chain(tally, so, part, places, c, question, actions, run, empty, restricted, short, ranks, found.count, area),
+        Chained::None => look_at_none(tally, so, area),
+        Chained::Refused(_) => tally::expect(tally, false, b"the chain call refuses"),
     }
 }
 

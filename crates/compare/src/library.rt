@@ -23,12 +23,20 @@ fn room(words: &[u32], n: usize) -> bool {
     n < words.len() - 300
 }
 
-// Writes one fact word, if the step is to have it: `i` counts the facts three times over, for needs, sets and clears.
-fn put_fact(state: &mut [u64], s: Shape, words: &mut [u32], n: usize, i: u32) -> usize {
+// How likely step `a` has a fact word. Where no other step touches a fact, step 0 does.
+fn touching(s: Shape, a: u32) -> u32 {
+    if (s.touching == 0) & (a == 0) {
+        return 48;
+    }
+    s.touching
+}
+
+// Writes one fact word of step `a`, if the step is to have it: `i` counts the facts three times over, for needs, sets and clears.
+fn put_fact(state: &mut [u64], s: Shape, words: &mut [u32], n: usize, a: u32, i: u32) -> usize {
     if s.facts == 0 {
         return n;
     }
-    if !chance(state, s.touching) {
+    if !chance(state, touching(s, a)) {
         return n;
     }
     if 3000 < n {
@@ -39,12 +47,12 @@ fn put_fact(state: &mut [u64], s: Shape, words: &mut [u32], n: usize, i: u32) ->
 }
 
 // Writes the fact words of a step, needs first, then sets, then clears.
-fn put_facts(state: &mut [u64], s: Shape, words: &mut [u32], n: usize) -> usize {
+fn put_facts(state: &mut [u64], s: Shape, words: &mut [u32], n: usize, a: u32) -> usize {
     let most = std::num::wrapping_add_u32(s.facts, std::num::wrapping_add_u32(s.facts, s.facts));
     let mut m = n;
     let mut i = 0;
     while i < most {
-        m = put_fact(state, s, words, m, i);
+        m = put_fact(state, s, words, m, a, i);
         i += 1;
     }
     m
@@ -56,7 +64,7 @@ fn put_steps(state: &mut [u64], s: Shape, words: &mut [u32], n: usize) -> usize 
     let mut a = 0;
     while a < steps {
         m = put(words, m, 0x50000000 | a);
-        m = put_facts(state, s, words, m);
+        m = put_facts(state, s, words, m, a);
         a += 1;
     }
     m
@@ -104,6 +112,13 @@ fn entry(state: &mut [u64], s: Shape, c: u32) -> u32 {
     if s.steps == 0 {
         return 0x90000000 | c;
     }
+    if (s.touching == 0) & (d < s.sequences) {
+        // step 0 is kept for the sequence that calls no other
+        return 0x80000000 | between(state, 1, s.steps - 1) % s.steps;
+    }
+    if s.touching == 0 {
+        return 0x80000000;
+    }
     0x80000000 | draw(state, s.steps)
 }
 
@@ -139,7 +154,7 @@ fn put_alternative(state: &mut [u64], s: Shape, words: &mut [u32], n: usize, c: 
 
 fn put_sequence(state: &mut [u64], s: Shape, words: &mut [u32], n: usize, c: u32) -> usize {
     let mut m = put(words, n, 0x60000000 | c);
-    let mut left = between(state, s.least, s.alternatives);
+    let mut left = between(state, s.alternatives, s.more);
     while 0 < left {
         m = put_alternative(state, s, words, m, c);
         left -= 1;

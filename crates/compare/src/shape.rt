@@ -1,16 +1,16 @@
 // What a library is to look like.
 use crate::random::between;
 
-// The counts of the head; how many times out of 64 a step needs, sets or clears a fact; the least and the most
-// alternatives of a sequence; the most entries of
-// an alternative; how many times out of 64 an alternative is empty, and an entry is a call; and which sequences are called.
+// The counts of the head; how many times out of 64 a step needs, sets or clears a fact; the fewest alternatives of a sequence and how many more
+// there may be; the most entries of an alternative; how many times out of 64 an alternative is empty, and an entry is a call; and which
+// sequences are called.
 pub struct Shape {
     pub facts: u32,
     pub steps: u32,
     pub sequences: u32,
     pub touching: u32,
-    pub least: u32,
     pub alternatives: u32,
+    pub more: u32,
     pub entries: u32,
     pub empty: u32,
     pub calls: u32,
@@ -24,31 +24,14 @@ pub const NEXT: u32 = 2;
 pub const BEFORE: u32 = 3;
 pub const NEIGHBOUR: u32 = 4;
 
-// The kinds of libraries.
-pub const SMALL: u32 = 0;
-pub const SELF: u32 = 1;
-pub const MUTUAL: u32 = 2;
-pub const ENDLESS: u32 = 3;
-pub const DOWN: u32 = 4;
-pub const UP: u32 = 5;
-pub const EMPTY: u32 = 6;
-pub const LONG: u32 = 7;
-pub const ONE_FACT: u32 = 8;
-pub const ALL_FACTS: u32 = 9;
-pub const TIES: u32 = 10;
-pub const LARGE: u32 = 11;
-pub const LARGE_DOWN: u32 = 12;
-pub const LARGE_UP: u32 = 13;
-pub const FULL: u32 = 14;
-
 fn small(state: &mut [u64]) -> Shape {
     Shape {
         facts: between(state, 1, 2),
         steps: between(state, 0, 4),
         sequences: between(state, 1, 5),
         touching: between(state, 4, 20),
-        least: between(state, 0, 1),
-        alternatives: between(state, 1, 2),
+        alternatives: between(state, 0, 1),
+        more: between(state, 1, 2),
         entries: between(state, 1, 3),
         empty: 8,
         calls: between(state, 16, 32),
@@ -63,8 +46,8 @@ fn calling(state: &mut [u64], callee: u32, calls: u32, empty: u32) -> Shape {
         steps: between(state, 1, 3),
         sequences: between(state, 2, 4),
         touching: between(state, 4, 20),
-        least: between(state, 0, 1),
-        alternatives: 3,
+        alternatives: between(state, 0, 1),
+        more: 3,
         entries: 3,
         empty: empty,
         calls: calls,
@@ -73,17 +56,17 @@ fn calling(state: &mut [u64], callee: u32, calls: u32, empty: u32) -> Shape {
 }
 
 // Sequences that each call the next one or the one before, so that runs, chains and depths go through many.
-fn deep(state: &mut [u64], sequences: u32, callee: u32) -> Shape {
+fn deep(state: &mut [u64], sequences: u32, callee: u32, touching: u32) -> Shape {
     Shape {
         facts: 2,
         steps: 12,
         sequences: between(state, sequences, sequences / 4),
-        touching: 2,
-        least: 1,
-        alternatives: 2,
-        entries: 3,
-        empty: 2,
-        calls: 40,
+        touching: touching,
+        alternatives: 1,
+        more: 1,
+        entries: 4,
+        empty: 1,
+        calls: 48,
         callee: callee,
     }
 }
@@ -95,8 +78,8 @@ fn many_empty(state: &mut [u64]) -> Shape {
         steps: 3,
         sequences: between(state, 1, 4),
         touching: 12,
-        least: 0,
-        alternatives: 12,
+        alternatives: 0,
+        more: 12,
         entries: 4,
         empty: 48,
         calls: 40,
@@ -111,8 +94,8 @@ fn long(state: &mut [u64]) -> Shape {
         steps: 24,
         sequences: between(state, 2, 4),
         touching: 1,
-        least: 1,
-        alternatives: 3,
+        alternatives: 1,
+        more: 3,
         entries: 500,
         empty: 16,
         calls: between(state, 1, 30),
@@ -127,8 +110,8 @@ fn wide(state: &mut [u64], facts: u32) -> Shape {
         steps: between(state, 1, 5),
         sequences: between(state, 1, 4),
         touching: 12,
-        least: 0,
-        alternatives: 2,
+        alternatives: 0,
+        more: 2,
         entries: 3,
         empty: 8,
         calls: 24,
@@ -143,8 +126,8 @@ fn tied(state: &mut [u64]) -> Shape {
         steps: between(state, 1, 4),
         sequences: between(state, 1, 3),
         touching: between(state, 30, 20),
-        least: 1,
-        alternatives: 2,
+        alternatives: 1,
+        more: 2,
         entries: 3,
         empty: 8,
         calls: 24,
@@ -159,8 +142,8 @@ fn large(state: &mut [u64], facts: u32, callee: u32, calls: u32) -> Shape {
         steps: between(state, 64, 64),
         sequences: 256,
         touching: 1,
-        least: 0,
-        alternatives: 4,
+        alternatives: 0,
+        more: 4,
         entries: 10,
         empty: 4,
         calls: calls,
@@ -174,16 +157,16 @@ pub fn shape(state: &mut [u64], kind: u32) -> Shape {
         1 => calling(state, ITSELF, 36, 8),
         2 => calling(state, NEIGHBOUR, 36, 8),
         3 => calling(state, ANY, 44, 2),
-        4 => deep(state, 16, NEXT),
-        5 => deep(state, 16, BEFORE),
+        4 => deep(state, 16, NEXT, 1),
+        5 => deep(state, 16, BEFORE, 1),
         6 => many_empty(state),
         7 => long(state),
         8 => wide(state, 1),
         9 => wide(state, 64),
         10 => tied(state),
         11 => large(state, 4, ANY, 20),
-        12 => deep(state, 200, NEXT),
-        13 => deep(state, 200, BEFORE),
+        12 => deep(state, 205, NEXT, 0),
+        13 => deep(state, 205, BEFORE, 0),
         14 => large(state, 64, ANY, 20),
         _ => small(state),
     }

@@ -206,11 +206,10 @@ fn enter_all(domain: &[u32], from: usize, reached: &mut [bool], queue: &mut [usi
 }
 
 // DECOMPOSITIONREACHABILITY: M_R(c) = {m | m = (c, tn)} ∪ {m = (c', tn) | ∃ tn' : ⟨c⟩ → tn' ∧ c' ∈ tn'}. The queue gets the tasks whose methods
-// these are, `c` first. Answers how many there are.
+// these are, `c` first; `reached` has none at the beginning. Answers how many there are.
 pub fn reachable(domain: &[u32], places: &[usize], c: usize, reached: &mut [bool], queue: &mut [usize]) -> usize
     ensures { λ r. ⌜ (length (now (reached .exit)) ≡ length (now (reached .entry))) × (length (now (queue .exit)) ≡ length (now (queue .entry))) ⌝ }
 {
-    clear(reached);
     let mut n = enter(reached, queue, 0, c);
     let mut i = 0;
     while i < queue.len() {

@@ -2,8 +2,8 @@
 use crate::auxiliary::empty_refinements;
 use crate::domain::read_actions;
 use crate::domain::write_places;
-use crate::effects;
-use crate::preconditions;
+use crate::effects::infer_effects;
+use crate::preconditions::infer_preconditions;
 use crate::prepass::terminating;
 use crate::sets::has;
 use image::answer::Checked;
@@ -115,24 +115,21 @@ fn write_flags(run: &[bool], empty: &[bool], area: &mut [u64])
 }
 
 // Both algorithms for fact `f`.
-fn infer(domain: &[u32], places: &[usize], actions: &[u32], f: u32, run: &[bool], restricted: &mut [u32], short: &mut [u32], empty: &mut [bool], reached: &mut [bool], queue: &mut [usize], area: &mut [u64])
+fn infer(domain: &[u32], places: &[usize], actions: &[u32], f: u32, run: &[bool], restricted: &mut [u32], short: &mut [u32], empty: &mut [bool], area: &mut [u64])
     ensures { λ _. ⌜ length (now (area .exit)) ≡ length (now (area .entry)) ⌝ }
 {
-    effects::curtail(domain, actions, restricted, empty, short);
-    effects::effects(short, places, actions, f, run, empty, reached, queue, area);
-    preconditions::curtail(domain, actions, restricted, empty, short);
-    preconditions::unneeding(domain, actions, restricted, empty);
-    preconditions::preconditions(short, places, actions, f, run, empty, reached, queue, area);
+    infer_effects(domain, places, actions, f, run, restricted, short, empty, area);
+    infer_preconditions(domain, places, actions, f, run, restricted, short, empty, area);
 }
 
 // Line 2 of Algorithms 5 and 6: each fact.
-fn infer_all(facts: u32, steps: &[u32], domain: &[u32], places: &[usize], actions: &mut [u32], run: &[bool], restricted: &mut [u32], short: &mut [u32], empty: &mut [bool], reached: &mut [bool], queue: &mut [usize], area: &mut [u64])
+fn infer_all(facts: u32, steps: &[u32], domain: &[u32], places: &[usize], actions: &mut [u32], run: &[bool], restricted: &mut [u32], short: &mut [u32], empty: &mut [bool], area: &mut [u64])
     ensures { λ _. ⌜ length (now (area .exit)) ≡ length (now (area .entry)) ⌝ }
 {
     let mut f = 0;
     while f < facts {
         read_actions(steps, f, actions);
-        infer(domain, places, actions, f, run, restricted, short, empty, reached, queue, area);
+        infer(domain, places, actions, f, run, restricted, short, empty, area);
         f += 1;
     }
 }
@@ -143,11 +140,9 @@ fn fill(h: Head, steps: &[u32], part: &[u32], domain: &mut [u32], restricted: &m
 {
     let mut actions = [0u32; 1024];
     let mut places = [0usize; 256];
-    let mut reached = [false; 256];
-    let mut queue = [0usize; 256];
     write_places(part, &mut places);
     terminating(part, run, domain);
-    infer_all(h.facts, steps, domain, &places, &mut actions, run, restricted, short, empty, &mut reached, &mut queue, area);
+    infer_all(h.facts, steps, domain, &places, &mut actions, run, restricted, short, empty, area);
     empty_refinements(domain, empty);
     write_flags(run, empty, area);
 }
@@ -155,7 +150,7 @@ fn fill(h: Head, steps: &[u32], part: &[u32], domain: &mut [u32], restricted: &m
 // The words of working space.
 fn filled(h: Head, image: &[u32], area: &mut [u64]) -> u32
     requires { ⌜ 2 ≤ length (now image) ⌝ }
-    ensures { λ r. ⌜ (r ≡ h .sequences) ⌝ }
+    ensures { λ r. ⌜ r ≤ h .sequences ⌝ }
 {
     let mut domain = [0u32; 8192];
     let mut restricted = [0u32; 8192];
@@ -165,9 +160,13 @@ fn filled(h: Head, image: &[u32], area: &mut [u64]) -> u32
     let part = sequences_part(image);
     let n = part.len();
     let c = h.sequences as usize;
-    if (n <= 8192) & (c <= 256) {
-        fill(h, steps_part(image), part, &mut domain[..n], &mut restricted[..n], &mut short[..n], &mut run[..c], &mut empty[..c], area);
+    if 8192 < n {
+        return 0;
     }
+    if 256 < c {
+        return 0;
+    }
+    fill(h, steps_part(image), part, &mut domain[..n], &mut restricted[..n], &mut short[..n], &mut run[..c], &mut empty[..c], area);
     h.sequences
 }
 

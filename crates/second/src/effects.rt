@@ -35,24 +35,34 @@ fn judge(area: &mut [u64], c: usize, f: u32, all: u32, empty: bool)
 }
 
 // Lines 6 to 16 for compound task `c`, if it has a refinement: the others were removed by the pre-pass.
-fn infer(short: &[u32], places: &[usize], actions: &[u32], c: usize, f: u32, run: &[bool], empty: &[bool], reached: &mut [bool], queue: &mut [usize], area: &mut [u64])
+fn infer(short: &[u32], places: &[usize], actions: &[u32], c: usize, f: u32, run: &[bool], empty: &[bool], area: &mut [u64])
     ensures { λ _. ⌜ length (now (area .exit)) ≡ length (now (area .entry)) ⌝ }
 {
     if !has(run, c) {
         return;
     }
-    let n = reachable(short, places, c, reached, queue);
-    let all = reached_actions(short, places, queue, n, actions);
+    let mut reached = [false; 256];
+    let mut queue = [0usize; 256];
+    let n = reachable(short, places, c, &mut reached, &mut queue);
+    let all = reached_actions(short, places, &queue, n, actions);
     judge(area, c, f, all, has(empty, c));
 }
 
 // Lines 7 to 16: each compound task.
-pub fn effects(short: &[u32], places: &[usize], actions: &[u32], f: u32, run: &[bool], empty: &[bool], reached: &mut [bool], queue: &mut [usize], area: &mut [u64])
+fn judge_all(short: &[u32], places: &[usize], actions: &[u32], f: u32, run: &[bool], empty: &[bool], area: &mut [u64])
     ensures { λ _. ⌜ length (now (area .exit)) ≡ length (now (area .entry)) ⌝ }
 {
     let mut c = 0;
     while c < run.len() {
-        infer(short, places, actions, c, f, run, empty, reached, queue, area);
+        infer(short, places, actions, c, f, run, empty, area);
         c += 1;
     }
+}
+
+// Algorithm 5 for fact `f`.
+pub fn infer_effects(domain: &[u32], places: &[usize], actions: &[u32], f: u32, run: &[bool], restricted: &mut [u32], short: &mut [u32], empty: &mut [bool], area: &mut [u64])
+    ensures { λ _. ⌜ length (now (area .exit)) ≡ length (now (area .entry)) ⌝ }
+{
+    curtail(domain, actions, restricted, empty, short);
+    judge_all(short, places, actions, f, run, empty, area);
 }

@@ -14,7 +14,7 @@ ghost use Prim.Native.Nat.{_≤_};
 ghost use lib.ListN.{length};
 
 // Lines 3 and 4: D' (restricted) and C_ε (empty).
-pub fn unneeding(domain: &[u32], actions: &[u32], restricted: &mut [u32], empty: &mut [bool])
+fn unneeding(domain: &[u32], actions: &[u32], restricted: &mut [u32], empty: &mut [bool])
     ensures { λ _. ⌜ length (now (empty .exit)) ≡ length (now (empty .entry)) ⌝ }
 {
     restrict(domain, actions, PREC, restricted);
@@ -41,24 +41,35 @@ fn judge(area: &mut [u64], c: usize, f: u32, all: u32, empty: bool)
 }
 
 // Lines 8 to 11 for compound task `c`, if it has a refinement: of the others, which the pre-pass removed, line 10 would hold emptily.
-fn infer(short: &[u32], places: &[usize], actions: &[u32], c: usize, f: u32, run: &[bool], empty: &[bool], reached: &mut [bool], queue: &mut [usize], area: &mut [u64])
+fn infer(short: &[u32], places: &[usize], actions: &[u32], c: usize, f: u32, run: &[bool], empty: &[bool], area: &mut [u64])
     ensures { λ _. ⌜ length (now (area .exit)) ≡ length (now (area .entry)) ⌝ }
 {
     if !has(run, c) {
         return;
     }
-    let n = reachable(short, places, c, reached, queue);
-    let all = reached_actions(short, places, queue, n, actions);
+    let mut reached = [false; 256];
+    let mut queue = [0usize; 256];
+    let n = reachable(short, places, c, &mut reached, &mut queue);
+    let all = reached_actions(short, places, &queue, n, actions);
     judge(area, c, f, all, has(empty, c));
 }
 
 // Lines 9 to 11: each compound task.
-pub fn preconditions(short: &[u32], places: &[usize], actions: &[u32], f: u32, run: &[bool], empty: &[bool], reached: &mut [bool], queue: &mut [usize], area: &mut [u64])
+fn judge_all(short: &[u32], places: &[usize], actions: &[u32], f: u32, run: &[bool], empty: &[bool], area: &mut [u64])
     ensures { λ _. ⌜ length (now (area .exit)) ≡ length (now (area .entry)) ⌝ }
 {
     let mut c = 0;
     while c < run.len() {
-        infer(short, places, actions, c, f, run, empty, reached, queue, area);
+        infer(short, places, actions, c, f, run, empty, area);
         c += 1;
     }
+}
+
+// Algorithm 6 for fact `f`. Lines 5 to 7 come before lines 3 and 4, so that one table serves both restricted domains.
+pub fn infer_preconditions(domain: &[u32], places: &[usize], actions: &[u32], f: u32, run: &[bool], restricted: &mut [u32], short: &mut [u32], empty: &mut [bool], area: &mut [u64])
+    ensures { λ _. ⌜ length (now (area .exit)) ≡ length (now (area .entry)) ⌝ }
+{
+    curtail(domain, actions, restricted, empty, short);
+    unneeding(domain, actions, restricted, empty);
+    judge_all(short, places, actions, f, run, empty, area);
 }
