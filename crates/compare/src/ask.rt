@@ -80,6 +80,11 @@ fn possible(cards: &[u64], c: usize, question: u32, f: u32, empty: &[bool], rank
     }
 }
 
+// Whether its columns and the rounds say the same.
+fn agrees(so: bool, rank: u32) -> bool {
+    so == (0 < rank)
+}
+
 // Whether the entry of a link that leaves `r` links with itself is right: the last one's is a step with the touch, the others' a sequence.
 fn goes_on(w: u32, actions: &[u32], question: u32, r: u32) -> bool {
     if r == 1 {
@@ -88,43 +93,63 @@ fn goes_on(w: u32, actions: &[u32], question: u32, r: u32) -> bool {
     is_kind(9, w)
 }
 
-// Looks at the link at index `i` of the area: it is to be about `c`, and to leave `r` links with itself. Answers the entry that it names.
-fn look_at_link(tally: &mut [u64], part: &[u32], places: &[usize], c: usize, question: u32, actions: &[u32], run: &[bool], empty: &[bool], short: &[u32], ranks: &[u32], r: u32, area: &[u32], i: usize) -> u32 {
+// What is wrong with the link at index `i` of the area: it is to be about `c`, and to leave `r` links with itself.
+fn link_fault(part: &[u32], places: &[usize], c: usize, question: u32, actions: &[u32], run: &[bool], empty: &[bool], short: &[u32], ranks: &[u32], r: u32, area: &[u32], i: usize) -> u32 {
     let one = word(area, i);
     let two = word(area, std::num::wrapping_add_usize(i, 1));
-    let right = links::link_right(part, places, c, one, two, 2 < question, actions, side(question), run, empty);
-    tally::expect(tally, right, b"a link does not stand");
-    let w = links::named_entry(part, places, c, one, two);
-    tally::expect(tally, goes_on(w, actions, question, r), b"a link's entry is no step with the touch, or no sequence");
+    if !links::link_right(part, places, c, one, two, 2 < question, actions, side(question), run, empty) {
+        return tally::LINK_FALLS;
+    }
+    if !goes_on(links::named_entry(part, places, c, one, two), actions, question, r) {
+        return tally::ENTRY_WRONG;
+    }
     let choice = rounds::lowest_link(part, place(places, c), short, actions, touch(question), ranks, r);
-    let lowest = (links::alternative_of(one) == choice.alternative) & (number(two) == choice.position as usize);
-    tally::expect(tally, lowest, b"a link is not the lowest choice");
-    tally::count(tally, tally::LINKS, 1);
-    w
+    if links::alternative_of(one) != choice.alternative {
+        return tally::NOT_LOWEST;
+    }
+    if number(two) != choice.position as usize {
+        return tally::NOT_LOWEST;
+    }
+    tally::RIGHT
 }
 
-// Looks at the `n` links of a chain about sequence `c`.
-fn look_at_links(tally: &mut [u64], part: &[u32], places: &[usize], c: usize, question: u32, actions: &[u32], run: &[bool], empty: &[bool], short: &[u32], ranks: &[u32], n: u32, area: &[u32]) {
-    let mut left = n % 257;
+// The sequence that the link after the one at index `i` is to be about.
+fn next_sequence(part: &[u32], places: &[usize], c: usize, area: &[u32], i: usize) -> usize {
+    let one = word(area, i);
+    let two = word(area, std::num::wrapping_add_usize(i, 1));
+    number(links::named_entry(part, places, c, one, two))
+}
+
+// What is wrong with the `n` links of a chain about sequence `c`: what is wrong with the first of them that is not right.
+fn links_fault(part: &[u32], places: &[usize], c: usize, question: u32, actions: &[u32], run: &[bool], empty: &[bool], short: &[u32], ranks: &[u32], n: u32, area: &[u32]) -> u32 {
+    let mut left = n;
     let mut at = c;
     let mut i: usize = 0;
     while 0 < left {
-        let w = look_at_link(tally, part, places, at, question, actions, run, empty, short, ranks, left, area, i);
-        at = number(w);
-        i = std::num::wrapping_add_usize(i, 2);
+        let fault = link_fault(part, places, at, question, actions, run, empty, short, ranks, left, area, i);
+        if fault != tally::RIGHT {
+            return fault;
+        }
         left -= 1;
+        at = next_sequence(part, places, at, area, i);
+        i = std::num::wrapping_add_usize(i, 2);
     }
+    tally::RIGHT
 }
 
-// Looks at the one link of a chain that says how the fact stays untouched.
-fn look_at_quiet(tally: &mut [u64], part: &[u32], places: &[usize], c: usize, question: u32, actions: &[u32], run: &[bool], empty: &[bool], restricted: &[u32], ranks: &[u32], n: u32, area: &[u32]) {
+// What is wrong with the one link of a chain that says how the fact stays untouched.
+fn quiet_fault(part: &[u32], places: &[usize], c: usize, question: u32, actions: &[u32], run: &[bool], empty: &[bool], restricted: &[u32], ranks: &[u32], n: u32, area: &[u32]) -> u32 {
+    if n != 1 {
+        return tally::NOT_FEWEST;
+    }
     let one = word(area, 0);
-    let right = links::quiet_right(part, places, c, one, word(area, 1), actions, side(question), run, empty);
-    tally::expect(tally, n == 1, b"an untouched answer has more links than one");
-    tally::expect(tally, right, b"an untouched link does not stand");
-    let lowest = rounds::lowest_quiet(part, place(places, c), restricted, ranks, word(ranks, c));
-    tally::expect(tally, links::alternative_of(one) == lowest, b"an untouched link is not the lowest of least depth");
-    tally::count(tally, tally::LINKS, 1);
+    if !links::quiet_right(part, places, c, one, word(area, 1), actions, side(question), run, empty) {
+        return tally::LINK_FALLS;
+    }
+    if links::alternative_of(one) != rounds::lowest_quiet(part, place(places, c), restricted, ranks, word(ranks, c)) {
+        return tally::NOT_LOWEST;
+    }
+    tally::RIGHT
 }
 
 fn twice(n: u32) -> usize {
@@ -132,41 +157,74 @@ fn twice(n: u32) -> usize {
     std::num::wrapping_add_usize(m, m)
 }
 
-// Looks at the answer "none".
-fn look_at_none(tally: &mut [u64], so: bool, area: &[u32]) {
-    tally::expect(tally, !so, b"none where a run has the outcome");
-    tally::expect(tally, stays(area, 0), b"none, and words are changed");
-}
-
-// Looks at a chain of `n` links.
-fn look_at_chain(tally: &mut [u64], so: bool, part: &[u32], places: &[usize], c: usize, question: u32, actions: &[u32], run: &[bool], empty: &[bool], restricted: &[u32], short: &[u32], ranks: &[u32], n: u32, area: &[u32]) {
-    tally::count(tally, tally::CHAINS, 1);
-    tally::expect(tally, so, b"a chain where no run has the outcome");
-    tally::expect(tally, stays(area, twice(n)), b"words past the chain are changed");
-    tally::expect(tally, twice(n) <= area.len(), b"a chain of more links than there are sequences");
-    if question % 3 == 2 {
-        look_at_quiet(tally, part, places, c, question, actions, run, empty, restricted, ranks, n, area);
-        return;
+// What is wrong with a chain of `n` links where a run has the outcome, or has not.
+fn chain_fault(so: bool, part: &[u32], places: &[usize], c: usize, question: u32, actions: &[u32], run: &[bool], empty: &[bool], restricted: &[u32], short: &[u32], ranks: &[u32], n: u32, area: &[u32]) -> u32 {
+    if !so {
+        return tally::SHOWN;
     }
-    tally::expect(tally, n == word(ranks, c), b"the number of links is not the fewest");
-    look_at_links(tally, part, places, c, question, actions, run, empty, short, ranks, n, area);
+    if area.len() < twice(n) {
+        return tally::TOO_LONG;
+    }
+    if !stays(area, twice(n)) {
+        return tally::CHANGED;
+    }
+    if question % 3 == 2 {
+        return quiet_fault(part, places, c, question, actions, run, empty, restricted, ranks, n, area);
+    }
+    if n != word(ranks, c) {
+        return tally::NOT_FEWEST;
+    }
+    links_fault(part, places, c, question, actions, run, empty, short, ranks, n, area)
 }
 
-// Asks about one sequence, and looks at the answer. Where there are more than 32, one in 37 is asked about.
-fn ask(tally: &mut [u64], image: &[u32], part: &[u32], places: &[usize], cards: &[u64], c: usize, question: u32, f: u32, actions: &[u32], run: &[bool], empty: &[bool], restricted: &[u32], short: &[u32], ranks: &[u32], area: &mut [u32]) {
+// What is wrong with the answer "none" where a run has the outcome, or has not.
+fn none_fault(so: bool, area: &[u32]) -> u32 {
+    if so {
+        return tally::MISSED;
+    }
+    if !stays(area, 0) {
+        return tally::CHANGED;
+    }
+    tally::RIGHT
+}
+
+// What came of a question: what is wrong, and the number of links.
+pub struct Told {
+    pub fault: u32,
+    pub links: u32,
+}
+
+// Asks about one sequence.
+fn ask(image: &[u32], part: &[u32], places: &[usize], so: bool, c: usize, question: u32, f: u32, actions: &[u32], run: &[bool], empty: &[bool], restricted: &[u32], short: &[u32], ranks: &[u32], area: &mut [u32]) -> Told {
+    match chain::call::chain(image, c as u64, question as u64, f as u64, area) {
+        Chained::Shown(found) => Told {
+            fault: chain_fault(so, part, places, c, question, actions, run, empty, restricted, short, ranks, found.count, area),
+            links: found.count,
+        },
+        Chained::None => Told {
+            fault: none_fault(so, area),
+            links: 0,
+        },
+        Chained::Refused(_) => Told {
+            fault: tally::REFUSED,
+            links: 0,
+        },
+    }
+}
+
+// Asks about one sequence, and counts. Where there are more than 32, one in 37 is asked about.
+fn ask_sequence(tally: &mut [u64], image: &[u32], part: &[u32], places: &[usize], cards: &[u64], c: usize, question: u32, f: u32, actions: &[u32], run: &[bool], empty: &[bool], restricted: &[u32], short: &[u32], ranks: &[u32], area: &mut [u32]) {
     if (32 < run.len()) & (c % 37 != 0) {
         return;
     }
-    tally::put(tally, tally::SEQUENCE, c as u64);
-    tally::count(tally, tally::QUESTIONS, 1);
     let so = possible(cards, c, question, f, empty, word(ranks, c));
-    tally::expect(tally, so == (0 < word(ranks, c)), b"the columns and the rounds of the second engine differ");
-    fill(area);
-    match chain::call::chain(image, c as u64, question as u64, f as u64, area) {
-        Chained::Shown(found) => look_at_chain(tally, so, part, places, c, question, actions, run, empty, restricted, short, ranks, found.count, area),
-        Chained::None => look_at_none(tally, so, area),
-        Chained::Refused(_) => tally::expect(tally, false, b"the chain call refuses"),
+    if !agrees(so, word(ranks, c)) {
+        tally::note(tally, c, question, f, 0, tally::ROUNDS_DIFFER);
+        return;
     }
+    fill(area);
+    let told = ask(image, part, places, so, c, question, f, actions, run, empty, restricted, short, ranks, area);
+    tally::note(tally, c, question, f, told.links, told.fault);
 }
 
 // Works out the ranks of a question for all sequences.
@@ -180,12 +238,12 @@ fn find_ranks(question: u32, actions: &[u32], restricted: &[u32], short: &[u32],
 
 // Asks a question about a fact, of each sequence.
 fn ask_sequences(tally: &mut [u64], image: &[u32], part: &[u32], places: &[usize], cards: &[u64], question: u32, f: u32, actions: &[u32], run: &[bool], empty: &[bool], restricted: &[u32], short: &[u32], ranks: &mut [u32], area: &mut [u32]) {
-    tally::put(tally, tally::QUESTION, question as u64);
     find_ranks(question, actions, restricted, short, ranks);
     let mut c = 0;
     while c < run.len() {
-        ask(tally, image, part, places, cards, c, question, f, actions, run, empty, restricted, short, ranks, area);
+        let here = c;
         c += 1;
+        ask_sequence(tally, image, part, places, cards, here, question, f, actions, run, empty, restricted, short, ranks, area);
     }
 }
 
@@ -198,24 +256,38 @@ fn ask_side(tally: &mut [u64], image: &[u32], part: &[u32], places: &[usize], ca
     }
 }
 
+// Asks the questions of the last side, over the domains of Algorithm 5.
+fn ask_last(tally: &mut [u64], image: &[u32], part: &[u32], places: &[usize], cards: &[u64], f: u32, actions: &[u32], run: &[bool], empty: &mut [bool], domain: &[u32], restricted: &mut [u32], short: &mut [u32], ranks: &mut [u32], area: &mut [u32]) {
+    effects::curtail(domain, actions, restricted, empty, short);
+    ask_side(tally, image, part, places, cards, 0, f, actions, run, empty, restricted, short, ranks, area);
+}
+
+// Asks the questions of the first side, over the domains of Algorithm 6.
+fn ask_first(tally: &mut [u64], image: &[u32], part: &[u32], places: &[usize], cards: &[u64], f: u32, actions: &[u32], run: &[bool], empty: &mut [bool], domain: &[u32], restricted: &mut [u32], short: &mut [u32], ranks: &mut [u32], area: &mut [u32]) {
+    preconditions::curtail(domain, actions, restricted, empty, short);
+    ask_side(tally, image, part, places, cards, 3, f, actions, run, empty, restricted, short, ranks, area);
+}
+
+fn ask_sides(tally: &mut [u64], image: &[u32], part: &[u32], places: &[usize], cards: &[u64], f: u32, actions: &[u32], run: &[bool], empty: &mut [bool], domain: &[u32], restricted: &mut [u32], short: &mut [u32], ranks: &mut [u32], area: &mut [u32]) {
+    ask_last(tally, image, part, places, cards, f, actions, run, empty, domain, restricted, short, ranks, area);
+    ask_first(tally, image, part, places, cards, f, actions, run, empty, domain, restricted, short, ranks, area);
+}
+
 // Asks all questions about a fact: of 64 facts, four are asked about.
 fn ask_fact(tally: &mut [u64], image: &[u32], steps: &[u32], part: &[u32], places: &[usize], cards: &[u64], facts: u32, f: u32, actions: &mut [u32], run: &[bool], empty: &mut [bool], domain: &[u32], restricted: &mut [u32], short: &mut [u32], ranks: &mut [u32], area: &mut [u32]) {
     if (4 < facts) & (f % 21 != 0) {
         return;
     }
-    tally::put(tally, tally::FACT, f as u64);
     read_actions(steps, f, actions);
-    effects::curtail(domain, actions, restricted, empty, short);
-    ask_side(tally, image, part, places, cards, 0, f, actions, run, empty, restricted, short, ranks, area);
-    preconditions::curtail(domain, actions, restricted, empty, short);
-    ask_side(tally, image, part, places, cards, 3, f, actions, run, empty, restricted, short, ranks, area);
+    ask_sides(tally, image, part, places, cards, f, actions, run, empty, domain, restricted, short, ranks, area);
 }
 
 // Asks all questions about a library whose cards the second engine has written.
 pub fn ask_facts(tally: &mut [u64], image: &[u32], steps: &[u32], part: &[u32], places: &[usize], cards: &[u64], facts: u32, actions: &mut [u32], run: &[bool], empty: &mut [bool], domain: &[u32], restricted: &mut [u32], short: &mut [u32], ranks: &mut [u32], area: &mut [u32]) {
     let mut f = 0;
     while f < facts {
-        ask_fact(tally, image, steps, part, places, cards, facts, f, actions, run, empty, domain, restricted, short, ranks, area);
+        let here = f;
         f += 1;
+        ask_fact(tally, image, steps, part, places, cards, facts, here, actions, run, empty, domain, restricted, short, ranks, area);
     }
 }

@@ -84,7 +84,8 @@ fn callee(state: &mut [u64], s: Shape, c: u32) -> u32 {
     let any = draw(state, n);
     let which = draw(state, 4);
     let next = std::num::wrapping_add_u32(c, 1);
-    match s.callee {
+    let how = s.callee;
+    match how {
         1 => {
             if which == 0 {
                 return any;
@@ -103,23 +104,34 @@ fn callee(state: &mut [u64], s: Shape, c: u32) -> u32 {
     }
 }
 
+// A step for an entry. Where step 0 alone touches a fact, it is kept for a sequence that calls no other, `last`.
+fn step_for(state: &mut [u64], s: Shape, last: bool) -> u32 {
+    if s.touching != 0 {
+        return draw(state, s.steps);
+    }
+    if last {
+        return 0;
+    }
+    between(state, 1, 10)
+}
+
+// An entry that names a step, or sequence `c` where there is no step.
+fn step_entry(state: &mut [u64], s: Shape, c: u32, last: bool) -> u32 {
+    let n = s.steps;
+    if n == 0 {
+        return 0x90000000 | c;
+    }
+    0x80000000 | step_for(state, s, last) % n
+}
+
 // An entry of an alternative of sequence `c`.
 fn entry(state: &mut [u64], s: Shape, c: u32) -> u32 {
     let d = callee(state, s, c);
-    if (d < s.sequences) & ((s.steps == 0) | chance(state, s.calls)) {
+    let calls = chance(state, s.calls);
+    if calls & (d < s.sequences) {
         return 0x90000000 | d;
     }
-    if s.steps == 0 {
-        return 0x90000000 | c;
-    }
-    if (s.touching == 0) & (d < s.sequences) {
-        // step 0 is kept for the sequence that calls no other
-        return 0x80000000 | between(state, 1, s.steps - 1) % s.steps;
-    }
-    if s.touching == 0 {
-        return 0x80000000;
-    }
-    0x80000000 | draw(state, s.steps)
+    step_entry(state, s, c, s.sequences <= d)
 }
 
 // Writes an entry, if there is room.

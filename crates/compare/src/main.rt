@@ -20,8 +20,8 @@ fn group(tally: &mut [u64], total: &mut [u64], state: &mut [u64], words: &mut [u
 }
 
 fn main() {
-    let mut tally = [0u64; 11];
-    let mut total = [0u64; 11];
+    let mut tally = [0u64; 8];
+    let mut total = [0u64; 8];
     let mut state = [0x2545f4914f6cdd1du64; 1];
     let mut words = [0u32; 8192];
     group(&mut tally, &mut total, &mut state, &mut words, b"small", 0, 2000);

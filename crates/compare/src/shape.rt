@@ -56,7 +56,7 @@ fn calling(state: &mut [u64], callee: u32, calls: u32, empty: u32) -> Shape {
 }
 
 // Sequences that each call the next one or the one before, so that runs, chains and depths go through many.
-fn deep(state: &mut [u64], sequences: u32, callee: u32, touching: u32) -> Shape {
+fn deep(state: &mut [u64], sequences: u32, callee: u32, touching: u32, calls: u32) -> Shape {
     Shape {
         facts: 2,
         steps: 12,
@@ -66,7 +66,7 @@ fn deep(state: &mut [u64], sequences: u32, callee: u32, touching: u32) -> Shape 
         more: 1,
         entries: 4,
         empty: 1,
-        calls: 48,
+        calls: calls,
         callee: callee,
     }
 }
@@ -152,21 +152,21 @@ fn large(state: &mut [u64], facts: u32, callee: u32, calls: u32) -> Shape {
 }
 
 // A shape of a kind.
-pub fn shape(state: &mut [u64], kind: u32) -> Shape {
+pub fn of_kind(state: &mut [u64], kind: u32) -> Shape {
     match kind {
         1 => calling(state, ITSELF, 36, 8),
         2 => calling(state, NEIGHBOUR, 36, 8),
         3 => calling(state, ANY, 44, 2),
-        4 => deep(state, 16, NEXT, 1),
-        5 => deep(state, 16, BEFORE, 1),
+        4 => deep(state, 16, NEXT, 1, 48),
+        5 => deep(state, 16, BEFORE, 1, 48),
         6 => many_empty(state),
         7 => long(state),
         8 => wide(state, 1),
         9 => wide(state, 64),
         10 => tied(state),
         11 => large(state, 4, ANY, 20),
-        12 => deep(state, 205, NEXT, 0),
-        13 => deep(state, 205, BEFORE, 0),
+        12 => deep(state, 205, NEXT, 0, 63),
+        13 => deep(state, 205, BEFORE, 0, 63),
         14 => large(state, 64, ANY, 20),
         _ => small(state),
     }

@@ -1,7 +1,7 @@
 // One library: its cards by both engines, then the chains.
 use crate::ask::ask_facts;
 use crate::library::put_library;
-use crate::shape::shape;
+use crate::shape::of_kind;
 use crate::tally;
 use card::answer::Cards;
 use image::answer::Checked;
@@ -32,16 +32,29 @@ fn due(seconds: &[u64], words: usize, i: usize) -> u64 {
     BEFORE
 }
 
-// Compares the words of the card area, of which `words` are the cards'.
+// What is wrong with word `i` of the card area, of which `words` are the cards'.
+fn word_fault(cards: &[u64], seconds: &[u64], words: usize, i: usize) -> u32 {
+    if tally::get(cards, i) != due(seconds, words, i) {
+        return tally::CARD_WORD;
+    }
+    tally::RIGHT
+}
+
+// Compares the words of the card area.
 fn compare(tally: &mut [u64], cards: &[u64], seconds: &[u64], words: usize) {
     let mut i = 0;
     while i < cards.len() {
-        tally::put(tally, tally::SEQUENCE, (i / 7) as u64);
-        tally::put(tally, tally::QUESTION, (i % 7) as u64);
-        tally::expect(tally, cards[i] == due(seconds, words, i), b"the card word with the question's number differs");
+        tally::judge(tally, i / 7, (i % 7) as u32, 0, word_fault(cards, seconds, words, i));
         i += 1;
     }
-    tally::count(tally, tally::WORDS, words as u64);
+}
+
+// What is wrong where `n` is not the number of sequences.
+fn count_fault(n: u32, sequences: u32, fault: u32) -> u32 {
+    if n == sequences {
+        return tally::RIGHT;
+    }
+    fault
 }
 
 // How many cards the card call says that it has written, a number that no library has where it refuses.
@@ -52,17 +65,22 @@ fn filled(image: &[u32], cards: &mut [u64]) -> u32 {
     }
 }
 
+// The words of the cards of so many sequences.
+fn card_words(sequences: u32) -> usize {
+    7 * (sequences % 512) as usize
+}
+
 // Works out the cards of both engines and compares them.
 fn try_cards(tally: &mut [u64], image: &[u32], sequences: u32, seconds: &mut [u64]) {
     let mut cards = [0u64; 1800];
     fill(&mut cards);
     let n = filled(image, &mut cards);
-    tally::expect(tally, n == sequences, b"the card call answers another number");
     let m = second::call::second_cards(image, seconds);
-    tally::expect(tally, m == sequences, b"the second engine answers another number");
-    if sequences <= 256 {
-        compare(tally, &cards, seconds, 7 * sequences as usize);
-    }
+    let words = card_words(sequences);
+    tally::judge(tally, 0, 0, 0, count_fault(n, sequences, tally::CARD_COUNT));
+    tally::judge(tally, 0, 0, 0, count_fault(m, sequences, tally::SECOND_COUNT));
+    tally::count(tally, tally::WORDS, words as u64);
+    compare(tally, &cards, seconds, words);
 }
 
 // Asks about the chains of a library, over working space of as many words as its sequences' part has.
@@ -101,17 +119,21 @@ fn try_image(tally: &mut [u64], h: Head, image: &[u32])
     tally::count(tally, tally::SEQUENCES, c as u64);
 }
 
-// Makes a library of a kind, and tries it.
-pub fn try_library(tally: &mut [u64], state: &mut [u64], kind: u32, words: &mut [u32]) {
-    tally::count(tally, tally::LIBRARIES, 1);
-    let s = shape(state, kind);
-    let n = put_library(state, s, words);
-    let image = &words[..n];
-    if n < 2 {
+// Tries an image.
+fn try_words(tally: &mut [u64], image: &[u32]) {
+    if image.len() < 2 {
         return;
     }
     match image::check::check(image) {
         Checked::Accepted(h) => try_image(tally, h, image),
-        Checked::Refused(_) => tally::expect(tally, false, b"the image is refused"),
+        Checked::Refused(_) => tally::judge(tally, 0, 0, 0, tally::REFUSED),
     }
+}
+
+// Makes a library of a kind, and tries it.
+pub fn try_library(tally: &mut [u64], state: &mut [u64], kind: u32, words: &mut [u32]) {
+    tally::count(tally, tally::LIBRARIES, 1);
+    let s = of_kind(state, kind);
+    let n = put_library(state, s, words);
+    try_words(tally, &words[..n]);
 }
