@@ -4,6 +4,10 @@ use crate::rounds;
 use crate::tally;
 use chain::answer::Chained;
 use image::word::is_kind;
+use second::domain::ADD;
+use second::domain::DEL;
+use second::domain::FIRST_ADD;
+use second::domain::PREC;
 use second::domain::action;
 use second::domain::number;
 use second::domain::place;
@@ -12,8 +16,6 @@ use second::effects;
 use second::preconditions;
 use second::sets::has;
 use second::sets::word;
-ghost use mathlib.Core.Path.{_≡_};
-ghost use lib.ListN.{length};
 
 // What each word of the chain area holds before.
 const BEFORE: u32 = 0x5a5a5a5a;
@@ -41,10 +43,10 @@ fn stays(area: &[u32], from: usize) -> bool {
 // What a step does that gives the touch of a question.
 fn touch(question: u32) -> u32 {
     match question {
-        0 => 2,
-        1 => 4,
-        3 => 1,
-        4 => 8,
+        0 => ADD,
+        1 => DEL,
+        3 => PREC,
+        4 => FIRST_ADD,
         _ => 0,
     }
 }
@@ -52,9 +54,9 @@ fn touch(question: u32) -> u32 {
 // What a step does that touches the fact on the question's side.
 fn side(question: u32) -> u32 {
     if question < 3 {
-        return 6;
+        return ADD | DEL;
     }
-    9
+    PREC | FIRST_ADD
 }
 
 // Whether fact `f` is in column `k` of the card of sequence `c`.
@@ -94,16 +96,53 @@ fn goes_on(w: u32, actions: &[u32], question: u32, r: u32) -> bool {
 }
 
 // What is wrong with the link at index `i` of the area: it is to be about `c`, and to leave `r` links with itself.
-fn link_fault(part: &[u32], places: &[usize], c: usize, question: u32, actions: &[u32], run: &[bool], empty: &[bool], short: &[u32], ranks: &[u32], r: u32, area: &[u32], i: usize) -> u32 {
+fn link_fault(
+    part: &[u32],
+    places: &[usize],
+    c: usize,
+    question: u32,
+    actions: &[u32],
+    run: &[bool],
+    empty: &[bool],
+    short: &[u32],
+    ranks: &[u32],
+    r: u32,
+    area: &[u32],
+    i: usize,
+) -> u32 {
     let one = word(area, i);
     let two = word(area, std::num::wrapping_add_usize(i, 1));
-    if !links::link_right(part, places, c, one, two, 2 < question, actions, side(question), run, empty) {
+    if !links::link_right(
+        part,
+        places,
+        c,
+        one,
+        two,
+        2 < question,
+        actions,
+        side(question),
+        run,
+        empty,
+    ) {
         return tally::LINK_FALLS;
     }
-    if !goes_on(links::named_entry(part, places, c, one, two), actions, question, r) {
+    if !goes_on(
+        links::named_entry(part, places, c, one, two),
+        actions,
+        question,
+        r,
+    ) {
         return tally::ENTRY_WRONG;
     }
-    let choice = rounds::lowest_link(part, place(places, c), short, actions, touch(question), ranks, r);
+    let choice = rounds::lowest_link(
+        part,
+        place(places, c),
+        short,
+        actions,
+        touch(question),
+        ranks,
+        r,
+    );
     if links::alternative_of(one) != choice.alternative {
         return tally::NOT_LOWEST;
     }
@@ -121,12 +160,37 @@ fn next_sequence(part: &[u32], places: &[usize], c: usize, area: &[u32], i: usiz
 }
 
 // What is wrong with the `n` links of a chain about sequence `c`: what is wrong with the first of them that is not right.
-fn links_fault(part: &[u32], places: &[usize], c: usize, question: u32, actions: &[u32], run: &[bool], empty: &[bool], short: &[u32], ranks: &[u32], n: u32, area: &[u32]) -> u32 {
+fn links_fault(
+    part: &[u32],
+    places: &[usize],
+    c: usize,
+    question: u32,
+    actions: &[u32],
+    run: &[bool],
+    empty: &[bool],
+    short: &[u32],
+    ranks: &[u32],
+    n: u32,
+    area: &[u32],
+) -> u32 {
     let mut left = n;
     let mut at = c;
     let mut i: usize = 0;
     while 0 < left {
-        let fault = link_fault(part, places, at, question, actions, run, empty, short, ranks, left, area, i);
+        let fault = link_fault(
+            part,
+            places,
+            at,
+            question,
+            actions,
+            run,
+            empty,
+            short,
+            ranks,
+            left,
+            area,
+            i,
+        );
         if fault != tally::RIGHT {
             return fault;
         }
@@ -138,15 +202,39 @@ fn links_fault(part: &[u32], places: &[usize], c: usize, question: u32, actions:
 }
 
 // What is wrong with the one link of a chain that says how the fact stays untouched.
-fn quiet_fault(part: &[u32], places: &[usize], c: usize, question: u32, actions: &[u32], run: &[bool], empty: &[bool], restricted: &[u32], ranks: &[u32], n: u32, area: &[u32]) -> u32 {
+fn quiet_fault(
+    part: &[u32],
+    places: &[usize],
+    c: usize,
+    question: u32,
+    actions: &[u32],
+    run: &[bool],
+    empty: &[bool],
+    restricted: &[u32],
+    ranks: &[u32],
+    n: u32,
+    area: &[u32],
+) -> u32 {
     if n != 1 {
         return tally::NOT_FEWEST;
     }
     let one = word(area, 0);
-    if !links::quiet_right(part, places, c, one, word(area, 1), actions, side(question), run, empty) {
+    if !links::quiet_right(
+        part,
+        places,
+        c,
+        one,
+        word(area, 1),
+        actions,
+        side(question),
+        run,
+        empty,
+    ) {
         return tally::LINK_FALLS;
     }
-    if links::alternative_of(one) != rounds::lowest_quiet(part, place(places, c), restricted, ranks, word(ranks, c)) {
+    if links::alternative_of(one)
+        != rounds::lowest_quiet(part, place(places, c), restricted, ranks, word(ranks, c))
+    {
         return tally::NOT_LOWEST;
     }
     tally::RIGHT
@@ -158,7 +246,21 @@ fn twice(n: u32) -> usize {
 }
 
 // What is wrong with a chain of `n` links where a run has the outcome, or has not.
-fn chain_fault(so: bool, part: &[u32], places: &[usize], c: usize, question: u32, actions: &[u32], run: &[bool], empty: &[bool], restricted: &[u32], short: &[u32], ranks: &[u32], n: u32, area: &[u32]) -> u32 {
+fn chain_fault(
+    so: bool,
+    part: &[u32],
+    places: &[usize],
+    c: usize,
+    question: u32,
+    actions: &[u32],
+    run: &[bool],
+    empty: &[bool],
+    restricted: &[u32],
+    short: &[u32],
+    ranks: &[u32],
+    n: u32,
+    area: &[u32],
+) -> u32 {
     if !so {
         return tally::SHOWN;
     }
@@ -169,12 +271,36 @@ fn chain_fault(so: bool, part: &[u32], places: &[usize], c: usize, question: u32
         return tally::CHANGED;
     }
     if question % 3 == 2 {
-        return quiet_fault(part, places, c, question, actions, run, empty, restricted, ranks, n, area);
+        return quiet_fault(
+            part,
+            places,
+            c,
+            question,
+            actions,
+            run,
+            empty,
+            restricted,
+            ranks,
+            n,
+            area,
+        );
     }
     if n != word(ranks, c) {
         return tally::NOT_FEWEST;
     }
-    links_fault(part, places, c, question, actions, run, empty, short, ranks, n, area)
+    links_fault(
+        part,
+        places,
+        c,
+        question,
+        actions,
+        run,
+        empty,
+        short,
+        ranks,
+        n,
+        area,
+    )
 }
 
 // What is wrong with the answer "none" where a run has the outcome, or has not.
@@ -195,10 +321,39 @@ pub struct Told {
 }
 
 // Asks about one sequence.
-fn ask(image: &[u32], part: &[u32], places: &[usize], so: bool, c: usize, question: u32, f: u32, actions: &[u32], run: &[bool], empty: &[bool], restricted: &[u32], short: &[u32], ranks: &[u32], area: &mut [u32]) -> Told {
+fn ask(
+    image: &[u32],
+    part: &[u32],
+    places: &[usize],
+    so: bool,
+    c: usize,
+    question: u32,
+    f: u32,
+    actions: &[u32],
+    run: &[bool],
+    empty: &[bool],
+    restricted: &[u32],
+    short: &[u32],
+    ranks: &[u32],
+    area: &mut [u32],
+) -> Told {
     match chain::call::chain(image, c as u64, question as u64, f as u64, area) {
         Chained::Shown(found) => Told {
-            fault: chain_fault(so, part, places, c, question, actions, run, empty, restricted, short, ranks, found.count, area),
+            fault: chain_fault(
+                so,
+                part,
+                places,
+                c,
+                question,
+                actions,
+                run,
+                empty,
+                restricted,
+                short,
+                ranks,
+                found.count,
+                area,
+            ),
             links: found.count,
         },
         Chained::None => Told {
@@ -213,7 +368,23 @@ fn ask(image: &[u32], part: &[u32], places: &[usize], so: bool, c: usize, questi
 }
 
 // Asks about one sequence, and counts. Where there are more than 32, one in 37 is asked about.
-fn ask_sequence(tally: &mut [u64], image: &[u32], part: &[u32], places: &[usize], cards: &[u64], c: usize, question: u32, f: u32, actions: &[u32], run: &[bool], empty: &[bool], restricted: &[u32], short: &[u32], ranks: &[u32], area: &mut [u32]) {
+fn ask_sequence(
+    tally: &mut [u64],
+    image: &[u32],
+    part: &[u32],
+    places: &[usize],
+    cards: &[u64],
+    c: usize,
+    question: u32,
+    f: u32,
+    actions: &[u32],
+    run: &[bool],
+    empty: &[bool],
+    restricted: &[u32],
+    short: &[u32],
+    ranks: &[u32],
+    area: &mut [u32],
+) {
     if (32 < run.len()) & (c % 37 != 0) {
         return;
     }
@@ -223,12 +394,33 @@ fn ask_sequence(tally: &mut [u64], image: &[u32], part: &[u32], places: &[usize]
         return;
     }
     fill(area);
-    let told = ask(image, part, places, so, c, question, f, actions, run, empty, restricted, short, ranks, area);
+    let told = ask(
+        image,
+        part,
+        places,
+        so,
+        c,
+        question,
+        f,
+        actions,
+        run,
+        empty,
+        restricted,
+        short,
+        ranks,
+        area,
+    );
     tally::note(tally, c, question, f, told.links, told.fault);
 }
 
 // Works out the ranks of a question for all sequences.
-fn find_ranks(question: u32, actions: &[u32], restricted: &[u32], short: &[u32], ranks: &mut [u32]) {
+fn find_ranks(
+    question: u32,
+    actions: &[u32],
+    restricted: &[u32],
+    short: &[u32],
+    ranks: &mut [u32],
+) {
     if question % 3 == 2 {
         rounds::least_depths(restricted, ranks);
         return;
@@ -237,57 +429,288 @@ fn find_ranks(question: u32, actions: &[u32], restricted: &[u32], short: &[u32],
 }
 
 // Asks a question about a fact, of each sequence.
-fn ask_sequences(tally: &mut [u64], image: &[u32], part: &[u32], places: &[usize], cards: &[u64], question: u32, f: u32, actions: &[u32], run: &[bool], empty: &[bool], restricted: &[u32], short: &[u32], ranks: &mut [u32], area: &mut [u32]) {
+fn ask_sequences(
+    tally: &mut [u64],
+    image: &[u32],
+    part: &[u32],
+    places: &[usize],
+    cards: &[u64],
+    question: u32,
+    f: u32,
+    actions: &[u32],
+    run: &[bool],
+    empty: &[bool],
+    restricted: &[u32],
+    short: &[u32],
+    ranks: &mut [u32],
+    area: &mut [u32],
+) {
     find_ranks(question, actions, restricted, short, ranks);
     let mut c = 0;
     while c < run.len() {
         let here = c;
         c += 1;
-        ask_sequence(tally, image, part, places, cards, here, question, f, actions, run, empty, restricted, short, ranks, area);
+        ask_sequence(
+            tally,
+            image,
+            part,
+            places,
+            cards,
+            here,
+            question,
+            f,
+            actions,
+            run,
+            empty,
+            restricted,
+            short,
+            ranks,
+            area,
+        );
     }
 }
 
 // Asks the three questions of a side.
-fn ask_side(tally: &mut [u64], image: &[u32], part: &[u32], places: &[usize], cards: &[u64], from: u32, f: u32, actions: &[u32], run: &[bool], empty: &[bool], restricted: &[u32], short: &[u32], ranks: &mut [u32], area: &mut [u32]) {
+fn ask_side(
+    tally: &mut [u64],
+    image: &[u32],
+    part: &[u32],
+    places: &[usize],
+    cards: &[u64],
+    from: u32,
+    f: u32,
+    actions: &[u32],
+    run: &[bool],
+    empty: &[bool],
+    restricted: &[u32],
+    short: &[u32],
+    ranks: &mut [u32],
+    area: &mut [u32],
+) {
     let mut k = 0;
     while k < 3 {
-        ask_sequences(tally, image, part, places, cards, std::num::wrapping_add_u32(from, k), f, actions, run, empty, restricted, short, ranks, area);
+        ask_sequences(
+            tally,
+            image,
+            part,
+            places,
+            cards,
+            std::num::wrapping_add_u32(from, k),
+            f,
+            actions,
+            run,
+            empty,
+            restricted,
+            short,
+            ranks,
+            area,
+        );
         k += 1;
     }
 }
 
 // Asks the questions of the last side, over the domains of Algorithm 5.
-fn ask_last(tally: &mut [u64], image: &[u32], part: &[u32], places: &[usize], cards: &[u64], f: u32, actions: &[u32], run: &[bool], empty: &mut [bool], domain: &[u32], restricted: &mut [u32], short: &mut [u32], ranks: &mut [u32], area: &mut [u32]) {
+fn ask_last(
+    tally: &mut [u64],
+    image: &[u32],
+    part: &[u32],
+    places: &[usize],
+    cards: &[u64],
+    f: u32,
+    actions: &[u32],
+    run: &[bool],
+    empty: &mut [bool],
+    domain: &[u32],
+    restricted: &mut [u32],
+    short: &mut [u32],
+    ranks: &mut [u32],
+    area: &mut [u32],
+) {
     effects::curtail(domain, actions, restricted, empty, short);
-    ask_side(tally, image, part, places, cards, 0, f, actions, run, empty, restricted, short, ranks, area);
+    ask_side(
+        tally,
+        image,
+        part,
+        places,
+        cards,
+        0,
+        f,
+        actions,
+        run,
+        empty,
+        restricted,
+        short,
+        ranks,
+        area,
+    );
 }
 
 // Asks the questions of the first side, over the domains of Algorithm 6.
-fn ask_first(tally: &mut [u64], image: &[u32], part: &[u32], places: &[usize], cards: &[u64], f: u32, actions: &[u32], run: &[bool], empty: &mut [bool], domain: &[u32], restricted: &mut [u32], short: &mut [u32], ranks: &mut [u32], area: &mut [u32]) {
+fn ask_first(
+    tally: &mut [u64],
+    image: &[u32],
+    part: &[u32],
+    places: &[usize],
+    cards: &[u64],
+    f: u32,
+    actions: &[u32],
+    run: &[bool],
+    empty: &mut [bool],
+    domain: &[u32],
+    restricted: &mut [u32],
+    short: &mut [u32],
+    ranks: &mut [u32],
+    area: &mut [u32],
+) {
     preconditions::curtail(domain, actions, restricted, empty, short);
-    ask_side(tally, image, part, places, cards, 3, f, actions, run, empty, restricted, short, ranks, area);
+    ask_side(
+        tally,
+        image,
+        part,
+        places,
+        cards,
+        3,
+        f,
+        actions,
+        run,
+        empty,
+        restricted,
+        short,
+        ranks,
+        area,
+    );
 }
 
-fn ask_sides(tally: &mut [u64], image: &[u32], part: &[u32], places: &[usize], cards: &[u64], f: u32, actions: &[u32], run: &[bool], empty: &mut [bool], domain: &[u32], restricted: &mut [u32], short: &mut [u32], ranks: &mut [u32], area: &mut [u32]) {
-    ask_last(tally, image, part, places, cards, f, actions, run, empty, domain, restricted, short, ranks, area);
-    ask_first(tally, image, part, places, cards, f, actions, run, empty, domain, restricted, short, ranks, area);
+fn ask_sides(
+    tally: &mut [u64],
+    image: &[u32],
+    part: &[u32],
+    places: &[usize],
+    cards: &[u64],
+    f: u32,
+    actions: &[u32],
+    run: &[bool],
+    empty: &mut [bool],
+    domain: &[u32],
+    restricted: &mut [u32],
+    short: &mut [u32],
+    ranks: &mut [u32],
+    area: &mut [u32],
+) {
+    ask_last(
+        tally,
+        image,
+        part,
+        places,
+        cards,
+        f,
+        actions,
+        run,
+        empty,
+        domain,
+        restricted,
+        short,
+        ranks,
+        area,
+    );
+    ask_first(
+        tally,
+        image,
+        part,
+        places,
+        cards,
+        f,
+        actions,
+        run,
+        empty,
+        domain,
+        restricted,
+        short,
+        ranks,
+        area,
+    );
 }
 
 // Asks all questions about a fact: of 64 facts, four are asked about.
-fn ask_fact(tally: &mut [u64], image: &[u32], steps: &[u32], part: &[u32], places: &[usize], cards: &[u64], facts: u32, f: u32, actions: &mut [u32], run: &[bool], empty: &mut [bool], domain: &[u32], restricted: &mut [u32], short: &mut [u32], ranks: &mut [u32], area: &mut [u32]) {
+fn ask_fact(
+    tally: &mut [u64],
+    image: &[u32],
+    steps: &[u32],
+    part: &[u32],
+    places: &[usize],
+    cards: &[u64],
+    facts: u32,
+    f: u32,
+    actions: &mut [u32],
+    run: &[bool],
+    empty: &mut [bool],
+    domain: &[u32],
+    restricted: &mut [u32],
+    short: &mut [u32],
+    ranks: &mut [u32],
+    area: &mut [u32],
+) {
     if (4 < facts) & (f % 21 != 0) {
         return;
     }
     read_actions(steps, f, actions);
-    ask_sides(tally, image, part, places, cards, f, actions, run, empty, domain, restricted, short, ranks, area);
+    ask_sides(
+        tally,
+        image,
+        part,
+        places,
+        cards,
+        f,
+        actions,
+        run,
+        empty,
+        domain,
+        restricted,
+        short,
+        ranks,
+        area,
+    );
 }
 
 // Asks all questions about a library whose cards the second engine has written.
-pub fn ask_facts(tally: &mut [u64], image: &[u32], steps: &[u32], part: &[u32], places: &[usize], cards: &[u64], facts: u32, actions: &mut [u32], run: &[bool], empty: &mut [bool], domain: &[u32], restricted: &mut [u32], short: &mut [u32], ranks: &mut [u32], area: &mut [u32]) {
+pub fn ask_facts(
+    tally: &mut [u64],
+    image: &[u32],
+    steps: &[u32],
+    part: &[u32],
+    places: &[usize],
+    cards: &[u64],
+    facts: u32,
+    actions: &mut [u32],
+    run: &[bool],
+    empty: &mut [bool],
+    domain: &[u32],
+    restricted: &mut [u32],
+    short: &mut [u32],
+    ranks: &mut [u32],
+    area: &mut [u32],
+) {
     let mut f = 0;
     while f < facts {
         let here = f;
         f += 1;
-        ask_fact(tally, image, steps, part, places, cards, facts, here, actions, run, empty, domain, restricted, short, ranks, area);
+        ask_fact(
+            tally,
+            image,
+            steps,
+            part,
+            places,
+            cards,
+            facts,
+            here,
+            actions,
+            run,
+            empty,
+            domain,
+            restricted,
+            short,
+            ranks,
+            area,
+        );
     }
 }

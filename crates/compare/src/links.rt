@@ -58,7 +58,16 @@ fn can_run(w: u32, run: &[bool]) -> bool {
 }
 
 // Whether entry `j` is as a link with position `p` wants it: those on one side of the position stay untouched, those on the other have a run.
-fn entry_right(w: u32, j: usize, p: usize, first: bool, actions: &[u32], side: u32, run: &[bool], empty: &[bool]) -> bool {
+fn entry_right(
+    w: u32,
+    j: usize,
+    p: usize,
+    first: bool,
+    actions: &[u32],
+    side: u32,
+    run: &[bool],
+    empty: &[bool],
+) -> bool {
     if j == p {
         return true;
     }
@@ -69,7 +78,16 @@ fn entry_right(w: u32, j: usize, p: usize, first: bool, actions: &[u32], side: u
 }
 
 // Whether all entries but the one at the position are.
-pub fn others_right(part: &[u32], from: usize, p: usize, first: bool, actions: &[u32], side: u32, run: &[bool], empty: &[bool]) -> bool {
+pub fn others_right(
+    part: &[u32],
+    from: usize,
+    p: usize,
+    first: bool,
+    actions: &[u32],
+    side: u32,
+    run: &[bool],
+    empty: &[bool],
+) -> bool {
     let mut j: usize = 0;
     let mut i = from;
     while i < part.len() {
@@ -105,27 +123,59 @@ pub fn alternative_of(w: u32) -> u32 {
 }
 
 // Whether a kind 12 link stands: the alternative exists, and each of its entries can stay untouched.
-pub fn quiet_right(part: &[u32], places: &[usize], c: usize, first_word: u32, second_word: u32, actions: &[u32], side: u32, run: &[bool], empty: &[bool]) -> bool {
+pub fn quiet_right(
+    part: &[u32],
+    places: &[usize],
+    c: usize,
+    first_word: u32,
+    second_word: u32,
+    actions: &[u32],
+    side: u32,
+    run: &[bool],
+    empty: &[bool],
+) -> bool {
     let from = alternative_at(part, place(places, c), alternative_of(first_word));
     if part.len() < from {
         return false;
     }
     // with the position after all entries, those before it stay untouched
-    opens_link(first_word, c) & (second_word == 0xc0000000) & others_right(part, from, 8192, true, actions, side, run, empty)
+    opens_link(first_word, c)
+        & (second_word == 0xc0000000)
+        & others_right(part, from, 8192, true, actions, side, run, empty)
 }
 
 // Whether a kind 11 link stands, but for what its entry is: the alternative and the position exist, and the other entries are right.
-pub fn link_right(part: &[u32], places: &[usize], c: usize, first_word: u32, second_word: u32, first: bool, actions: &[u32], side: u32, run: &[bool], empty: &[bool]) -> bool {
+pub fn link_right(
+    part: &[u32],
+    places: &[usize],
+    c: usize,
+    first_word: u32,
+    second_word: u32,
+    first: bool,
+    actions: &[u32],
+    side: u32,
+    run: &[bool],
+    empty: &[bool],
+) -> bool {
     let from = alternative_at(part, place(places, c), alternative_of(first_word));
     let p = number(second_word);
     if part.len() < from {
         return false;
     }
-    opens_link(first_word, c) & is_kind(11, second_word) & is_entry(entry_at(part, from, p)) & others_right(part, from, p, first, actions, side, run, empty)
+    opens_link(first_word, c)
+        & is_kind(11, second_word)
+        & is_entry(entry_at(part, from, p))
+        & others_right(part, from, p, first, actions, side, run, empty)
 }
 
 // The entry that a kind 11 link names.
-pub fn named_entry(part: &[u32], places: &[usize], c: usize, first_word: u32, second_word: u32) -> u32 {
+pub fn named_entry(
+    part: &[u32],
+    places: &[usize],
+    c: usize,
+    first_word: u32,
+    second_word: u32,
+) -> u32 {
     let from = alternative_at(part, place(places, c), alternative_of(first_word));
     entry_at(part, from, number(second_word))
 }

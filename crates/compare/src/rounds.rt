@@ -140,7 +140,15 @@ pub fn least_depths(restricted: &[u32], ranks: &mut [u32]) {
 
 // The position of the first entry of the alternative at `from` of the library that gives the touch with `r` links, or 8192. The tasks of the
 // shortened domain stand where the entries stand.
-fn position(part: &[u32], from: usize, short: &[u32], actions: &[u32], touch: u32, ranks: &[u32], r: u32) -> u32 {
+fn position(
+    part: &[u32],
+    from: usize,
+    short: &[u32],
+    actions: &[u32],
+    touch: u32,
+    ranks: &[u32],
+    r: u32,
+) -> u32 {
     let mut p = 0;
     let mut i = from;
     while i < part.len() {
@@ -164,24 +172,41 @@ pub struct Choice {
 }
 
 // The lowest alternative of the sequence whose words begin at `from`, then the lowest position, that gives the touch with `r` links.
-pub fn lowest_link(part: &[u32], from: usize, short: &[u32], actions: &[u32], touch: u32, ranks: &[u32], r: u32) -> Choice {
+pub fn lowest_link(
+    part: &[u32],
+    from: usize,
+    short: &[u32],
+    actions: &[u32],
+    touch: u32,
+    ranks: &[u32],
+    r: u32,
+) -> Choice {
     let mut a = 0;
     let mut i = from;
     while i < part.len() {
         let w = part[i];
         i += 1;
         if is_kind(6, w) {
-            return Choice { alternative: 8192, position: 8192 };
+            return Choice {
+                alternative: 8192,
+                position: 8192,
+            };
         }
         if is_kind(7, w) {
             let p = position(part, i, short, actions, touch, ranks, r);
             if p < 8192 {
-                return Choice { alternative: a, position: p };
+                return Choice {
+                    alternative: a,
+                    position: p,
+                };
             }
             a = std::num::wrapping_add_u32(a, 1);
         }
     }
-    Choice { alternative: 8192, position: 8192 }
+    Choice {
+        alternative: 8192,
+        position: 8192,
+    }
 }
 
 // The lowest alternative of the sequence whose words begin at `from` that stays untouched with depth `r`, or 8192.

@@ -19,9 +19,13 @@ pub struct Shape {
 
 // Which sequences are called.
 pub const ANY: u32 = 0;
+
 pub const ITSELF: u32 = 1;
+
 pub const NEXT: u32 = 2;
+
 pub const BEFORE: u32 = 3;
+
 pub const NEIGHBOUR: u32 = 4;
 
 fn small(state: &mut [u64]) -> Shape {

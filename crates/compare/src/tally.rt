@@ -1,28 +1,47 @@
 // What was counted, in a table of numbers, and the lines that are printed.
 pub const LIBRARIES: usize = 0;
+
 pub const SEQUENCES: usize = 1;
+
 pub const WORDS: usize = 2;
+
 pub const QUESTIONS: usize = 3;
+
 pub const CHAINS: usize = 4;
+
 pub const LINKS: usize = 5;
+
 pub const DIFFERENCES: usize = 6;
 // Differences of all groups: from a dozen on they are counted and not printed.
 pub const PRINTED: usize = 7;
 
 // What can be wrong.
 pub const RIGHT: u32 = 0;
+
 pub const LINK_FALLS: u32 = 1;
+
 pub const ENTRY_WRONG: u32 = 2;
+
 pub const NOT_LOWEST: u32 = 3;
+
 pub const NOT_FEWEST: u32 = 4;
+
 pub const SHOWN: u32 = 5;
+
 pub const TOO_LONG: u32 = 6;
+
 pub const CHANGED: u32 = 7;
+
 pub const MISSED: u32 = 8;
+
 pub const REFUSED: u32 = 9;
+
 pub const ROUNDS_DIFFER: u32 = 10;
+
 pub const CARD_WORD: u32 = 11;
+
 pub const CARD_COUNT: u32 = 12;
+
 pub const SECOND_COUNT: u32 = 13;
 
 pub fn get(tally: &[u64], k: usize) -> u64 {
@@ -55,7 +74,10 @@ fn print(name: &[u8], n: u64) {
 fn print_fault(fault: u32) {
     match fault {
         1 => io::write_all(1, b": a link does not stand\n"),
-        2 => io::write_all(1, b": a link's entry is no step with the touch, or no sequence\n"),
+        2 => io::write_all(
+            1,
+            b": a link's entry is no step with the touch, or no sequence\n",
+        ),
         3 => io::write_all(1, b": a link is not the lowest choice\n"),
         4 => io::write_all(1, b": the links are not the fewest\n"),
         5 => io::write_all(1, b": a chain, and no run has the outcome\n"),
@@ -63,18 +85,22 @@ fn print_fault(fault: u32) {
         7 => io::write_all(1, b": words past the chain are changed\n"),
         8 => io::write_all(1, b": none, and a run has the outcome\n"),
         9 => io::write_all(1, b": refused\n"),
-        10 => io::write_all(1, b": the columns of the second engine differ from its rounds\n"),
+        10 => io::write_all(
+            1,
+            b": the columns of the second engine differ from its rounds\n",
+        ),
         11 => io::write_all(1, b": a card word differs\n"),
         12 => io::write_all(1, b": the card call answers another number\n"),
         _ => io::write_all(1, b": the second engine answers another number\n"),
-    };
+    }
+    ;
 }
 
 // A line about a difference. Of a card, the question is the number of the word.
 fn print_difference(library: u64, c: usize, question: u32, f: u32, fault: u32) {
     print(b"library ", library);
     print(b", sequence ", c as u64);
-    print(b", question ", question as u64);
+    print(b", question or word ", question as u64);
     print(b", fact ", f as u64);
     print_fault(fault);
 }

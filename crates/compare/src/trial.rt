@@ -44,7 +44,13 @@ fn word_fault(cards: &[u64], seconds: &[u64], words: usize, i: usize) -> u32 {
 fn compare(tally: &mut [u64], cards: &[u64], seconds: &[u64], words: usize) {
     let mut i = 0;
     while i < cards.len() {
-        tally::judge(tally, i / 7, (i % 7) as u32, 0, word_fault(cards, seconds, words, i));
+        tally::judge(
+            tally,
+            i / 7,
+            (i % 7) as u32,
+            0,
+            word_fault(cards, seconds, words, i),
+        );
         i += 1;
     }
 }
@@ -78,18 +84,54 @@ fn try_cards(tally: &mut [u64], image: &[u32], sequences: u32, seconds: &mut [u6
     let m = second::call::second_cards(image, seconds);
     let words = card_words(sequences);
     tally::judge(tally, 0, 0, 0, count_fault(n, sequences, tally::CARD_COUNT));
-    tally::judge(tally, 0, 0, 0, count_fault(m, sequences, tally::SECOND_COUNT));
+    tally::judge(
+        tally,
+        0,
+        0,
+        0,
+        count_fault(m, sequences, tally::SECOND_COUNT),
+    );
     tally::count(tally, tally::WORDS, words as u64);
     compare(tally, &cards, seconds, words);
 }
 
 // Asks about the chains of a library, over working space of as many words as its sequences' part has.
-fn try_chains(tally: &mut [u64], image: &[u32], steps: &[u32], part: &[u32], seconds: &[u64], facts: u32, run: &mut [bool], empty: &mut [bool], domain: &mut [u32], restricted: &mut [u32], short: &mut [u32], ranks: &mut [u32], area: &mut [u32]) {
+fn try_chains(
+    tally: &mut [u64],
+    image: &[u32],
+    steps: &[u32],
+    part: &[u32],
+    seconds: &[u64],
+    facts: u32,
+    run: &mut [bool],
+    empty: &mut [bool],
+    domain: &mut [u32],
+    restricted: &mut [u32],
+    short: &mut [u32],
+    ranks: &mut [u32],
+    area: &mut [u32],
+) {
     let mut actions = [0u32; 1024];
     let mut places = [0usize; 256];
     terminating(part, run, domain);
     write_places(part, &mut places);
-    ask_facts(tally, image, steps, part, &places, seconds, facts, &mut actions, run, empty, domain, restricted, short, ranks, area);
+    ask_facts(
+        tally,
+        image,
+        steps,
+        part,
+        &places,
+        seconds,
+        facts,
+        &mut actions,
+        run,
+        empty,
+        domain,
+        restricted,
+        short,
+        ranks,
+        area,
+    );
 }
 
 // Tries an accepted image.
@@ -115,7 +157,21 @@ fn try_image(tally: &mut [u64], h: Head, image: &[u32])
         return;
     }
     let links = 2 * c;
-    try_chains(tally, image, steps_part(image), part, &seconds, h.facts, &mut run[..c], &mut empty[..c], &mut domain[..n], &mut restricted[..n], &mut short[..n], &mut ranks[..c], &mut area[..links]);
+    try_chains(
+        tally,
+        image,
+        steps_part(image),
+        part,
+        &seconds,
+        h.facts,
+        &mut run[..c],
+        &mut empty[..c],
+        &mut domain[..n],
+        &mut restricted[..n],
+        &mut short[..n],
+        &mut ranks[..c],
+        &mut area[..links],
+    );
     tally::count(tally, tally::SEQUENCES, c as u64);
 }
 

@@ -11,7 +11,7 @@ use image::word::is_entry;
 use image::word::is_kind;
 ghost use mathlib.Core.Path.{_≡_};
 ghost use mathlib.Core.Bool.{true, false, _||_};
-ghost use Prim.Native.Nat.{_+_, _≤_, _<_};
+ghost use Prim.Native.Nat.{_≤_};
 ghost use lib.ListN.{length};
 ghost use Rattle.image.specs.Word.{isKind};
 
@@ -189,7 +189,13 @@ fn enter_call(reached: &mut [bool], queue: &mut [usize], n: usize, w: u32) -> us
 }
 
 // Enters the compound tasks in the methods that begin at index `from`, behind the `n` that are in the queue.
-fn enter_all(domain: &[u32], from: usize, reached: &mut [bool], queue: &mut [usize], n: usize) -> usize
+fn enter_all(
+    domain: &[u32],
+    from: usize,
+    reached: &mut [bool],
+    queue: &mut [usize],
+    n: usize,
+) -> usize
     ensures { λ r. ⌜ (length (now (reached .exit)) ≡ length (now (reached .entry))) × (length (now (queue .exit)) ≡ length (now (queue .entry))) ⌝ }
 {
     let mut m = n;
@@ -207,7 +213,13 @@ fn enter_all(domain: &[u32], from: usize, reached: &mut [bool], queue: &mut [usi
 
 // DECOMPOSITIONREACHABILITY: M_R(c) = {m | m = (c, tn)} ∪ {m = (c', tn) | ∃ tn' : ⟨c⟩ → tn' ∧ c' ∈ tn'}. The queue gets the tasks whose methods
 // these are, `c` first; `reached` has none at the beginning. Answers how many there are.
-pub fn reachable(domain: &[u32], places: &[usize], c: usize, reached: &mut [bool], queue: &mut [usize]) -> usize
+pub fn reachable(
+    domain: &[u32],
+    places: &[usize],
+    c: usize,
+    reached: &mut [bool],
+    queue: &mut [usize],
+) -> usize
     ensures { λ r. ⌜ (length (now (reached .exit)) ≡ length (now (reached .entry))) × (length (now (queue .exit)) ≡ length (now (queue .entry))) ⌝ }
 {
     let mut n = enter(reached, queue, 0, c);
@@ -241,7 +253,13 @@ fn does(domain: &[u32], from: usize, actions: &[u32], seen: u32) -> u32
 
 // What the actions in the methods of the first `n` tasks of the queue do: ∃ (c', ⟨t_1 .. t_n⟩) ∈ M_R(c), i : f ∈ add(t_i), and the same of del
 // and prec.
-pub fn reached_actions(domain: &[u32], places: &[usize], queue: &[usize], n: usize, actions: &[u32]) -> u32
+pub fn reached_actions(
+    domain: &[u32],
+    places: &[usize],
+    queue: &[usize],
+    n: usize,
+    actions: &[u32],
+) -> u32
     ensures { λ r. ⌜ (n ≡ 0 → r ≡ 0) ⌝ }
 {
     let mut all = 0;

@@ -12,7 +12,7 @@ use image::check::check;
 use image::parts::sequences_part;
 use image::parts::steps_part;
 ghost use mathlib.Core.Path.{_≡_};
-ghost use Prim.Native.Nat.{_+_, _*_, _≤_, _<_};
+ghost use Prim.Native.Nat.{_≤_, _<_};
 ghost use lib.ListN.{length};
 
 // Adds `bits` to word `k` of the card of sequence `c`.
@@ -115,34 +115,106 @@ fn write_flags(run: &[bool], empty: &[bool], area: &mut [u64])
 }
 
 // Both algorithms for fact `f`.
-fn infer(domain: &[u32], places: &[usize], actions: &[u32], f: u32, run: &[bool], restricted: &mut [u32], short: &mut [u32], empty: &mut [bool], area: &mut [u64])
+fn infer(
+    domain: &[u32],
+    places: &[usize],
+    actions: &[u32],
+    f: u32,
+    run: &[bool],
+    restricted: &mut [u32],
+    short: &mut [u32],
+    empty: &mut [bool],
+    area: &mut [u64],
+)
     ensures { λ _. ⌜ length (now (area .exit)) ≡ length (now (area .entry)) ⌝ }
 {
-    infer_effects(domain, places, actions, f, run, restricted, short, empty, area);
-    infer_preconditions(domain, places, actions, f, run, restricted, short, empty, area);
+    infer_effects(
+        domain,
+        places,
+        actions,
+        f,
+        run,
+        restricted,
+        short,
+        empty,
+        area,
+    );
+    infer_preconditions(
+        domain,
+        places,
+        actions,
+        f,
+        run,
+        restricted,
+        short,
+        empty,
+        area,
+    );
 }
 
 // Line 2 of Algorithms 5 and 6: each fact.
-fn infer_all(facts: u32, steps: &[u32], domain: &[u32], places: &[usize], actions: &mut [u32], run: &[bool], restricted: &mut [u32], short: &mut [u32], empty: &mut [bool], area: &mut [u64])
+fn infer_all(
+    facts: u32,
+    steps: &[u32],
+    domain: &[u32],
+    places: &[usize],
+    actions: &mut [u32],
+    run: &[bool],
+    restricted: &mut [u32],
+    short: &mut [u32],
+    empty: &mut [bool],
+    area: &mut [u64],
+)
     ensures { λ _. ⌜ length (now (area .exit)) ≡ length (now (area .entry)) ⌝ }
 {
     let mut f = 0;
     while f < facts {
         read_actions(steps, f, actions);
-        infer(domain, places, actions, f, run, restricted, short, empty, area);
+        infer(
+            domain,
+            places,
+            actions,
+            f,
+            run,
+            restricted,
+            short,
+            empty,
+            area,
+        );
         f += 1;
     }
 }
 
 // Fills the cards of an image with this head, over working space of as many words as its sequences' part has.
-fn fill(h: Head, steps: &[u32], part: &[u32], domain: &mut [u32], restricted: &mut [u32], short: &mut [u32], run: &mut [bool], empty: &mut [bool], area: &mut [u64])
+fn fill(
+    h: Head,
+    steps: &[u32],
+    part: &[u32],
+    domain: &mut [u32],
+    restricted: &mut [u32],
+    short: &mut [u32],
+    run: &mut [bool],
+    empty: &mut [bool],
+    area: &mut [u64],
+)
     ensures { λ _. ⌜ length (now (area .exit)) ≡ length (now (area .entry)) ⌝ }
 {
     let mut actions = [0u32; 1024];
     let mut places = [0usize; 256];
     write_places(part, &mut places);
     terminating(part, run, domain);
-    infer_all(h.facts, steps, domain, &places, &mut actions, run, restricted, short, empty, area);
+    infer_all(
+        h.facts,
+        steps,
+        domain,
+        &places,
+        &mut actions,
+        run,
+        restricted,
+        short,
+        empty,
+        area,
+    );
     empty_refinements(domain, empty);
     write_flags(run, empty, area);
 }
@@ -166,7 +238,17 @@ fn filled(h: Head, image: &[u32], area: &mut [u64]) -> u32
     if 256 < c {
         return 0;
     }
-    fill(h, steps_part(image), part, &mut domain[..n], &mut restricted[..n], &mut short[..n], &mut run[..c], &mut empty[..c], area);
+    fill(
+        h,
+        steps_part(image),
+        part,
+        &mut domain[..n],
+        &mut restricted[..n],
+        &mut short[..n],
+        &mut run[..c],
+        &mut empty[..c],
+        area,
+    );
     h.sequences
 }
 

@@ -7,7 +7,7 @@ use image::word::is_kind;
 use image::word::kind_of;
 use image::word::payload_of;
 ghost use mathlib.Core.Path.{_≡_};
-ghost use mathlib.Core.Bool.{true, false};
+ghost use mathlib.Core.Bool.{false};
 ghost use Prim.Native.Nat.{_≤_, _<_};
 ghost use lib.ListN.{length};
 ghost use Rattle.image.specs.Word.{isKind};
@@ -16,8 +16,11 @@ ghost use Rattle.image.specs.Word.{isKind};
 // and add(a) ∩ del(a) = ∅". Document 01 does not, and has a rule for each tie: a step that sets and clears a fact sets it; a step that
 // needs and sets it needs it on the first side, and sets it on the last side. So add(a) of Algorithm 6 is not add(a) of Algorithm 5.
 pub const PREC: u32 = 1;
+
 pub const ADD: u32 = 2;
+
 pub const DEL: u32 = 4;
+
 pub const FIRST_ADD: u32 = 8;
 
 // The number in a word's payload.

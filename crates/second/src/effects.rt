@@ -10,11 +10,16 @@ use crate::domain::DEL;
 use crate::domain::restrict;
 use crate::sets::has;
 ghost use mathlib.Core.Path.{_≡_};
-ghost use Prim.Native.Nat.{_≤_};
 ghost use lib.ListN.{length};
 
 // Lines 3 to 5: D' (restricted), C_ε (empty) and D'' (short).
-pub fn curtail(domain: &[u32], actions: &[u32], restricted: &mut [u32], empty: &mut [bool], short: &mut [u32])
+pub fn curtail(
+    domain: &[u32],
+    actions: &[u32],
+    restricted: &mut [u32],
+    empty: &mut [bool],
+    short: &mut [u32],
+)
     ensures { λ _. ⌜ length (now (short .exit)) ≡ length (now (short .entry)) ⌝ }
 {
     restrict(domain, actions, ADD | DEL, restricted);
@@ -35,7 +40,16 @@ fn judge(area: &mut [u64], c: usize, f: u32, all: u32, empty: bool)
 }
 
 // Lines 6 to 16 for compound task `c`, if it has a refinement: the others were removed by the pre-pass.
-fn infer(short: &[u32], places: &[usize], actions: &[u32], c: usize, f: u32, run: &[bool], empty: &[bool], area: &mut [u64])
+fn infer(
+    short: &[u32],
+    places: &[usize],
+    actions: &[u32],
+    c: usize,
+    f: u32,
+    run: &[bool],
+    empty: &[bool],
+    area: &mut [u64],
+)
     ensures { λ _. ⌜ length (now (area .exit)) ≡ length (now (area .entry)) ⌝ }
 {
     if !has(run, c) {
@@ -49,7 +63,15 @@ fn infer(short: &[u32], places: &[usize], actions: &[u32], c: usize, f: u32, run
 }
 
 // Lines 7 to 16: each compound task.
-fn judge_all(short: &[u32], places: &[usize], actions: &[u32], f: u32, run: &[bool], empty: &[bool], area: &mut [u64])
+fn judge_all(
+    short: &[u32],
+    places: &[usize],
+    actions: &[u32],
+    f: u32,
+    run: &[bool],
+    empty: &[bool],
+    area: &mut [u64],
+)
     ensures { λ _. ⌜ length (now (area .exit)) ≡ length (now (area .entry)) ⌝ }
 {
     let mut c = 0;
@@ -60,7 +82,17 @@ fn judge_all(short: &[u32], places: &[usize], actions: &[u32], f: u32, run: &[bo
 }
 
 // Algorithm 5 for fact `f`.
-pub fn infer_effects(domain: &[u32], places: &[usize], actions: &[u32], f: u32, run: &[bool], restricted: &mut [u32], short: &mut [u32], empty: &mut [bool], area: &mut [u64])
+pub fn infer_effects(
+    domain: &[u32],
+    places: &[usize],
+    actions: &[u32],
+    f: u32,
+    run: &[bool],
+    restricted: &mut [u32],
+    short: &mut [u32],
+    empty: &mut [bool],
+    area: &mut [u64],
+)
     ensures { λ _. ⌜ length (now (area .exit)) ≡ length (now (area .entry)) ⌝ }
 {
     curtail(domain, actions, restricted, empty, short);

@@ -10,7 +10,6 @@ use crate::domain::PREC;
 use crate::domain::restrict;
 use crate::sets::has;
 ghost use mathlib.Core.Path.{_≡_};
-ghost use Prim.Native.Nat.{_≤_};
 ghost use lib.ListN.{length};
 
 // Lines 3 and 4: D' (restricted) and C_ε (empty).
@@ -22,7 +21,13 @@ fn unneeding(domain: &[u32], actions: &[u32], restricted: &mut [u32], empty: &mu
 }
 
 // Lines 5 to 7: D'' (restricted), C'_ε (empty) and D''' (short).
-pub fn curtail(domain: &[u32], actions: &[u32], restricted: &mut [u32], empty: &mut [bool], short: &mut [u32])
+pub fn curtail(
+    domain: &[u32],
+    actions: &[u32],
+    restricted: &mut [u32],
+    empty: &mut [bool],
+    short: &mut [u32],
+)
     ensures { λ _. ⌜ length (now (short .exit)) ≡ length (now (short .entry)) ⌝ }
 {
     restrict(domain, actions, PREC | FIRST_ADD, restricted);
@@ -41,7 +46,16 @@ fn judge(area: &mut [u64], c: usize, f: u32, all: u32, empty: bool)
 }
 
 // Lines 8 to 11 for compound task `c`, if it has a refinement: of the others, which the pre-pass removed, line 10 would hold emptily.
-fn infer(short: &[u32], places: &[usize], actions: &[u32], c: usize, f: u32, run: &[bool], empty: &[bool], area: &mut [u64])
+fn infer(
+    short: &[u32],
+    places: &[usize],
+    actions: &[u32],
+    c: usize,
+    f: u32,
+    run: &[bool],
+    empty: &[bool],
+    area: &mut [u64],
+)
     ensures { λ _. ⌜ length (now (area .exit)) ≡ length (now (area .entry)) ⌝ }
 {
     if !has(run, c) {
@@ -55,7 +69,15 @@ fn infer(short: &[u32], places: &[usize], actions: &[u32], c: usize, f: u32, run
 }
 
 // Lines 9 to 11: each compound task.
-fn judge_all(short: &[u32], places: &[usize], actions: &[u32], f: u32, run: &[bool], empty: &[bool], area: &mut [u64])
+fn judge_all(
+    short: &[u32],
+    places: &[usize],
+    actions: &[u32],
+    f: u32,
+    run: &[bool],
+    empty: &[bool],
+    area: &mut [u64],
+)
     ensures { λ _. ⌜ length (now (area .exit)) ≡ length (now (area .entry)) ⌝ }
 {
     let mut c = 0;
@@ -66,7 +88,17 @@ fn judge_all(short: &[u32], places: &[usize], actions: &[u32], f: u32, run: &[bo
 }
 
 // Algorithm 6 for fact `f`. Lines 5 to 7 come before lines 3 and 4, so that one table serves both restricted domains.
-pub fn infer_preconditions(domain: &[u32], places: &[usize], actions: &[u32], f: u32, run: &[bool], restricted: &mut [u32], short: &mut [u32], empty: &mut [bool], area: &mut [u64])
+pub fn infer_preconditions(
+    domain: &[u32],
+    places: &[usize],
+    actions: &[u32],
+    f: u32,
+    run: &[bool],
+    restricted: &mut [u32],
+    short: &mut [u32],
+    empty: &mut [bool],
+    area: &mut [u64],
+)
     ensures { λ _. ⌜ length (now (area .exit)) ≡ length (now (area .entry)) ⌝ }
 {
     curtail(domain, actions, restricted, empty, short);

@@ -1,6 +1,6 @@
 // Sets of numbers, as tables of truth values, and tables of words. Each index is tested where it is used.
 ghost use mathlib.Core.Path.{_≡_};
-ghost use mathlib.Core.Bool.{true, false};
+ghost use mathlib.Core.Bool.{true};
 ghost use Prim.Native.Nat.{_<_};
 ghost use lib.ListN.{length};
 

@@ -1,15 +1,10 @@
-use native.Mathlib.Omega.{arith}
-use Prim.Native.Nat.{_≤_, _<_, _-_}
+-- `compare::group` is safe and ends.
+-- Assumes nothing.
 use mathlib.Core.Path.{_≡_}
-use lib.ListN.{length, length-set}
+use lib.ListN.{length}
 use borrow.Author.Needs.{needs}
 use Rattle.compare.proofs.group.Statement.{statement}
 use Rattle.compare.proofs.group.Tie as tie
-use Rattle.compare.proofs.group.Reads as reads
-use Rattle.compare.proofs.group.Lts as lts
-use Rattle.compare.proofs.tally.close_group.Reads as close-group-reads
-use Rattle.compare.proofs.tally.print_group.Reads as print-group-reads
-use Rattle.compare.proofs.trial.try_library.Reads as try-library-reads
 
 abbrev Inv-loop : tie.InvT-loop
 Inv-loop tally₀ total state₀ words₀ name kind libraries left₀ tally state words left = (length tally ≡ length tally₀) × (length state ≡ length state₀) × (length words ≡ length words₀)

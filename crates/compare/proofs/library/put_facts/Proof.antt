@@ -1,14 +1,11 @@
-use native.Mathlib.Omega.{arith}
-use Prim.Native.Nat.{_≤_, _<_, _-_}
+-- `compare::library::put_facts` is safe and ends.
+-- Assumes nothing.
+use Prim.Native.Nat.{_-_}
 use mathlib.Core.Path.{_≡_}
-use lib.ListN.{length, length-set}
+use lib.ListN.{length}
 use borrow.Author.Needs.{needs}
 use Rattle.compare.proofs.library.put_facts.Statement.{statement}
 use Rattle.compare.proofs.library.put_facts.Tie as tie
-use Rattle.compare.proofs.library.put_facts.Reads as reads
-use Rattle.compare.proofs.library.put_facts.Lts as lts
-use Rattle.compare.proofs.library.put_fact.Reads as put-fact-reads
-use Rattle.std.proofs.num.wrapping_add_u32.Reads as wrapping-add-u32-reads
 
 abbrev Inv-loop : tie.InvT-loop
 Inv-loop state₀ s words₀ n a most m₀ i₀ state words m i = (length state ≡ length state₀) × (length words ≡ length words₀)

@@ -1,15 +1,10 @@
-use native.Mathlib.Omega.{arith}
-use Prim.Native.Nat.{_≤_, _<_, _-_}
+-- `compare::library::put_sequence` is safe and ends.
+-- Assumes nothing.
 use mathlib.Core.Path.{_≡_}
-use lib.ListN.{length, length-set}
+use lib.ListN.{length}
 use borrow.Author.Needs.{needs}
 use Rattle.compare.proofs.library.put_sequence.Statement.{statement}
 use Rattle.compare.proofs.library.put_sequence.Tie as tie
-use Rattle.compare.proofs.library.put_sequence.Reads as reads
-use Rattle.compare.proofs.library.put_sequence.Lts as lts
-use Rattle.compare.proofs.library.put.Reads as put-reads
-use Rattle.compare.proofs.library.put_alternative.Reads as put-alternative-reads
-use Rattle.compare.proofs.random.between.Reads as between-reads
 
 abbrev Inv-loop : tie.InvT-loop
 Inv-loop state₀ s words₀ n c m₀ left₀ state words m left = (length state ≡ length state₀) × (length words ≡ length words₀)

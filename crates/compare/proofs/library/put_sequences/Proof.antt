@@ -1,13 +1,11 @@
-use native.Mathlib.Omega.{arith}
-use Prim.Native.Nat.{_≤_, _<_, _-_}
+-- `compare::library::put_sequences` is safe and ends.
+-- Assumes nothing.
+use Prim.Native.Nat.{_-_}
 use mathlib.Core.Path.{_≡_}
-use lib.ListN.{length, length-set}
+use lib.ListN.{length}
 use borrow.Author.Needs.{needs}
 use Rattle.compare.proofs.library.put_sequences.Statement.{statement}
 use Rattle.compare.proofs.library.put_sequences.Tie as tie
-use Rattle.compare.proofs.library.put_sequences.Reads as reads
-use Rattle.compare.proofs.library.put_sequences.Lts as lts
-use Rattle.compare.proofs.library.put_sequence.Reads as put-sequence-reads
 
 abbrev Inv-loop : tie.InvT-loop
 Inv-loop state₀ s words₀ n sequences m₀ c₀ state words m c = (length state ≡ length state₀) × (length words ≡ length words₀)

@@ -1,14 +1,11 @@
-use native.Mathlib.Omega.{arith}
-use Prim.Native.Nat.{_≤_, _<_, _-_}
+-- `compare::library::put_steps` is safe and ends.
+-- Assumes nothing.
+use Prim.Native.Nat.{_-_}
 use mathlib.Core.Path.{_≡_}
-use lib.ListN.{length, length-set}
+use lib.ListN.{length}
 use borrow.Author.Needs.{needs}
 use Rattle.compare.proofs.library.put_steps.Statement.{statement}
 use Rattle.compare.proofs.library.put_steps.Tie as tie
-use Rattle.compare.proofs.library.put_steps.Reads as reads
-use Rattle.compare.proofs.library.put_steps.Lts as lts
-use Rattle.compare.proofs.library.put.Reads as put-reads
-use Rattle.compare.proofs.library.put_facts.Reads as put-facts-reads
 
 abbrev Inv-loop : tie.InvT-loop
 Inv-loop state₀ s words₀ n steps m₀ a₀ state words m a = (length state ≡ length state₀) × (length words ≡ length words₀)

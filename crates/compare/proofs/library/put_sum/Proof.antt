@@ -1,13 +1,11 @@
+-- `compare::library::put_sum` is safe.
+-- Assumes nothing.
 use native.Mathlib.Omega.{arith}
-use mathlib.Core.Path.{_≡_, sym}
+use mathlib.Core.Path.{sym}
 use lib.Seq.{length-take-le}
 use borrow.Author.Needs.{needs}
 use Rattle.compare.proofs.library.put_sum.Statement.{statement}
 use Rattle.compare.proofs.library.put_sum.Tie as tie
-use Rattle.compare.proofs.library.put_sum.Reads as reads
-use Rattle.compare.proofs.library.put_sum.Lts as lts
-use Rattle.compare.proofs.library.put.Reads as put-reads
-use Rattle.compare.proofs.library.sum.Reads as sum-reads
 
 returns : tie.Need-returns
 returns c = search needs

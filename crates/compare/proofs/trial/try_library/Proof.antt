@@ -1,15 +1,11 @@
+-- `compare::trial::try_library` is safe.
+-- Assumes nothing.
 use native.Mathlib.Omega.{arith}
-use mathlib.Core.Path.{_≡_, sym}
+use mathlib.Core.Path.{sym}
 use lib.Seq.{length-take-le}
 use borrow.Author.Needs.{needs}
 use Rattle.compare.proofs.trial.try_library.Statement.{statement}
 use Rattle.compare.proofs.trial.try_library.Tie as tie
-use Rattle.compare.proofs.trial.try_library.Reads as reads
-use Rattle.compare.proofs.trial.try_library.Lts as lts
-use Rattle.compare.proofs.library.put_library.Reads as put-library-reads
-use Rattle.compare.proofs.shape.of_kind.Reads as of-kind-reads
-use Rattle.compare.proofs.tally.count.Reads as count-reads
-use Rattle.compare.proofs.trial.try_words.Reads as try-words-reads
 
 count-requires : tie.Need-count-requires
 count-requires c κs = search needs

@@ -1,14 +1,12 @@
+-- `second::auxiliary::all_in_empty` is safe, ends and meets its contract.
+-- Assumes nothing.
 use native.Mathlib.Omega.{arith}
-use Prim.Native.Nat.{_≤_, _<_, _-_}
-use mathlib.Core.Path.{_≡_, refl, sym, _∙_}
-use lib.ListN.{length, length-set}
+use Prim.Native.Nat.{_≤_, _-_}
+use mathlib.Core.Path.{refl}
+use lib.ListN.{length}
 use borrow.Author.Needs.{needs}
 use Rattle.second.proofs.auxiliary.all_in_empty.Statement.{statement}
 use Rattle.second.proofs.auxiliary.all_in_empty.Tie as tie
-use Rattle.second.proofs.auxiliary.all_in_empty.Reads as reads
-use Rattle.second.proofs.auxiliary.all_in_empty.Lts as lts
-use Rattle.second.proofs.auxiliary.in_empty.Reads as in-empty-reads
-use Rattle.second.proofs.auxiliary.opens.Reads as opens-reads
 
 abbrev Inv-loop : tie.InvT-loop
 Inv-loop domain from empty i₀ i = from ≤ i

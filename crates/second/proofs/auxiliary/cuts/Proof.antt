@@ -1,12 +1,10 @@
+-- `second::auxiliary::cuts` is safe and meets its contract.
+-- Assumes nothing.
 use mathlib.Core.Bool.{true, false, false≢true}
-use mathlib.Core.Path.{_≡_, refl, sym, _∙_}
+use mathlib.Core.Path.{refl}
 use borrow.Author.Needs.{needs}
 use Rattle.second.proofs.auxiliary.cuts.Statement.{statement}
 use Rattle.second.proofs.auxiliary.cuts.Tie as tie
-use Rattle.second.proofs.auxiliary.cuts.Reads as reads
-use Rattle.second.proofs.auxiliary.cuts.Lts as lts
-use Rattle.second.proofs.auxiliary.in_empty.Reads as in-empty-reads
-use Rattle.second.proofs.auxiliary.opens.Reads as opens-reads
 
 opens-requires : tie.Need-opens-requires
 opens-requires c κs = search needs

@@ -1,14 +1,12 @@
+-- `second::auxiliary::does` is safe, ends and meets its contract.
+-- Assumes nothing.
 use native.Mathlib.Omega.{arith}
-use Prim.Native.Nat.{_≤_, _<_, _-_}
+use Prim.Native.Nat.{_≤_, _-_}
 use mathlib.Core.Path.{_≡_, refl}
-use lib.ListN.{length, length-set}
+use lib.ListN.{length}
 use borrow.Author.Needs.{needs}
 use Rattle.second.proofs.auxiliary.does.Statement.{statement}
 use Rattle.second.proofs.auxiliary.does.Tie as tie
-use Rattle.second.proofs.auxiliary.does.Reads as reads
-use Rattle.second.proofs.auxiliary.does.Lts as lts
-use Rattle.image.proofs.word.is_kind.Reads as is-kind-reads
-use Rattle.second.proofs.domain.action.Reads as action-reads
 
 abbrev Inv-loop : tie.InvT-loop
 Inv-loop domain from actions seen all₀ i₀ all i = (from ≤ i) × (length domain ≤ from → all ≡ seen)

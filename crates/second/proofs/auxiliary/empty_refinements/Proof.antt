@@ -1,14 +1,11 @@
-use native.Mathlib.Omega.{arith}
-use Prim.Native.Nat.{_≤_, _<_, _-_}
+-- `second::auxiliary::empty_refinements` is safe, ends and keeps the lengths.
+-- Assumes nothing.
+use Prim.Native.Nat.{_-_}
 use mathlib.Core.Path.{_≡_}
-use lib.ListN.{length, length-set}
+use lib.ListN.{length}
 use borrow.Author.Needs.{needs}
 use Rattle.second.proofs.auxiliary.empty_refinements.Statement.{statement}
 use Rattle.second.proofs.auxiliary.empty_refinements.Tie as tie
-use Rattle.second.proofs.auxiliary.empty_refinements.Reads as reads
-use Rattle.second.proofs.auxiliary.empty_refinements.Lts as lts
-use Rattle.second.proofs.auxiliary.round.Reads as round-reads
-use Rattle.second.proofs.sets.clear.Reads as clear-reads
 
 abbrev Inv-loop : tie.InvT-loop
 Inv-loop domain empty₀ i₀ empty i = length empty ≡ length empty₀

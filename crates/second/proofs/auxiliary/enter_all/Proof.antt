@@ -1,14 +1,11 @@
-use native.Mathlib.Omega.{arith}
-use Prim.Native.Nat.{_≤_, _<_, _-_}
+-- `second::auxiliary::enter_all` is safe, ends and keeps the lengths.
+-- Assumes nothing.
+use Prim.Native.Nat.{_-_}
 use mathlib.Core.Path.{_≡_}
-use lib.ListN.{length, length-set}
+use lib.ListN.{length}
 use borrow.Author.Needs.{needs}
 use Rattle.second.proofs.auxiliary.enter_all.Statement.{statement}
 use Rattle.second.proofs.auxiliary.enter_all.Tie as tie
-use Rattle.second.proofs.auxiliary.enter_all.Reads as reads
-use Rattle.second.proofs.auxiliary.enter_all.Lts as lts
-use Rattle.image.proofs.word.is_kind.Reads as is-kind-reads
-use Rattle.second.proofs.auxiliary.enter_call.Reads as enter-call-reads
 
 abbrev Inv-loop : tie.InvT-loop
 Inv-loop domain from reached₀ queue₀ n m₀ i₀ reached queue m i = (length reached ≡ length reached₀) × (length queue ≡ length queue₀)

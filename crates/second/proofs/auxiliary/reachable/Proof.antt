@@ -1,15 +1,11 @@
-use native.Mathlib.Omega.{arith}
-use Prim.Native.Nat.{_≤_, _<_, _-_}
+-- `second::auxiliary::reachable` is safe, ends and keeps the lengths.
+-- Assumes nothing.
+use Prim.Native.Nat.{_-_}
 use mathlib.Core.Path.{_≡_}
-use lib.ListN.{length, length-set}
+use lib.ListN.{length}
 use borrow.Author.Needs.{needs}
 use Rattle.second.proofs.auxiliary.reachable.Statement.{statement}
 use Rattle.second.proofs.auxiliary.reachable.Tie as tie
-use Rattle.second.proofs.auxiliary.reachable.Reads as reads
-use Rattle.second.proofs.auxiliary.reachable.Lts as lts
-use Rattle.second.proofs.auxiliary.enter.Reads as enter-reads
-use Rattle.second.proofs.auxiliary.enter_all.Reads as enter-all-reads
-use Rattle.second.proofs.domain.place.Reads as place-reads
 
 abbrev Inv-loop : tie.InvT-loop
 Inv-loop domain places c reached₀ queue₀ n₀ i₀ reached queue n i = (length reached ≡ length reached₀) × (length queue ≡ length queue₀)

@@ -1,14 +1,12 @@
+-- `second::auxiliary::reached_actions` is safe, ends and meets its contract.
+-- Assumes nothing.
 use native.Mathlib.Omega.{arith}
-use Prim.Native.Nat.{_≤_, _<_, _-_}
+use Prim.Native.Nat.{_-_}
 use mathlib.Core.Path.{_≡_, refl}
-use lib.ListN.{length, length-set}
+use lib.ListN.{length}
 use borrow.Author.Needs.{needs}
 use Rattle.second.proofs.auxiliary.reached_actions.Statement.{statement}
 use Rattle.second.proofs.auxiliary.reached_actions.Tie as tie
-use Rattle.second.proofs.auxiliary.reached_actions.Reads as reads
-use Rattle.second.proofs.auxiliary.reached_actions.Lts as lts
-use Rattle.second.proofs.auxiliary.does.Reads as does-reads
-use Rattle.second.proofs.domain.place.Reads as place-reads
 
 abbrev Inv-loop : tie.InvT-loop
 Inv-loop domain places queue n actions all₀ i₀ all i = n ≡ 0 → all ≡ 0

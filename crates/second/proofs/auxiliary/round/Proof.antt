@@ -1,14 +1,11 @@
-use native.Mathlib.Omega.{arith}
-use Prim.Native.Nat.{_≤_, _<_, _-_}
+-- `second::auxiliary::round` is safe, ends and keeps the lengths.
+-- Assumes nothing.
+use Prim.Native.Nat.{_-_}
 use mathlib.Core.Path.{_≡_}
-use lib.ListN.{length, length-set}
+use lib.ListN.{length}
 use borrow.Author.Needs.{needs}
 use Rattle.second.proofs.auxiliary.round.Statement.{statement}
 use Rattle.second.proofs.auxiliary.round.Tie as tie
-use Rattle.second.proofs.auxiliary.round.Reads as reads
-use Rattle.second.proofs.auxiliary.round.Lts as lts
-use Rattle.second.proofs.auxiliary.extend.Reads as extend-reads
-use Rattle.second.proofs.auxiliary.task_at.Reads as task-at-reads
 
 abbrev Inv-loop : tie.InvT-loop
 Inv-loop domain empty₀ changed₀ c₀ i₀ empty changed c i = length empty ≡ length empty₀

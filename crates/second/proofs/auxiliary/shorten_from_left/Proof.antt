@@ -1,15 +1,11 @@
-use native.Mathlib.Omega.{arith}
-use Prim.Native.Nat.{_≤_, _<_, _-_}
+-- `second::auxiliary::shorten_from_left` is safe, ends and keeps the lengths.
+-- Assumes nothing.
+use Prim.Native.Nat.{_-_}
 use mathlib.Core.Path.{_≡_}
-use lib.ListN.{length, length-set}
+use lib.ListN.{length}
 use borrow.Author.Needs.{needs}
 use Rattle.second.proofs.auxiliary.shorten_from_left.Statement.{statement}
 use Rattle.second.proofs.auxiliary.shorten_from_left.Tie as tie
-use Rattle.second.proofs.auxiliary.shorten_from_left.Reads as reads
-use Rattle.second.proofs.auxiliary.shorten_from_left.Lts as lts
-use Rattle.second.proofs.auxiliary.cuts.Reads as cuts-reads
-use Rattle.second.proofs.auxiliary.kept.Reads as kept-reads
-use Rattle.second.proofs.sets.put_word.Reads as put-word-reads
 
 abbrev Inv-loop : tie.InvT-loop
 Inv-loop domain empty out₀ cut₀ i₀ out cut i = length out ≡ length out₀

@@ -1,16 +1,10 @@
-use native.Mathlib.Omega.{arith}
-use Prim.Native.Nat.{_≤_, _<_, _-_}
+-- `second::auxiliary::shorten_from_right` is safe, ends and keeps the lengths.
+-- Assumes nothing.
 use mathlib.Core.Path.{_≡_}
-use lib.ListN.{length, length-set}
+use lib.ListN.{length}
 use borrow.Author.Needs.{needs}
 use Rattle.second.proofs.auxiliary.shorten_from_right.Statement.{statement}
 use Rattle.second.proofs.auxiliary.shorten_from_right.Tie as tie
-use Rattle.second.proofs.auxiliary.shorten_from_right.Reads as reads
-use Rattle.second.proofs.auxiliary.shorten_from_right.Lts as lts
-use Rattle.second.proofs.auxiliary.cuts.Reads as cuts-reads
-use Rattle.second.proofs.auxiliary.kept.Reads as kept-reads
-use Rattle.second.proofs.sets.put_word.Reads as put-word-reads
-use Rattle.second.proofs.sets.word.Reads as word-reads
 
 abbrev Inv-loop : tie.InvT-loop
 Inv-loop domain empty out₀ cut₀ i₀ out cut i = length out ≡ length out₀

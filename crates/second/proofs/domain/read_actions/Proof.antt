@@ -1,14 +1,11 @@
-use native.Mathlib.Omega.{arith}
-use Prim.Native.Nat.{_≤_, _<_, _-_}
+-- `second::domain::read_actions` is safe, ends and keeps the lengths.
+-- Assumes nothing.
+use Prim.Native.Nat.{_-_}
 use mathlib.Core.Path.{_≡_}
-use lib.ListN.{length, length-set}
+use lib.ListN.{length}
 use borrow.Author.Needs.{needs}
 use Rattle.second.proofs.domain.read_actions.Statement.{statement}
 use Rattle.second.proofs.domain.read_actions.Tie as tie
-use Rattle.second.proofs.domain.read_actions.Reads as reads
-use Rattle.second.proofs.domain.read_actions.Lts as lts
-use Rattle.second.proofs.domain.read_word.Reads as read-word-reads
-use Rattle.second.proofs.domain.step_at.Reads as step-at-reads
 
 abbrev Inv-loop : tie.InvT-loop
 Inv-loop part f actions₀ a₀ i₀ actions a i = length actions ≡ length actions₀

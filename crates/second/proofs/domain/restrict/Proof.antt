@@ -1,14 +1,11 @@
-use native.Mathlib.Omega.{arith}
-use Prim.Native.Nat.{_≤_, _<_, _-_}
+-- `second::domain::restrict` is safe, ends and keeps the lengths.
+-- Assumes nothing.
+use Prim.Native.Nat.{_-_}
 use mathlib.Core.Path.{_≡_}
-use lib.ListN.{length, length-set}
+use lib.ListN.{length}
 use borrow.Author.Needs.{needs}
 use Rattle.second.proofs.domain.restrict.Statement.{statement}
 use Rattle.second.proofs.domain.restrict.Tie as tie
-use Rattle.second.proofs.domain.restrict.Reads as reads
-use Rattle.second.proofs.domain.restrict.Lts as lts
-use Rattle.second.proofs.domain.restricted.Reads as restricted-reads
-use Rattle.second.proofs.sets.put_word.Reads as put-word-reads
 
 abbrev Inv-loop : tie.InvT-loop
 Inv-loop domain actions keep out₀ i₀ out i = length out ≡ length out₀

@@ -1,13 +1,11 @@
-use native.Mathlib.Omega.{arith}
-use Prim.Native.Nat.{_≤_, _<_, _-_}
+-- `second::domain::write_places` is safe, ends and keeps the lengths.
+-- Assumes nothing.
+use Prim.Native.Nat.{_-_}
 use mathlib.Core.Path.{_≡_}
-use lib.ListN.{length, length-set}
+use lib.ListN.{length}
 use borrow.Author.Needs.{needs}
 use Rattle.second.proofs.domain.write_places.Statement.{statement}
 use Rattle.second.proofs.domain.write_places.Tie as tie
-use Rattle.second.proofs.domain.write_places.Reads as reads
-use Rattle.second.proofs.domain.write_places.Lts as lts
-use Rattle.second.proofs.domain.put_place.Reads as put-place-reads
 
 abbrev Inv-loop : tie.InvT-loop
 Inv-loop domain places₀ i₀ places i = length places ≡ length places₀

@@ -1,16 +1,12 @@
+-- `second::prepass::refines` is safe, ends and meets its contract.
+-- Assumes nothing.
 use native.Mathlib.Omega.{arith}
-use Prim.Native.Nat.{_≤_, _<_, _-_}
-use mathlib.Core.Path.{_≡_, refl, sym, _∙_}
-use lib.ListN.{length, length-set}
+use Prim.Native.Nat.{_≤_, _-_}
+use mathlib.Core.Path.{refl}
+use lib.ListN.{length}
 use borrow.Author.Needs.{needs}
 use Rattle.second.proofs.prepass.refines.Statement.{statement}
 use Rattle.second.proofs.prepass.refines.Tie as tie
-use Rattle.second.proofs.prepass.refines.Reads as reads
-use Rattle.second.proofs.prepass.refines.Lts as lts
-use Rattle.image.proofs.word.is_entry.Reads as is-entry-reads
-use Rattle.image.proofs.word.is_kind.Reads as is-kind-reads
-use Rattle.second.proofs.domain.number.Reads as number-reads
-use Rattle.second.proofs.sets.has.Reads as has-reads
 
 abbrev Inv-loop : tie.InvT-loop
 Inv-loop part from run i₀ i = from ≤ i

@@ -1,15 +1,11 @@
-use native.Mathlib.Omega.{arith}
-use Prim.Native.Nat.{_≤_, _<_, _-_}
+-- `second::prepass::remove_endless` is safe, ends and keeps the lengths.
+-- Assumes nothing.
+use Prim.Native.Nat.{_-_}
 use mathlib.Core.Path.{_≡_}
-use lib.ListN.{length, length-set}
+use lib.ListN.{length}
 use borrow.Author.Needs.{needs}
 use Rattle.second.proofs.prepass.remove_endless.Statement.{statement}
 use Rattle.second.proofs.prepass.remove_endless.Tie as tie
-use Rattle.second.proofs.prepass.remove_endless.Reads as reads
-use Rattle.second.proofs.prepass.remove_endless.Lts as lts
-use Rattle.second.proofs.prepass.kept.Reads as kept-reads
-use Rattle.second.proofs.prepass.stays.Reads as stays-reads
-use Rattle.second.proofs.sets.put_word.Reads as put-word-reads
 
 abbrev Inv-loop : tie.InvT-loop
 Inv-loop part run domain₀ stay₀ i₀ domain stay i = length domain ≡ length domain₀

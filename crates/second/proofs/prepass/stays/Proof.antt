@@ -1,12 +1,10 @@
+-- `second::prepass::stays` is safe and meets its contract.
+-- Assumes nothing.
 use mathlib.Core.Bool.{true, false, false≢true}
-use mathlib.Core.Path.{_≡_, refl, sym, _∙_}
+use mathlib.Core.Path.{refl}
 use borrow.Author.Needs.{needs}
 use Rattle.second.proofs.prepass.stays.Statement.{statement}
 use Rattle.second.proofs.prepass.stays.Tie as tie
-use Rattle.second.proofs.prepass.stays.Reads as reads
-use Rattle.second.proofs.prepass.stays.Lts as lts
-use Rattle.image.proofs.word.is_kind.Reads as is-kind-reads
-use Rattle.second.proofs.prepass.refines.Reads as refines-reads
 
 is-kind-requires : tie.Need-is-kind-requires
 is-kind-requires c κs = search needs

@@ -1,12 +1,11 @@
-use native.Mathlib.Omega.{arith}
-use Prim.Native.Nat.{_≤_, _<_, _-_}
+-- `second::sets::clear` is safe, ends and keeps the lengths.
+-- Assumes nothing.
+use Prim.Native.Nat.{_-_}
 use mathlib.Core.Path.{_≡_}
-use lib.ListN.{length, length-set}
+use lib.ListN.{length}
 use borrow.Author.Needs.{needs}
 use Rattle.second.proofs.sets.clear.Statement.{statement}
 use Rattle.second.proofs.sets.clear.Tie as tie
-use Rattle.second.proofs.sets.clear.Reads as reads
-use Rattle.second.proofs.sets.clear.Lts as lts
 
 abbrev Inv-loop : tie.InvT-loop
 Inv-loop set₀ i₀ set i = length set ≡ length set₀

@@ -1,9 +1,9 @@
+-- `second::sets::has` is safe and meets its contract.
+-- Assumes nothing.
 use mathlib.Core.Bool.{true, false, false≢true}
 use borrow.Author.Needs.{needs}
 use Rattle.second.proofs.sets.has.Statement.{statement}
 use Rattle.second.proofs.sets.has.Tie as tie
-use Rattle.second.proofs.sets.has.Reads as reads
-use Rattle.second.proofs.sets.has.Lts as lts
 
 shared-slice-read-result : tie.Need-shared-slice-read-result
 shared-slice-read-result c = search needs

@@ -1,9 +1,9 @@
+-- `second::sets::word` is safe and meets its contract.
+-- Assumes nothing.
 use native.Mathlib.Omega.{arith}
 use borrow.Author.Needs.{needs}
 use Rattle.second.proofs.sets.word.Statement.{statement}
 use Rattle.second.proofs.sets.word.Tie as tie
-use Rattle.second.proofs.sets.word.Reads as reads
-use Rattle.second.proofs.sets.word.Lts as lts
 
 mul-result : tie.Need-mul-result
 mul-result c = search needs
