@@ -1,0 +1,73 @@
+-- `compare::ask::ask_facts` is safe and ends.
+-- Assumes nothing.
+use Prim.Native.Nat.{_-_}
+use mathlib.Core.Path.{_≡_}
+use lib.ListN.{length}
+use borrow.Author.Needs.{needs}
+use Rattle.compare.proofs.ask.ask_facts.Statement.{statement}
+use Rattle.compare.proofs.ask.ask_facts.Tie as tie
+
+abbrev Inv-loop : tie.InvT-loop
+Inv-loop tally₀ image steps part places cards facts actions₀ run empty₀ domain restricted₀ short₀ ranks₀ area₀ f₀ tally actions empty restricted short ranks area f = (length tally ≡ length tally₀) × (length actions ≡ length actions₀) × (length empty ≡ length empty₀) × (length restricted ≡ length restricted₀) × (length short ≡ length short₀) × (length ranks ≡ length ranks₀) × (length area ≡ length area₀)
+
+abbrev μ-loop : tie.MeasureT-loop
+μ-loop tally₀ image steps part places cards facts actions₀ run empty₀ domain restricted₀ short₀ ranks₀ area₀ f₀ tally actions empty restricted short ranks area f = facts - f
+
+loop-holds : tie.Need-loop-holds Inv-loop μ-loop
+loop-holds c = search needs
+
+add-f : tie.Need-add-f Inv-loop μ-loop
+add-f c = search needs
+
+ask-fact-requires : tie.Need-ask-fact-requires Inv-loop μ-loop
+ask-fact-requires c κs = search needs
+
+loop-less : tie.Need-loop-less Inv-loop μ-loop
+loop-less c = search needs
+
+loop-again : tie.Need-loop-again Inv-loop μ-loop
+loop-again c = search needs
+
+same-length : tie.Need-same-length Inv-loop μ-loop
+same-length c = search needs
+
+same-length-2 : tie.Need-same-length-2 Inv-loop μ-loop
+same-length-2 c = search needs
+
+same-length-3 : tie.Need-same-length-3 Inv-loop μ-loop
+same-length-3 c = search needs
+
+same-length-4 : tie.Need-same-length-4 Inv-loop μ-loop
+same-length-4 c = search needs
+
+same-length-5 : tie.Need-same-length-5 Inv-loop μ-loop
+same-length-5 c = search needs
+
+same-length-6 : tie.Need-same-length-6 Inv-loop μ-loop
+same-length-6 c = search needs
+
+same-length-7 : tie.Need-same-length-7 Inv-loop μ-loop
+same-length-7 c = search needs
+
+returns : tie.Need-returns Inv-loop μ-loop
+returns c = search needs
+
+pub ask-facts-spec : {M : Type 1} → statement M
+ask-facts-spec =
+    tie.close
+    (tie.spec
+    Inv-loop
+    μ-loop
+    loop-holds
+    add-f
+    ask-fact-requires
+    loop-less
+    loop-again
+    same-length
+    same-length-2
+    same-length-3
+    same-length-4
+    same-length-5
+    same-length-6
+    same-length-7
+    returns)

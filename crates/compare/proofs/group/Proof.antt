@@ -1,0 +1,68 @@
+-- `compare::group` is safe and ends.
+-- Assumes nothing.
+use mathlib.Core.Path.{_≡_}
+use lib.ListN.{length}
+use borrow.Author.Needs.{needs}
+use Rattle.compare.proofs.group.Statement.{statement}
+use Rattle.compare.proofs.group.Tie as tie
+
+abbrev Inv-loop : tie.InvT-loop
+Inv-loop tally₀ total state₀ words₀ name kind libraries left₀ tally state words left = (length tally ≡ length tally₀) × (length state ≡ length state₀) × (length words ≡ length words₀)
+
+abbrev μ-loop : tie.MeasureT-loop
+μ-loop tally₀ total state₀ words₀ name kind libraries left₀ tally state words left = left
+
+loop-holds : tie.Need-loop-holds Inv-loop μ-loop
+loop-holds c = search needs
+
+try-library-requires : tie.Need-try-library-requires Inv-loop μ-loop
+try-library-requires c κs = search needs
+
+sub-left : tie.Need-sub-left Inv-loop μ-loop
+sub-left c = search needs
+
+loop-less : tie.Need-loop-less Inv-loop μ-loop
+loop-less c = search needs
+
+loop-again : tie.Need-loop-again Inv-loop μ-loop
+loop-again c = search needs
+
+print-group-requires : tie.Need-print-group-requires Inv-loop μ-loop
+print-group-requires c κs = search needs
+
+close-group-requires : tie.Need-close-group-requires Inv-loop μ-loop
+close-group-requires c κs = search needs
+
+same-length : tie.Need-same-length Inv-loop μ-loop
+same-length c = search needs
+
+same-length-2 : tie.Need-same-length-2 Inv-loop μ-loop
+same-length-2 c = search needs
+
+same-length-3 : tie.Need-same-length-3 Inv-loop μ-loop
+same-length-3 c = search needs
+
+same-length-4 : tie.Need-same-length-4 Inv-loop μ-loop
+same-length-4 c = search needs
+
+returns : tie.Need-returns Inv-loop μ-loop
+returns c = search needs
+
+pub group-spec : {M : Type 1} → statement M
+group-spec =
+    tie.close
+    (tie.spec
+    Inv-loop
+    μ-loop
+    loop-holds
+    try-library-requires
+    sub-left
+    loop-less
+    loop-again
+    print-group-requires
+    close-group-requires
+    same-length
+    same-length-2
+    same-length-3
+    same-length-4
+    returns)
