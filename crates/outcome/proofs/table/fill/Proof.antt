@@ -67,11 +67,13 @@ returns c =
     let cleared = facts .before .before .before in
     let prepared = cleared .before .before .before .before .before .before .before .before in
     let start = prepared .before .before .before .before .before .before .before .before .before .before .before in
-    let a = start .args in
-    (prepared .prepare .ensures, fill-done (a .h) (a .steps .now) (a .sequences .now) (a .table .now) (start .pre .0) _ _ (prepared .prepare .last .1 .1 .1 .0) (prepared .prepare .last .1 .1 .1 .1 .0)
-    (start .pre .1 .blank) (omega (arith, prepared .prepare .kept, start .pre .1 .wide)) (prepared .prepare .ensures .masked) (omega (arith, prepared .prepare .kept, start .pre .1 .narrow))
-    (prepared .prepare .ensures .placed)
-    (facts .all-facts .result) (cleared .clear .last .0) (settled .settle .last .1 .1 .1 .1 .1 .0) (facts .all-facts .ensures) (omega (arith, cleared .clear .kept)) (cleared .clear .ensures) (settled .settle .ensures))
+    let a = start .args in (
+      prepared .prepare .ensures,
+      fill-done (a .h) (a .steps .now) (a .sequences .now) (a .table .now) (start .pre .0) _ _ (prepared .prepare .last .1 .1 .1 .0) (prepared .prepare .last .1 .1 .1 .1 .0)
+          (start .pre .1 .blank) (omega (arith, prepared .prepare .kept, start .pre .1 .wide)) (prepared .prepare .ensures .masked) (omega (arith, prepared .prepare .kept, start .pre .1 .narrow))
+          (prepared .prepare .ensures .placed)
+          (facts .all-facts .result) (cleared .clear .last .0) (settled .settle .last .1 .1 .1 .1 .1 .0) (facts .all-facts .ensures) (omega (arith, cleared .clear .kept)) (cleared .clear .ensures) (settled .settle .ensures),
+    )
 
 pub fill-spec : {M : Type 1} → statement M
 fill-spec =
