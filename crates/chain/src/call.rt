@@ -41,15 +41,7 @@ fn make_tables(
         return;
     }
     let words = 8 * h.sequences as usize;
-    fill(
-        h,
-        steps,
-        part,
-        masks,
-        places,
-        order,
-        &mut table[..words],
-    );
+    fill(h, steps, part, masks, places, order, &mut table[..words]);
 }
 
 // Finds the answer to a question of sequence `c` of an accepted image.
