@@ -24,29 +24,46 @@
 mod ask;
 mod library;
 mod links;
+mod names;
 mod random;
 mod rounds;
 mod shape;
 mod tally;
 mod trial;
 
-// Tries so many libraries of a kind.
-fn group(
-    tally: &mut [u64],
-    total: &mut [u64],
-    state: &mut [u64],
-    words: &mut [u32],
-    name: &[u8],
-    kind: u32,
-    libraries: u32,
-) {
-    let mut left = libraries;
-    while 0 < left {
-        trial::try_library(tally, state, kind, words);
-        left -= 1;
+// How many libraries of a kind are tried.
+fn libraries(kind: u32) -> u32 {
+    match kind {
+        0 => 2000,
+        1 | 2 | 3 | 8 => 800,
+        4 | 5 | 9 => 200,
+        6 => 600,
+        7 => 100,
+        10 => 1000,
+        14 => 2,
+        _ => 6,
     }
-    tally::print_group(tally, name);
-    tally::close_group(tally, total);
+}
+
+// Tries the libraries of a kind.
+fn group(tally: &mut [u64], state: &mut [u64], words: &mut [u32], kind: u32) {
+    let mut left = libraries(kind);
+    while 0 < left {
+        left -= 1;
+        trial::try_library(tally, state, kind, words);
+    }
+    tally::print_group(tally, kind);
+}
+
+// Tries the libraries of all kinds.
+fn groups(tally: &mut [u64], total: &mut [u64], state: &mut [u64], words: &mut [u32]) {
+    let mut kind = 0;
+    while kind < 15 {
+        group(tally, state, words, kind);
+        tally::close_group(tally, total);
+        kind += 1;
+    }
+    tally::print_group(total, kind);
 }
 
 fn main() {
@@ -54,140 +71,5 @@ fn main() {
     let mut total = [0u64; 8];
     let mut state = [0x2545f4914f6cdd1du64; 1];
     let mut words = [0u32; 8192];
-    group(
-        &mut tally,
-        &mut total,
-        &mut state,
-        &mut words,
-        b"small",
-        0,
-        2000,
-    );
-    group(
-        &mut tally,
-        &mut total,
-        &mut state,
-        &mut words,
-        b"calling themselves",
-        1,
-        800,
-    );
-    group(
-        &mut tally,
-        &mut total,
-        &mut state,
-        &mut words,
-        b"calling each other",
-        2,
-        800,
-    );
-    group(
-        &mut tally,
-        &mut total,
-        &mut state,
-        &mut words,
-        b"endless",
-        3,
-        800,
-    );
-    group(
-        &mut tally,
-        &mut total,
-        &mut state,
-        &mut words,
-        b"deep, calling the next",
-        4,
-        200,
-    );
-    group(
-        &mut tally,
-        &mut total,
-        &mut state,
-        &mut words,
-        b"deep, calling the one before",
-        5,
-        200,
-    );
-    group(
-        &mut tally,
-        &mut total,
-        &mut state,
-        &mut words,
-        b"many empty alternatives",
-        6,
-        600,
-    );
-    group(
-        &mut tally,
-        &mut total,
-        &mut state,
-        &mut words,
-        b"long alternatives",
-        7,
-        100,
-    );
-    group(
-        &mut tally,
-        &mut total,
-        &mut state,
-        &mut words,
-        b"one fact",
-        8,
-        800,
-    );
-    group(
-        &mut tally,
-        &mut total,
-        &mut state,
-        &mut words,
-        b"64 facts",
-        9,
-        200,
-    );
-    group(
-        &mut tally,
-        &mut total,
-        &mut state,
-        &mut words,
-        b"ties",
-        10,
-        1000,
-    );
-    group(
-        &mut tally,
-        &mut total,
-        &mut state,
-        &mut words,
-        b"large",
-        11,
-        6,
-    );
-    group(
-        &mut tally,
-        &mut total,
-        &mut state,
-        &mut words,
-        b"very deep, calling the next",
-        12,
-        6,
-    );
-    group(
-        &mut tally,
-        &mut total,
-        &mut state,
-        &mut words,
-        b"very deep, calling the one before",
-        13,
-        6,
-    );
-    group(
-        &mut tally,
-        &mut total,
-        &mut state,
-        &mut words,
-        b"large, 64 facts",
-        14,
-        2,
-    );
-    tally::print_group(&total, b"total");
+    groups(&mut tally, &mut total, &mut state, &mut words);
 }

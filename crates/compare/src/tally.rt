@@ -1,4 +1,7 @@
 // What was counted, in a table of numbers, and the lines that are printed.
+use crate::names::print_fault;
+use crate::names::print_kind;
+
 pub const LIBRARIES: usize = 0;
 
 pub const SEQUENCES: usize = 1;
@@ -70,39 +73,15 @@ fn print(name: &[u8], n: u64) {
     io::print_decimal(1, n);
 }
 
-// Ends a line with what is wrong.
-fn print_fault(fault: u32) {
-    match fault {
-        1 => io::write_all(1, b": a link does not stand\n"),
-        2 => io::write_all(
-            1,
-            b": a link's entry is no step with the touch, or no sequence\n",
-        ),
-        3 => io::write_all(1, b": a link is not the lowest choice\n"),
-        4 => io::write_all(1, b": the links are not the fewest\n"),
-        5 => io::write_all(1, b": a chain, and no run has the outcome\n"),
-        6 => io::write_all(1, b": a chain of more links than there are sequences\n"),
-        7 => io::write_all(1, b": words past the chain are changed\n"),
-        8 => io::write_all(1, b": none, and a run has the outcome\n"),
-        9 => io::write_all(1, b": refused\n"),
-        10 => io::write_all(
-            1,
-            b": the columns of the second engine differ from its rounds\n",
-        ),
-        11 => io::write_all(1, b": a card word differs\n"),
-        12 => io::write_all(1, b": the card call answers another number\n"),
-        _ => io::write_all(1, b": the second engine answers another number\n"),
-    }
-    ;
-}
-
 // A line about a difference. Of a card, the question is the number of the word.
 fn print_difference(library: u64, c: usize, question: u32, f: u32, fault: u32) {
     print(b"library ", library);
     print(b", sequence ", c as u64);
     print(b", question or word ", question as u64);
     print(b", fact ", f as u64);
+    io::write_all(1, b": ");
     print_fault(fault);
+    io::write_all(1, b"\n");
 }
 
 // Prints a difference, where it is one of the first dozen.
@@ -131,8 +110,8 @@ pub fn note(tally: &mut [u64], c: usize, question: u32, f: u32, links: u32, faul
 }
 
 // The counts of a group on a line.
-pub fn print_group(tally: &[u64], name: &[u8]) {
-    io::write_all(1, name);
+pub fn print_group(tally: &[u64], kind: u32) {
+    print_kind(kind);
     print(b": libraries ", get(tally, LIBRARIES));
     print(b", sequences ", get(tally, SEQUENCES));
     print(b", card words ", get(tally, WORDS));
