@@ -84,11 +84,13 @@ returns c =
     let prepared = rows .before .before .before .before .before .before .before .before .before .before in
     let facts = prepared .before .before .before .before in
     let start = facts .before .before .before .before .before .before .before .before .before in
-    let a = start .args in
-    (prepared .prepare .ensures, fill-done (a .h) (a .steps .now) (a .sequences .now) (a .table .now) (start .pre .0) (a .masks .now) (a .rows .now) (start .pre .2) (facts .all-facts .result) (facts .all-facts .ensures)
-    (prepared .prepare .last .1 .1 .1 .0) _ (rows .write-step-rows .last .1 .1 .1 .0) (prepared .prepare .last .1 .1 .1 .1 .0) _ (prepared .prepare .ensures .masked) (rows .write-step-rows .ensures)
-    (omega (arith, rows .write-step-rows .kept)) (omega (arith, prepared .prepare .kept, start .pre .1 .narrow)) (prepared .prepare .ensures .placed)
-    (cleared .clear .last .0) (settled .settle .last .1 .1 .1 .1 .1 .0) (omega (arith, cleared .clear .kept)) (cleared .clear .ensures) (settled .settle .ensures))
+    let a = start .args in (
+      prepared .prepare .ensures,
+      fill-done (a .h) (a .steps .now) (a .sequences .now) (a .table .now) (start .pre .0) (a .masks .now) (a .rows .now) (start .pre .2) (facts .all-facts .result) (facts .all-facts .ensures)
+          (prepared .prepare .last .1 .1 .1 .0) _ (rows .write-step-rows .last .1 .1 .1 .0) (prepared .prepare .last .1 .1 .1 .1 .0) _ (prepared .prepare .ensures .masked) (rows .write-step-rows .ensures)
+          (omega (arith, rows .write-step-rows .kept)) (omega (arith, prepared .prepare .kept, start .pre .1 .narrow)) (prepared .prepare .ensures .placed)
+          (cleared .clear .last .0) (settled .settle .last .1 .1 .1 .1 .1 .0) (omega (arith, cleared .clear .kept)) (cleared .clear .ensures) (settled .settle .ensures),
+    )
 
 pub fill-by-spec : {M : Type 1} → statement M
 fill-by-spec =
