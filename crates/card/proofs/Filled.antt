@@ -44,9 +44,10 @@ module _ (image area : List ℕ) (h : Head) (accepted : checked image ≡ Checke
   pub call-rows : 8 * h .sequences ≤ 2048
   call-rows = omega (arith, faultless image h accepted .sequences-high)
 
-  pub call-filled : 7 * h .sequences ≤ length area → (table rest after : List ℕ) → table ≡ outcomes (libraryOf image) ++ rest
-      → after ≡ tableCards table 0 (h .sequences) ++ drop (7 * h .sequences) area → Called image area (Cards.Filled (h .sequences)) after
-  call-filled l table rest after t w =
+  -- the cards of the outcome table
+  pub cards-written : (table rest after : List ℕ) → table ≡ outcomes (libraryOf image) ++ rest
+      → after ≡ tableCards table 0 (h .sequences) ++ drop (7 * h .sequences) area → after ≡ cards (libraryOf image) ++ drop (7 * h .sequences) area
+  cards-written table rest after t w =
       let L = libraryOf image in
       let has : Counted L h = counted image h accepted in
       let right : Faultless image h = faultless image h accepted in
@@ -54,6 +55,10 @@ module _ (image area : List ℕ) (h : Head) (accepted : checked image ≡ Checke
       let high : L .facts ≤ 64 = omega (arith, has .facts, right .facts-high) in
       let written : tableCards table 0 (h .sequences) ≡ cards L =
       ap₂ (λ (x : List ℕ) (n : ℕ). tableCards x 0 n) t (sym (has .sequences)) ∙ table-cards L low high rest in
+      w ∙ ap (λ (x : List ℕ). x ++ drop (7 * h .sequences) area) written
+
+  pub call-filled : 7 * h .sequences ≤ length area → (after : List ℕ) → after ≡ cards (libraryOf image) ++ drop (7 * h .sequences) area
+      → Called image area (Cards.Filled (h .sequences)) after
+  call-filled l after w =
       called image area (Checked.Accepted h) (Cards.Filled (h .sequences)) after accepted
-      (ap (λ (b : Bool). cond b (Cards.Refused CardArea) (Cards.Filled (h .sequences))) (le-ltb (length area) (7 * h .sequences) l))
-      (w ∙ ap (λ (x : List ℕ). x ++ drop (7 * h .sequences) area) written)
+      (ap (λ (b : Bool). cond b (Cards.Refused CardArea) (Cards.Filled (h .sequences))) (le-ltb (length area) (7 * h .sequences) l)) w

@@ -7,8 +7,23 @@ use image::answer::Refusal;
 use image::check::check;
 use outcome::table::outcome_table;
 ghost use mathlib.Core.Path.{_≡_};
+ghost use mathlib.Core.List.{_++_};
+ghost use Prim.Native.Nat.{_*_, _≤_};
+ghost use lib.ListN.{length, drop};
 ghost use Rattle.image.specs.Checked.{checked};
+ghost use Rattle.image.specs.Library.{libraryOf};
+ghost use Rattle.outcome.specs.Area.{TableAsked};
+ghost use Rattle.card.specs.Card.{cards};
 ghost use Rattle.card.specs.Answer.{Called, accepts};
+
+// Fills the cards of an accepted image by way of its outcome table, in an area that has room for it.
+fn fill_by(h: Head, image: &[u32], table: &mut [u64], area: &mut [u64])
+    requires { ⌜ TableAsked h (now image) (now table) × (7 * h .sequences ≤ length (now area)) ⌝ }
+    ensures { λ _. ⌜ now (area .exit) ≡ cards (libraryOf (now (image .entry))) ++ drop (7 * h .sequences) (now (area .entry)) ⌝ }
+{
+    outcome_table(h, image, table);
+    write_cards(h.sequences as usize, table, area);
+}
 
 // Fills the cards of an accepted image, where the area has room for them: nothing is written before that is known.
 fn fill(h: Head, image: &[u32], area: &mut [u64]) -> Cards
@@ -19,9 +34,13 @@ fn fill(h: Head, image: &[u32], area: &mut [u64]) -> Cards
     if area.len() < 7 * n {
         return Cards::Refused(Refusal::CardArea);
     }
-    let mut table = [0u64; 2048];
-    outcome_table(h, image, &mut table);
-    write_cards(n, &table, area);
+    if n <= 32 {
+        let mut table = [0u64; 256];
+        fill_by(h, image, &mut table, area);
+    } else {
+        let mut table = [0u64; 2048];
+        fill_by(h, image, &mut table, area);
+    }
     Cards::Filled(h.sequences)
 }
 

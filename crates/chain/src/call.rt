@@ -33,7 +33,7 @@ fn make_tables(
     order: &mut [usize],
     table: &mut [u64],
 )
-    requires { ⌜ FillAsked h (now steps) (now part) (take (8 * h .sequences) (now table)) × Areas (now masks) (now places) (now order) × (8 * h .sequences ≤ length (now table)) ⌝ }
+    requires { ⌜ FillAsked h (now steps) (now part) (take (8 * h .sequences) (now table)) × Areas h (now masks) (now places) (now order) × (8 * h .sequences ≤ length (now table)) ⌝ }
     ensures { λ _. ⌜ TablesMade h q (now (steps .entry)) (now (part .entry)) (now (masks .entry)) (now (places .entry)) (now (table .entry)) (now (masks .exit)) (now (places .exit)) (now (table .exit)) ⌝ }
 {
     if q.mark == 2 {

@@ -38,10 +38,13 @@ blank-zeros (suc n) (suc k) = blank-zeros n k
 pub rows-asked : (h : Head) (ms : List ℕ) (n : ℕ) → 3 * h .steps ≤ length ms → 8 * h .steps ≤ n → RowsAsked h ms (replicate n 0)
 rows-asked h ms n l k = record { masks-room = l; rows-room = omega (arith, length-replicate {A = ℕ} n 0); blank = blank-zeros n }
 
-pub prepare-asked : (h : Head) (steps sequences table ms ps order : List ℕ) → FillAsked h steps sequences table → Areas ms ps order
+pub areas-asked : (h : Head) (m : ℕ) → 3 * h .steps ≤ m → Areas h (replicate m 0) (replicate 256 0) (replicate 256 0)
+areas-asked h m l = record { blank = blank-zeros m; wide = omega (arith, length-replicate {A = ℕ} m 0); narrow = refl; long = refl }
+
+pub prepare-asked : (h : Head) (steps sequences table ms ps order : List ℕ) → FillAsked h steps sequences table → Areas h ms ps order
     → StepsAsked h steps ms × SequencesAsked h sequences ps × (h .sequences ≤ 256)
 prepare-asked h steps sequences table ms ps order asked areas = (
-  record { facts = asked .high; words = asked .steps; numbered = asked .steps-numbered; opened = asked .steps-opened; room = omega (arith, asked .steps-high, areas .wide) },
+  record { facts = asked .high; words = asked .steps; numbered = asked .steps-numbered; opened = asked .steps-opened; room = areas .wide },
   record { short = asked .short; numbered = asked .sequences-numbered; opened = asked .sequences-opened; room = omega (arith, asked .sequences-high, areas .narrow) },
   asked .sequences-high,
 )

@@ -68,9 +68,9 @@ pub record Prepared (h : Head) (first second masks-before places-before ms ps : 
   pub placed : ps ≡ placesFrom 0 second ++ drop (h .sequences) places-before
 
 -- the areas that are lent for them and for the finishing order
-pub record Areas (ms ps order : List ℕ) : Type 0 where
+pub record Areas (h : Head) (ms ps order : List ℕ) : Type 0 where
   pub blank : Blank ms
-  pub wide : length ms ≡ 3072
+  pub wide : 3 * h .steps ≤ length ms
   pub narrow : length ps ≡ 256
   pub long : length order ≡ 256
 

@@ -59,7 +59,7 @@ fn fill_by(
     rows: &mut [u64],
     table: &mut [u64],
 )
-    requires { ⌜ FillAsked h (now steps) (now sequences) (now table) × Areas (now masks) (now places) (now order) × RowsAsked h (now masks) (now rows) ⌝ }
+    requires { ⌜ FillAsked h (now steps) (now sequences) (now table) × Areas h (now masks) (now places) (now order) × RowsAsked h (now masks) (now rows) ⌝ }
     ensures { λ _. ⌜ Prepared h (now (steps .entry)) (now (sequences .entry)) (now (masks .entry)) (now (places .entry)) (now (masks .exit)) (now (places .exit)) × (now (table .exit) ≡ outcomes (libraryIn h (now (steps .entry)) (now (sequences .entry)))) ⌝ }
 {
     let n = h.sequences as usize;
@@ -80,7 +80,7 @@ pub fn fill(
     order: &mut [usize],
     table: &mut [u64],
 )
-    requires { ⌜ FillAsked h (now steps) (now sequences) (now table) × Areas (now masks) (now places) (now order) ⌝ }
+    requires { ⌜ FillAsked h (now steps) (now sequences) (now table) × Areas h (now masks) (now places) (now order) ⌝ }
     ensures { λ _. ⌜ Prepared h (now (steps .entry)) (now (sequences .entry)) (now (masks .entry)) (now (places .entry)) (now (masks .exit)) (now (places .exit)) × (now (table .exit) ≡ outcomes (libraryIn h (now (steps .entry)) (now (sequences .entry)))) ⌝ }
 {
     if h.steps <= 64 {
@@ -92,22 +92,48 @@ pub fn fill(
     }
 }
 
+// Fills `table` with areas of its own for what is made on the way: small ones where there are few steps.
+fn fill_alone(h: Head, steps: &[u32], sequences: &[u32], table: &mut [u64])
+    requires { ⌜ FillAsked h (now steps) (now sequences) (now table) ⌝ }
+    ensures { λ _. ⌜ now (table .exit) ≡ outcomes (libraryIn h (now (steps .entry)) (now (sequences .entry))) ⌝ }
+{
+    let mut places = [0u32; 256];
+    let mut order = [0usize; 256];
+    if h.steps <= 64 {
+        let mut masks = [0u64; 192];
+        fill(
+            h,
+            steps,
+            sequences,
+            &mut masks,
+            &mut places,
+            &mut order,
+            table,
+        );
+    } else {
+        let mut masks = [0u64; 3072];
+        fill(
+            h,
+            steps,
+            sequences,
+            &mut masks,
+            &mut places,
+            &mut order,
+            table,
+        );
+    }
+}
+
 // Writes the outcome table of an accepted image into the area. Words past it stay.
 pub fn outcome_table(h: Head, image: &[u32], area: &mut [u64])
     requires { ⌜ TableAsked h (now image) (now area) ⌝ }
     ensures { λ _. ⌜ now (area .exit) ≡ outcomes (libraryOf (now (image .entry))) ++ drop (8 * h .sequences) (now (area .entry)) ⌝ }
 {
-    let mut masks = [0u64; 3072];
-    let mut places = [0u32; 256];
-    let mut order = [0usize; 256];
     let words = 8 * h.sequences as usize;
-    fill(
+    fill_alone(
         h,
         steps_part(image),
         sequences_part(image),
-        &mut masks,
-        &mut places,
-        &mut order,
         &mut area[..words],
     );
 }

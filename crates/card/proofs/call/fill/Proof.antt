@@ -1,4 +1,4 @@
--- `card::call::fill` meets its contract: too little room, or the cards of the outcome table.
+-- `card::call::fill` meets its contract: too little room, or the cards.
 -- Assumes nothing.
 use borrow.Author.Needs.{needs}
 use native.Mathlib.Omega.{arith}
@@ -7,8 +7,7 @@ use Rattle.card.proofs.call.fill.Statement.{statement}
 use Rattle.card.proofs.call.fill.Tie as tie
 use Rattle.card.proofs.call.fill.Reads as reads
 use Rattle.card.proofs.call.fill.Lts as lts
-use Rattle.card.proofs.write.write_cards.Reads as write-cards-reads
-use Rattle.outcome.proofs.table.outcome_table.Reads as outcome-table-reads
+use Rattle.card.proofs.call.fill_by.Reads as fill-by-reads
 
 cast-n : tie.Need-cast-n
 cast-n c = search needs
@@ -19,36 +18,47 @@ mul-if1 c = search needs
 returns : tie.Need-returns
 returns c = let start = c .before .before .before .before in let a = start .args in call-short (a .image .now) (a .area .now) (a .h) (start .pre) (c .if1 .taken)
 
-slice-aggregate-outcome-table : tie.Need-slice-aggregate-outcome-table
-slice-aggregate-outcome-table c = search needs
+slice-aggregate-fill-by : tie.Need-slice-aggregate-fill-by
+slice-aggregate-fill-by c = search needs
 
-outcome-table-requires : tie.Need-outcome-table-requires
-outcome-table-requires c κs =
-    let start = c .before .before .before .before .before in
-    let a = start .args in
-    record { accepted = start .pre; room = call-rows (a .image .now) (a .area .now) (a .h) (start .pre) }
+fill-by-requires : tie.Need-fill-by-requires
+fill-by-requires c κs =
+    let few = c .before .before in
+    let else1 = few .before in
+    let start = else1 .before .before .before .before in
+    (record { accepted = start .pre; room = omega (arith, few .if2 .taken) }, else1 .if1 .left)
 
-slice-aggregate-write-cards : tie.Need-slice-aggregate-write-cards
-slice-aggregate-write-cards c = search needs
+slice-aggregate-fill-by-2 : tie.Need-slice-aggregate-fill-by-2
+slice-aggregate-fill-by-2 c = search needs
 
-write-cards-requires : tie.Need-write-cards-requires
-write-cards-requires c κs =
-    let else1 = c .before .before .before .before .before in
+fill-by-requires-2 : tie.Need-fill-by-requires-2
+fill-by-requires-2 c κs =
+    let else1 = c .before .before .before in
     let start = else1 .before .before .before .before in
     let a = start .args in
-    (omega (arith, call-rows (a .image .now) (a .area .now) (a .h) (start .pre), c .before .before .before .outcome-table .kept), else1 .if1 .left)
+    (record { accepted = start .pre; room = call-rows (a .image .now) (a .area .now) (a .h) (start .pre) }, else1 .if1 .left)
 
 same-length : tie.Need-same-length
 same-length c = search needs
 
 returns-2 : tie.Need-returns-2
 returns-2 c =
-    let written = c .before .before in
-    let table = written .before .before .before .before in
-    let else1 = table .before .before in
+    let filled = c .before .before .before in
+    let else1 = filled .before .before .before .before in
     let start = else1 .before .before .before .before in
     let a = start .args in
-    call-filled (a .image .now) (a .area .now) (a .h) (start .pre) (else1 .if1 .left) (table .outcome-table .last .1 .1 .0) _ (written .write-cards .last .1 .1 .0) (table .outcome-table .ensures) (written .write-cards .ensures)
+    call-filled (a .image .now) (a .area .now) (a .h) (start .pre) (else1 .if1 .left) (filled .fill-by .last .1 .1 .1 .0) (filled .fill-by .ensures)
+
+same-length-2 : tie.Need-same-length-2
+same-length-2 c = search needs
+
+returns-3 : tie.Need-returns-3
+returns-3 c =
+    let filled = c .before .before .before in
+    let else1 = filled .before .before .before .before in
+    let start = else1 .before .before .before .before in
+    let a = start .args in
+    call-filled (a .image .now) (a .area .now) (a .h) (start .pre) (else1 .if1 .left) (filled .fill-by2 .last .1 .1 .1 .0) (filled .fill-by2 .ensures)
 
 pub fill-spec : {M : Type 1} → statement M
 fill-spec =
@@ -57,9 +67,11 @@ fill-spec =
     cast-n
     mul-if1
     returns
-    slice-aggregate-outcome-table
-    outcome-table-requires
-    slice-aggregate-write-cards
-    write-cards-requires
+    slice-aggregate-fill-by
+    fill-by-requires
+    slice-aggregate-fill-by-2
+    fill-by-requires-2
     same-length
-    returns-2)
+    returns-2
+    same-length-2
+    returns-3)

@@ -6,7 +6,7 @@ use borrow.Author.Tests.{not-true}
 use native.Mathlib.Omega.{arith}
 use mathlib.Core.Path.{refl, sym, _∙_}
 use lib.Seq.{length-take-le}
-use Rattle.outcome.proofs.Fill.{blank-zeros}
+use Rattle.outcome.proofs.Fill.{blank-zeros, areas-asked}
 use Rattle.chain.proofs.Finding.{image-long, facts-high, tables-asked, few-sequences, made-of, tables-visitable, tables-choosable, asks-by, none-found, answer-found}
 use Rattle.chain.proofs.Writing.{none-answered}
 use Rattle.chain.proofs.call.find.Statement.{statement}
@@ -54,7 +54,7 @@ make-tables-requires c κs =
     let start = part .before .before .before .before in
     let a = start .args in
     let asked = tables-asked (a .image .now) (a .h) (start .pre .accepted) _ _ _ (first .steps-part .ensures) (part .sequences-part .ensures) refl in
-    (asked .0, record { blank = blank-zeros 3072; wide = refl; narrow = refl; long = refl }, asked .1)
+    (asked .0, areas-asked (a .h) 3072 (omega (arith, asked .0 .steps-high)), asked .1)
 
 slice-aggregate-is-open : tie.Need-slice-aggregate-is-open
 slice-aggregate-is-open c = search needs

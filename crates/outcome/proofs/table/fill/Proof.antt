@@ -16,7 +16,7 @@ fill-by-requires : tie.Need-fill-by-requires
 fill-by-requires c κs =
     let few = c .before .before .before .before .before in
     let start = few .before .before .before .before .before .before .before .before in
-    (start .pre .0, start .pre .1, rows-asked (start .args .h) (start .args .masks .now) 512 (omega (arith, start .pre .1 .wide, few .if1 .taken)) (omega (arith, few .if1 .taken)))
+    (start .pre .0, start .pre .1, rows-asked (start .args .h) (start .args .masks .now) 512 (start .pre .1 .wide) (omega (arith, few .if1 .taken)))
 
 slice-aggregate-fill-by-2 : tie.Need-slice-aggregate-fill-by-2
 slice-aggregate-fill-by-2 c = search needs
@@ -24,7 +24,7 @@ slice-aggregate-fill-by-2 c = search needs
 fill-by-requires-2 : tie.Need-fill-by-requires-2
 fill-by-requires-2 c κs =
     let start = c .before .before .before .before .before .before .before .before .before .before .before .before .before in
-    (start .pre .0, start .pre .1, rows-asked (start .args .h) (start .args .masks .now) 8192 (omega (arith, start .pre .1 .wide, start .pre .0 .steps-high)) (omega (arith, start .pre .0 .steps-high)))
+    (start .pre .0, start .pre .1, rows-asked (start .args .h) (start .args .masks .now) 8192 (start .pre .1 .wide) (omega (arith, start .pre .0 .steps-high)))
 
 same-length : tie.Need-same-length
 same-length c = search needs
