@@ -20,14 +20,6 @@ use second::sets::word;
 // What each word of the chain area holds before.
 const BEFORE: u32 = 0x5a5a5a5a;
 
-fn fill(area: &mut [u32]) {
-    let mut i = 0;
-    while i < area.len() {
-        area[i] = BEFORE;
-        i += 1;
-    }
-}
-
 // Whether the words from index `from` on are as they were.
 fn stays(area: &[u32], from: usize) -> bool {
     let mut i = from;
@@ -383,17 +375,21 @@ fn ask_sequence(
     restricted: &[u32],
     short: &[u32],
     ranks: &[u32],
-    area: &mut [u32],
 ) {
-    if (32 < run.len()) & (c % 37 != 0) {
+    let mut area = [BEFORE; 512];
+    let n = run.len();
+    if 256 < n {
         return;
     }
+    if (32 < n) & (c % 37 != 0) {
+        return;
+    }
+    let words = 2 * n;
     let so = possible(cards, c, question, f, empty, word(ranks, c));
     if !agrees(so, word(ranks, c)) {
         tally::note(tally, c, question, f, 0, tally::ROUNDS_DIFFER);
         return;
     }
-    fill(area);
     let told = ask(
         image,
         part,
@@ -408,7 +404,7 @@ fn ask_sequence(
         restricted,
         short,
         ranks,
-        area,
+        &mut area[..words],
     );
     tally::note(tally, c, question, f, told.links, told.fault);
 }
@@ -442,10 +438,9 @@ fn ask_sequences(
     empty: &[bool],
     restricted: &[u32],
     short: &[u32],
-    ranks: &mut [u32],
-    area: &mut [u32],
 ) {
-    find_ranks(question, actions, restricted, short, ranks);
+    let mut ranks = [0u32; 256];
+    find_ranks(question, actions, restricted, short, &mut ranks);
     let mut c = 0;
     while c < run.len() {
         let here = c;
@@ -464,8 +459,7 @@ fn ask_sequences(
             empty,
             restricted,
             short,
-            ranks,
-            area,
+            &ranks,
         );
     }
 }
@@ -484,8 +478,6 @@ fn ask_side(
     empty: &[bool],
     restricted: &[u32],
     short: &[u32],
-    ranks: &mut [u32],
-    area: &mut [u32],
 ) {
     let mut k = 0;
     while k < 3 {
@@ -502,15 +494,13 @@ fn ask_side(
             empty,
             restricted,
             short,
-            ranks,
-            area,
         );
         k += 1;
     }
 }
 
 // Asks the questions of the last side, over the domains of Algorithm 5.
-fn ask_last(
+fn ask_last_over(
     tally: &mut [u64],
     image: &[u32],
     part: &[u32],
@@ -519,12 +509,10 @@ fn ask_last(
     f: u32,
     actions: &[u32],
     run: &[bool],
-    empty: &mut [bool],
     domain: &[u32],
     restricted: &mut [u32],
+    empty: &mut [bool],
     short: &mut [u32],
-    ranks: &mut [u32],
-    area: &mut [u32],
 ) {
     effects::curtail(domain, actions, restricted, empty, short);
     ask_side(
@@ -540,13 +528,11 @@ fn ask_last(
         empty,
         restricted,
         short,
-        ranks,
-        area,
     );
 }
 
-// Asks the questions of the first side, over the domains of Algorithm 6.
-fn ask_first(
+// The same, over working space of its own.
+fn ask_last(
     tally: &mut [u64],
     image: &[u32],
     part: &[u32],
@@ -555,12 +541,45 @@ fn ask_first(
     f: u32,
     actions: &[u32],
     run: &[bool],
-    empty: &mut [bool],
+    domain: &[u32],
+) {
+    let mut restricted = [0u32; 8192];
+    let mut short = [0u32; 8192];
+    let mut empty = [false; 256];
+    let n = domain.len();
+    if 8192 < n {
+        return;
+    }
+    ask_last_over(
+        tally,
+        image,
+        part,
+        places,
+        cards,
+        f,
+        actions,
+        run,
+        domain,
+        &mut restricted[..n],
+        &mut empty,
+        &mut short[..n],
+    );
+}
+
+// Asks the questions of the first side, over the domains of Algorithm 6.
+fn ask_first_over(
+    tally: &mut [u64],
+    image: &[u32],
+    part: &[u32],
+    places: &[usize],
+    cards: &[u64],
+    f: u32,
+    actions: &[u32],
+    run: &[bool],
     domain: &[u32],
     restricted: &mut [u32],
+    empty: &mut [bool],
     short: &mut [u32],
-    ranks: &mut [u32],
-    area: &mut [u32],
 ) {
     preconditions::curtail(domain, actions, restricted, empty, short);
     ask_side(
@@ -576,12 +595,11 @@ fn ask_first(
         empty,
         restricted,
         short,
-        ranks,
-        area,
     );
 }
 
-fn ask_sides(
+// The same, over working space of its own.
+fn ask_first(
     tally: &mut [u64],
     image: &[u32],
     part: &[u32],
@@ -590,14 +608,16 @@ fn ask_sides(
     f: u32,
     actions: &[u32],
     run: &[bool],
-    empty: &mut [bool],
     domain: &[u32],
-    restricted: &mut [u32],
-    short: &mut [u32],
-    ranks: &mut [u32],
-    area: &mut [u32],
 ) {
-    ask_last(
+    let mut restricted = [0u32; 8192];
+    let mut short = [0u32; 8192];
+    let mut empty = [false; 256];
+    let n = domain.len();
+    if 8192 < n {
+        return;
+    }
+    ask_first_over(
         tally,
         image,
         part,
@@ -606,28 +626,10 @@ fn ask_sides(
         f,
         actions,
         run,
-        empty,
         domain,
-        restricted,
-        short,
-        ranks,
-        area,
-    );
-    ask_first(
-        tally,
-        image,
-        part,
-        places,
-        cards,
-        f,
-        actions,
-        run,
-        empty,
-        domain,
-        restricted,
-        short,
-        ranks,
-        area,
+        &mut restricted[..n],
+        &mut empty,
+        &mut short[..n],
     );
 }
 
@@ -641,35 +643,16 @@ fn ask_fact(
     cards: &[u64],
     facts: u32,
     f: u32,
-    actions: &mut [u32],
     run: &[bool],
-    empty: &mut [bool],
     domain: &[u32],
-    restricted: &mut [u32],
-    short: &mut [u32],
-    ranks: &mut [u32],
-    area: &mut [u32],
 ) {
+    let mut actions = [0u32; 1024];
     if (4 < facts) & (f % 21 != 0) {
         return;
     }
-    read_actions(steps, f, actions);
-    ask_sides(
-        tally,
-        image,
-        part,
-        places,
-        cards,
-        f,
-        actions,
-        run,
-        empty,
-        domain,
-        restricted,
-        short,
-        ranks,
-        area,
-    );
+    read_actions(steps, f, &mut actions);
+    ask_last(tally, image, part, places, cards, f, &actions, run, domain);
+    ask_first(tally, image, part, places, cards, f, &actions, run, domain);
 }
 
 // Asks all questions about a library whose cards the second engine has written.
@@ -681,14 +664,8 @@ pub fn ask_facts(
     places: &[usize],
     cards: &[u64],
     facts: u32,
-    actions: &mut [u32],
     run: &[bool],
-    empty: &mut [bool],
     domain: &[u32],
-    restricted: &mut [u32],
-    short: &mut [u32],
-    ranks: &mut [u32],
-    area: &mut [u32],
 ) {
     let mut f = 0;
     while f < facts {
@@ -703,14 +680,8 @@ pub fn ask_facts(
             cards,
             facts,
             here,
-            actions,
             run,
-            empty,
             domain,
-            restricted,
-            short,
-            ranks,
-            area,
         );
     }
 }

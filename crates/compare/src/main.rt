@@ -21,6 +21,8 @@
 //   chain, a link with one link more after it is taken (`t.rank <= k + 1`): a link's entry is no step with the touch, 7,329
 //   chain, a link is taken though a later entry touches (`quiet <= next` left out): a link does not stand, 7,828
 //   chain, a rank that an entry behind should rule out is kept (`least(best, ..)`): a chain, and no run has the outcome, 11,596
+// Two more gave no report: bits above F in the outcome table (`facts - facts`), which show in no card and no chain, ran with 0 differences; the
+// empty-run flag written for "untouched" (`table[at + 4] = r.empty`) makes an engine that does not end, and this program with it.
 mod ask;
 mod library;
 mod links;

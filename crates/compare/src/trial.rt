@@ -104,14 +104,8 @@ fn try_chains(
     seconds: &[u64],
     facts: u32,
     run: &mut [bool],
-    empty: &mut [bool],
     domain: &mut [u32],
-    restricted: &mut [u32],
-    short: &mut [u32],
-    ranks: &mut [u32],
-    area: &mut [u32],
 ) {
-    let mut actions = [0u32; 1024];
     let mut places = [0usize; 256];
     terminating(part, run, domain);
     write_places(part, &mut places);
@@ -123,14 +117,8 @@ fn try_chains(
         &places,
         seconds,
         facts,
-        &mut actions,
         run,
-        empty,
         domain,
-        restricted,
-        short,
-        ranks,
-        area,
     );
 }
 
@@ -140,23 +128,18 @@ fn try_image(tally: &mut [u64], h: Head, image: &[u32])
 {
     let mut seconds = [0u64; 1800];
     let mut domain = [0u32; 8192];
-    let mut restricted = [0u32; 8192];
-    let mut short = [0u32; 8192];
     let mut run = [false; 256];
-    let mut empty = [false; 256];
-    let mut ranks = [0u32; 256];
-    let mut area = [0u32; 512];
     let part = sequences_part(image);
     let n = part.len();
     let c = h.sequences as usize;
-    try_cards(tally, image, h.sequences, &mut seconds);
     if 8192 < n {
         return;
     }
     if 256 < c {
         return;
     }
-    let links = 2 * c;
+    tally::count(tally, tally::SEQUENCES, c as u64);
+    try_cards(tally, image, h.sequences, &mut seconds);
     try_chains(
         tally,
         image,
@@ -165,14 +148,8 @@ fn try_image(tally: &mut [u64], h: Head, image: &[u32])
         &seconds,
         h.facts,
         &mut run[..c],
-        &mut empty[..c],
         &mut domain[..n],
-        &mut restricted[..n],
-        &mut short[..n],
-        &mut ranks[..c],
-        &mut area[..links],
     );
-    tally::count(tally, tally::SEQUENCES, c as u64);
 }
 
 // Tries an image.

@@ -8,10 +8,10 @@ use Rattle.compare.proofs.ask.ask_facts.Statement.{statement}
 use Rattle.compare.proofs.ask.ask_facts.Tie as tie
 
 abbrev Inv-loop : tie.InvT-loop
-Inv-loop tally₀ image steps part places cards facts actions₀ run empty₀ domain restricted₀ short₀ ranks₀ area₀ f₀ tally actions empty restricted short ranks area f = (length tally ≡ length tally₀) × (length actions ≡ length actions₀) × (length empty ≡ length empty₀) × (length restricted ≡ length restricted₀) × (length short ≡ length short₀) × (length ranks ≡ length ranks₀) × (length area ≡ length area₀)
+Inv-loop tally₀ image steps part places cards facts run domain f₀ tally f = length tally ≡ length tally₀
 
 abbrev μ-loop : tie.MeasureT-loop
-μ-loop tally₀ image steps part places cards facts actions₀ run empty₀ domain restricted₀ short₀ ranks₀ area₀ f₀ tally actions empty restricted short ranks area f = facts - f
+μ-loop tally₀ image steps part places cards facts run domain f₀ tally f = facts - f
 
 loop-holds : tie.Need-loop-holds Inv-loop μ-loop
 loop-holds c = search needs
@@ -31,24 +31,6 @@ loop-again c = search needs
 same-length : tie.Need-same-length Inv-loop μ-loop
 same-length c = search needs
 
-same-length-2 : tie.Need-same-length-2 Inv-loop μ-loop
-same-length-2 c = search needs
-
-same-length-3 : tie.Need-same-length-3 Inv-loop μ-loop
-same-length-3 c = search needs
-
-same-length-4 : tie.Need-same-length-4 Inv-loop μ-loop
-same-length-4 c = search needs
-
-same-length-5 : tie.Need-same-length-5 Inv-loop μ-loop
-same-length-5 c = search needs
-
-same-length-6 : tie.Need-same-length-6 Inv-loop μ-loop
-same-length-6 c = search needs
-
-same-length-7 : tie.Need-same-length-7 Inv-loop μ-loop
-same-length-7 c = search needs
-
 returns : tie.Need-returns Inv-loop μ-loop
 returns c = search needs
 
@@ -64,10 +46,4 @@ ask-facts-spec =
     loop-less
     loop-again
     same-length
-    same-length-2
-    same-length-3
-    same-length-4
-    same-length-5
-    same-length-6
-    same-length-7
     returns)

@@ -8,10 +8,13 @@ use Rattle.compare.proofs.ask.ask_sequences.Statement.{statement}
 use Rattle.compare.proofs.ask.ask_sequences.Tie as tie
 
 abbrev Inv-loop : tie.InvT-loop
-Inv-loop tally₀ image part places cards question f actions run empty restricted short ranks area₀ c₀ tally area c = (length tally ≡ length tally₀) × (length area ≡ length area₀)
+Inv-loop tally₀ image part places cards question f actions run empty restricted short ranks c₀ tally c = length tally ≡ length tally₀
 
 abbrev μ-loop : tie.MeasureT-loop
-μ-loop tally₀ image part places cards question f actions run empty restricted short ranks area₀ c₀ tally area c = length run - c
+μ-loop tally₀ image part places cards question f actions run empty restricted short ranks c₀ tally c = length run - c
+
+slice-aggregate-find-ranks : tie.Need-slice-aggregate-find-ranks Inv-loop μ-loop
+slice-aggregate-find-ranks c = search needs
 
 find-ranks-requires : tie.Need-find-ranks-requires Inv-loop μ-loop
 find-ranks-requires c κs = search needs
@@ -21,6 +24,9 @@ loop-holds c = search needs
 
 add-c : tie.Need-add-c Inv-loop μ-loop
 add-c c = search needs
+
+slice-aggregate-ask-sequence : tie.Need-slice-aggregate-ask-sequence Inv-loop μ-loop
+slice-aggregate-ask-sequence c = search needs
 
 ask-sequence-requires : tie.Need-ask-sequence-requires Inv-loop μ-loop
 ask-sequence-requires c κs = search needs
@@ -34,12 +40,6 @@ loop-again c = search needs
 same-length : tie.Need-same-length Inv-loop μ-loop
 same-length c = search needs
 
-same-length-2 : tie.Need-same-length-2 Inv-loop μ-loop
-same-length-2 c = search needs
-
-same-length-3 : tie.Need-same-length-3 Inv-loop μ-loop
-same-length-3 c = search needs
-
 returns : tie.Need-returns Inv-loop μ-loop
 returns c = search needs
 
@@ -49,13 +49,13 @@ ask-sequences-spec =
     (tie.spec
     Inv-loop
     μ-loop
+    slice-aggregate-find-ranks
     find-ranks-requires
     loop-holds
     add-c
+    slice-aggregate-ask-sequence
     ask-sequence-requires
     loop-less
     loop-again
     same-length
-    same-length-2
-    same-length-3
     returns)

@@ -8,10 +8,10 @@ use Rattle.compare.proofs.ask.ask_side.Statement.{statement}
 use Rattle.compare.proofs.ask.ask_side.Tie as tie
 
 abbrev Inv-loop : tie.InvT-loop
-Inv-loop tally₀ image part places cards from f actions run empty restricted short ranks₀ area₀ k₀ tally ranks area k = (length tally ≡ length tally₀) × (length ranks ≡ length ranks₀) × (length area ≡ length area₀)
+Inv-loop tally₀ image part places cards from f actions run empty restricted short k₀ tally k = length tally ≡ length tally₀
 
 abbrev μ-loop : tie.MeasureT-loop
-μ-loop tally₀ image part places cards from f actions run empty restricted short ranks₀ area₀ k₀ tally ranks area k = 3 - k
+μ-loop tally₀ image part places cards from f actions run empty restricted short k₀ tally k = 3 - k
 
 loop-holds : tie.Need-loop-holds Inv-loop μ-loop
 loop-holds c = search needs
@@ -34,12 +34,6 @@ loop-again c = search needs
 same-length : tie.Need-same-length Inv-loop μ-loop
 same-length c = search needs
 
-same-length-2 : tie.Need-same-length-2 Inv-loop μ-loop
-same-length-2 c = search needs
-
-same-length-3 : tie.Need-same-length-3 Inv-loop μ-loop
-same-length-3 c = search needs
-
 returns : tie.Need-returns Inv-loop μ-loop
 returns c = search needs
 
@@ -56,6 +50,4 @@ ask-side-spec =
     loop-less
     loop-again
     same-length
-    same-length-2
-    same-length-3
     returns)

@@ -1,8 +1,8 @@
 -- `compare::trial::try_image` is safe.
 -- Assumes nothing.
-use native.Mathlib.Omega.{arith}
 use mathlib.Core.Path.{sym}
 use lib.Seq.{length-take-le}
+use native.Mathlib.Omega.{arith}
 use borrow.Author.Needs.{needs}
 use Rattle.compare.proofs.trial.try_image.Statement.{statement}
 use Rattle.compare.proofs.trial.try_image.Tie as tie
@@ -13,26 +13,20 @@ sequences-part-requires c κs = search needs
 cast-c : tie.Need-cast-c
 cast-c c = search needs
 
+returns : tie.Need-returns
+returns c = search needs
+
+returns-2 : tie.Need-returns-2
+returns-2 c = search needs
+
+count-requires : tie.Need-count-requires
+count-requires c κs = search needs
+
 slice-aggregate-try-cards : tie.Need-slice-aggregate-try-cards
 slice-aggregate-try-cards c = search needs
 
 try-cards-requires : tie.Need-try-cards-requires
 try-cards-requires c κs = search needs
-
-same-length : tie.Need-same-length
-same-length c = search needs
-
-returns : tie.Need-returns
-returns c = search needs
-
-same-length-2 : tie.Need-same-length-2
-same-length-2 c = search needs
-
-returns-2 : tie.Need-returns-2
-returns-2 c = search needs
-
-mul-links : tie.Need-mul-links
-mul-links c = search needs
 
 steps-part-requires : tie.Need-steps-part-requires
 steps-part-requires c κs = search needs
@@ -46,50 +40,17 @@ array-borrow-prefix-run c = search needs
 slice-aggregate-try-chains-2 : tie.Need-slice-aggregate-try-chains-2
 slice-aggregate-try-chains-2 c = sym (length-take-le _ _ (omega arith))
 
-array-borrow-prefix-empty : tie.Need-array-borrow-prefix-empty
-array-borrow-prefix-empty c = search needs
+array-borrow-prefix-domain : tie.Need-array-borrow-prefix-domain
+array-borrow-prefix-domain c = search needs
 
 slice-aggregate-try-chains-3 : tie.Need-slice-aggregate-try-chains-3
 slice-aggregate-try-chains-3 c = sym (length-take-le _ _ (omega arith))
 
-array-borrow-prefix-domain : tie.Need-array-borrow-prefix-domain
-array-borrow-prefix-domain c = search needs
-
-slice-aggregate-try-chains-4 : tie.Need-slice-aggregate-try-chains-4
-slice-aggregate-try-chains-4 c = sym (length-take-le _ _ (omega arith))
-
-array-borrow-prefix-restricted : tie.Need-array-borrow-prefix-restricted
-array-borrow-prefix-restricted c = search needs
-
-slice-aggregate-try-chains-5 : tie.Need-slice-aggregate-try-chains-5
-slice-aggregate-try-chains-5 c = sym (length-take-le _ _ (omega arith))
-
-array-borrow-prefix-short : tie.Need-array-borrow-prefix-short
-array-borrow-prefix-short c = search needs
-
-slice-aggregate-try-chains-6 : tie.Need-slice-aggregate-try-chains-6
-slice-aggregate-try-chains-6 c = sym (length-take-le _ _ (omega arith))
-
-array-borrow-prefix-ranks : tie.Need-array-borrow-prefix-ranks
-array-borrow-prefix-ranks c = search needs
-
-slice-aggregate-try-chains-7 : tie.Need-slice-aggregate-try-chains-7
-slice-aggregate-try-chains-7 c = sym (length-take-le _ _ (omega arith))
-
-array-borrow-prefix-area : tie.Need-array-borrow-prefix-area
-array-borrow-prefix-area c = search needs
-
-slice-aggregate-try-chains-8 : tie.Need-slice-aggregate-try-chains-8
-slice-aggregate-try-chains-8 c = sym (length-take-le _ _ (omega arith))
-
 try-chains-requires : tie.Need-try-chains-requires
 try-chains-requires c κs = search needs
 
-count-requires : tie.Need-count-requires
-count-requires c κs = search needs
-
-same-length-3 : tie.Need-same-length-3
-same-length-3 c = search needs
+same-length : tie.Need-same-length
+same-length c = search needs
 
 returns-3 : tie.Need-returns-3
 returns-3 c = search needs
@@ -100,30 +61,17 @@ try-image-spec =
     (tie.spec
     sequences-part-requires
     cast-c
+    returns
+    returns-2
+    count-requires
     slice-aggregate-try-cards
     try-cards-requires
-    same-length
-    returns
-    same-length-2
-    returns-2
-    mul-links
     steps-part-requires
     slice-aggregate-try-chains
     array-borrow-prefix-run
     slice-aggregate-try-chains-2
-    array-borrow-prefix-empty
-    slice-aggregate-try-chains-3
     array-borrow-prefix-domain
-    slice-aggregate-try-chains-4
-    array-borrow-prefix-restricted
-    slice-aggregate-try-chains-5
-    array-borrow-prefix-short
-    slice-aggregate-try-chains-6
-    array-borrow-prefix-ranks
-    slice-aggregate-try-chains-7
-    array-borrow-prefix-area
-    slice-aggregate-try-chains-8
+    slice-aggregate-try-chains-3
     try-chains-requires
-    count-requires
-    same-length-3
+    same-length
     returns-3)
