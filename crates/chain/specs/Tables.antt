@@ -1,5 +1,5 @@
 -- What tables of words say of an entry of an alternative, for the question that is asked: its rank, and whether it passes as one ahead of
--- the position or behind it. `proofs/Described` shows that the tables of an accepted image say what `Ranks` says of its library.
+-- the position or behind it. `proofs/Describes` shows that the tables of an accepted image say what `Ranks` says of its library.
 use Prim.Native.Nat.{ℕ, suc, _+_, _*_, _≤_, _<_}
 use mathlib.Core.Path.{_≡_}
 use mathlib.Core.Bool.{Bool, true, cond}
