@@ -2,7 +2,7 @@
 -- Assumes nothing.
 use Prim.Native.Nat.{ℕ, _≤_}
 use native.Mathlib.Nat.{le-refl}
-use mathlib.Core.Path.{_≡_, refl}
+use mathlib.Core.Path.{_≡_, refl, sym}
 use mathlib.Core.Bool.{Bool, true, false, _&&_, _||_, false≢true}
 use mathlib.Core.Logic.{_⊎_, inl, inr}
 use lib.Dec.{lit≤}
@@ -19,6 +19,22 @@ and-left false b e = absurd (false≢true e)
 pub and-right : (a b : Bool) → a && b ≡ true → b ≡ true
 and-right true b e = e
 and-right false b e = absurd (false≢true e)
+
+pub or-left : (a b : Bool) → a ≡ true → a || b ≡ true
+or-left true b e = refl
+or-left false b e = absurd (false≢true e)
+
+pub or-right : (a b : Bool) → b ≡ true → a || b ≡ true
+or-right true b e = refl
+or-right false b e = e
+
+pub nor-left : (a b : Bool) → a || b ≡ false → a ≡ false
+nor-left true b e = e
+nor-left false b e = refl
+
+pub nor-right : (a b : Bool) → a || b ≡ false → b ≡ false
+nor-right true b e = absurd (false≢true (sym e))
+nor-right false b e = e
 
 pub or-cases : (a b : Bool) → a || b ≡ true → (a ≡ true) ⊎ (b ≡ true)
 or-cases true b e = inl refl

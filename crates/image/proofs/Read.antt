@@ -10,7 +10,7 @@ use lib.Dec.{leb, eqb}
 use lib.Seq.{length-take-le, drop-cons}
 use borrow.Author.Tests.{le-leb, lt-leb, eqb-true, ne-eqb}
 use Rattle.image.specs.Word.{kind, isKind, sumRight, headOf, headRight}
-use Rattle.image.specs.Rules.{opened, lastOf, earlier}
+use Rattle.image.specs.Rules.{Counts, opened, lastOf, earlier}
 use Rattle.image.specs.Checked.{scan, allButLast, between, firstWord, lastWord, checked}
 use Rattle.image.specs.Walk.{walk, opening, resume, Left, StepsRead}
 use Rattle.image.specs.declared.answer.Head.{Head}
@@ -33,6 +33,9 @@ module _ (h : Head) (first : ℕ) (part : List ℕ) (r : Steps) (read : StepsRea
 
   pub stopped-within : (e : Earlier) (i : ℕ) → r ≡ steps.End e i → (i ≤ length part) × (e .steps ≤ i) × (e .sequences ≤ i)
   stopped-within e i q = subst (Left part) q (read .left)
+
+pub head-counts : (w : ℕ) → Counts (headOf w)
+head-counts w = record { steps = omega arith; sequences = omega arith }
 
 -- the head opens nothing
 not-kind : (k j w : ℕ) → isKind k w ≡ true → (k ≡ j → ⊥) → isKind j w ≡ false

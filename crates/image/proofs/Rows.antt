@@ -16,9 +16,9 @@ use Rattle.column.specs.Column.{column, withFact}
 use Rattle.column.proofs.Bits.{column-with, column-none}
 use Rattle.image.specs.Word.{kind, payload, isKind}
 use Rattle.image.specs.Rules.{opened}
-use Rattle.image.specs.Library.{has, Step, factsFrom, stepsFrom}
+use Rattle.image.specs.Library.{has, Step, factsFrom, stepsFrom, NoneOpens}
 use Rattle.image.specs.Accepted.{All, StepWord, SequenceWord, Numbered}
-use Rattle.image.specs.Tables.{maskOf, masks, placesFrom, masksFrom, withWord, withRow, StepsAsked, SequencesAsked}
+use Rattle.image.specs.Tables.{maskOf, masks, placesFrom, masksFrom, withWord, withRow, NoPlaces, StepsAsked, SequencesAsked}
 use Rattle.image.specs.declared.answer.Head.{Head}
 use Rattle.image.specs.declared.tables.Masks.{Masks}
 use Rattle.image.proofs.Decode.{is, is-not, kind-is, steps-open, steps-skip, facts-here, facts-other, facts-end}
@@ -217,7 +217,45 @@ places-cons : (i w : ℕ) (ws : List ℕ) (b : Bool) → isKind 6 w ≡ b → pl
 unfolding placesFrom
 places-cons i w ws b e = ap (λ (c : Bool). cond c (i ∷ placesFrom (suc i) ws) (placesFrom (suc i) ws)) e
 
+module _ (part : List ℕ) (j : ℕ) (l : j < length part) where
+  past-opener : (b : Bool) → isKind 6 (getD part j 0) ≡ b → opened 6 (take (suc j) part) ≡ opened 6 (take j part) + boolByte b
+  past-opener b e = opened-take 6 j part l ∙ ap (λ (c : Bool). opened 6 (take j part) + boolByte c) e
+
+  places-drop : (b : Bool) → isKind 6 (getD part j 0) ≡ b
+      → placesFrom j (drop j part) ≡ cond b (j ∷ placesFrom (suc j) (drop (suc j) part)) (placesFrom (suc j) (drop (suc j) part))
+  places-drop b e = ap (placesFrom j) (drop-cons part j 0 l) ∙ places-cons j (getD part j 0) (drop (suc j) part) b e
+
+  pub none-here : isKind 6 (getD part j 0) ≡ false → NoPlaces part j (suc j)
+  none-here e = record { low = omega arith; opened = omega (arith, past-opener false e); places = places-drop false e }
+
+pub none-start : (part : List ℕ) (i : ℕ) → NoPlaces part i i
+none-start part i = record { low = omega arith; opened = refl; places = refl }
+
+pub none-both : (part : List ℕ) (i k end : ℕ) → NoPlaces part i k → NoPlaces part k end → NoPlaces part i end
+none-both part i k end low high =
+    record { low = omega (arith, low .low, high .low); opened = low .opened ∙ high .opened; places = low .places ∙ high .places }
+
+pub none-four : (part : List ℕ) (i end : ℕ) → 4 ≤ i → i ≤ length part → NoneOpens part (i - 4) → NoPlaces part i end → NoPlaces part (i - 4) end
+none-four part i end four l none after =
+    let next : (j k : ℕ) → j < length part → suc j ≡ k → isKind 6 (getD part j 0) ≡ false → NoPlaces part k end → NoPlaces part j end
+    = λ j k lt e shut. none-both part j k end (subst (NoPlaces part j) e (none-here part j lt shut)) in
+    next (i - 4) (i - 4 + 1) (omega arith) (omega arith) (none .first)
+    (next (i - 4 + 1) (i - 4 + 2) (omega arith) (omega arith) (none .second)
+    (next (i - 4 + 2) (i - 4 + 3) (omega arith) (omega arith) (none .third)
+    (next (i - 4 + 3) i (omega arith) (omega arith) (none .fourth) after)))
+
 module _ (part area₀ : List ℕ) where
+  -- words that open no sequence leave the area as it is
+  pub places-pass : (area : List ℕ) (i end : ℕ) → NoPlaces part i end → PlacesAt part area₀ area end → PlacesAt part area₀ area i
+  places-pass area i end none at =
+      record {
+        within = omega (arith, none .low, at .within);
+        written =
+            at .written
+            ∙ ap₂ (λ (k : ℕ) (ps : List ℕ). take k area₀ ++ (ps ++ drop (opened 6 part) area₀)) (sym (none .opened)) (sym (none .places));
+        long = at .long;
+      }
+
   pub places-start : PlacesAt part area₀ area₀ (length part)
   unfolding placesFrom
   places-start =
@@ -228,26 +266,11 @@ module _ (part area₀ : List ℕ) where
       }
 
   module _ (h : Head) (asked : SequencesAsked h part area₀) (area : List ℕ) (j : ℕ) (l : j < length part) (at : PlacesAt part area₀ area (suc j)) where
-    past-opener : (b : Bool) → isKind 6 (getD part j 0) ≡ b → opened 6 (take (suc j) part) ≡ opened 6 (take j part) + boolByte b
-    past-opener b e = opened-take 6 j part l ∙ ap (λ (c : Bool). opened 6 (take j part) + boolByte c) e
-
-    places-drop : (b : Bool) → isKind 6 (getD part j 0) ≡ b
-        → placesFrom j (drop j part) ≡ cond b (j ∷ placesFrom (suc j) (drop (suc j) part)) (placesFrom (suc j) (drop (suc j) part))
-    places-drop b e = ap (placesFrom j) (drop-cons part j 0 l) ∙ places-cons j (getD part j 0) (drop (suc j) part) b e
-
     pub places-skip : isKind 6 (getD part j 0) ≡ false → PlacesAt part area₀ area j
-    places-skip e =
-        let n : opened 6 (take (suc j) part) ≡ opened 6 (take j part) = omega (arith, past-opener false e) in
-        record {
-          within = omega arith;
-          written =
-              at .written
-              ∙ ap₂ (λ (k : ℕ) (ps : List ℕ). take k area₀ ++ (ps ++ drop (opened 6 part) area₀)) n (sym (places-drop false e));
-          long = at .long;
-        }
+    places-skip e = places-pass area j (suc j) (none-here part j l e) at
 
     place : isKind 6 (getD part j 0) ≡ true → (payload (getD part j 0) ≡ opened 6 (take j part)) × (opened 6 (take j part) < length area₀)
-    place e = (asked .numbered j l (kind-is 6 (getD part j 0) e), omega (arith, past-opener true e, opened-within 6 (suc j) part, asked .opened, asked .room))
+    place e = (asked .numbered j l (kind-is 6 (getD part j 0) e), omega (arith, past-opener part j l true e, opened-within 6 (suc j) part, asked .opened, asked .room))
 
     pub place-room : isKind 6 (getD part j 0) ≡ true → payload (getD part j 0) < length area
     place-room e = omega (arith, place e, at .long)
@@ -259,9 +282,9 @@ module _ (part area₀ : List ℕ) where
         record {
           within = omega arith;
           written =
-              ap₂ (λ (x : List ℕ) (p : ℕ). set x p j) (at .written ∙ ap (λ (t : ℕ). take t area₀ ++ later) (past-opener true e)) (place e .0)
+              ap₂ (λ (x : List ℕ) (p : ℕ). set x p j) (at .written ∙ ap (λ (t : ℕ). take t area₀ ++ later) (past-opener part j l true e)) (place e .0)
               ∙ put-one area₀ later k j (place e .1)
-              ∙ ap (λ (ps : List ℕ). take k area₀ ++ (ps ++ drop (opened 6 part) area₀)) (sym (places-drop true e));
+              ∙ ap (λ (ps : List ℕ). take k area₀ ++ (ps ++ drop (opened 6 part) area₀)) (sym (places-drop part j l true e));
           long = simp length-set (at .long);
         }
 

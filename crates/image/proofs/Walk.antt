@@ -4,16 +4,16 @@ use Prim.Native.Nat.{ℕ, suc, _+_, _≤_, _<_}
 use native.Mathlib.Nat.{add-suc, add-zero}
 use native.Mathlib.Omega.{arith}
 use native.Mathlib.Numerals.{add-one}
-use mathlib.Core.Path.{_≡_, refl, sym, ap, ap₂, _∙_}
+use mathlib.Core.Path.{_≡_, refl, sym, ap, ap₂, _∙_, subst}
 use mathlib.Core.List.{List, [], _∷_, _++_}
 use lib.ListN.{length, getD, drop, length-append}
 use mathlib.Core.Bool.{true}
 use mir.Val.{boolByte}
 use lib.Seq.{drop-cons, drop-length}
 use Rattle.image.specs.Word.{isKind}
-use Rattle.image.specs.Rules.{opened, lastOf, earlier, bodyRight, faultAt}
+use Rattle.image.specs.Rules.{opened, lastOf, earlier, bodyRight, insideRight, factAbove, faultAt}
 use Rattle.image.specs.Checked.{atWord, scan}
-use Rattle.image.specs.Walk.{after, ended, walk, withLast, BodyRead}
+use Rattle.image.specs.Walk.{after, ended, walk, withLast, BodyRead, inAlternative, FourRight}
 use Rattle.image.specs.declared.answer.Head.{Head}
 use Rattle.image.specs.declared.answer.Refusal.{Refusal}
 use Rattle.image.specs.declared.answer.Checked.{Checked}
@@ -23,7 +23,7 @@ use Rattle.image.specs.declared.rules.Earlier.{Earlier}
 use Rattle.image.specs.declared.rules.Fault.{Fault}
 use Rattle.image.specs.declared.rules.Fault.the-variants.{Found, Nothing}
 use Rattle.image.proofs.Bools.{byte-le}
-use Rattle.image.proofs.Right.{body-faultless, body-after}
+use Rattle.image.proofs.Right.{Passing, body-passing, body-follows, inside-body, Above, above-fact, fact-passing}
 
 walk-drop : (h : Head) (e : Earlier) (p i : ℕ) (ws : List ℕ) → i < length ws
     → walk h e p (drop i ws) ≡ atWord (faultAt h e p (getD ws i 0)) (walk h (after e (getD ws i 0)) (p + 1) (drop (i + 1) ws))
@@ -64,17 +64,20 @@ module _ (h : Head) (e₀ : Earlier) (p₀ : ℕ) (part : List ℕ) where
   unfolding walk
   reading-end e i l r = sym (ap (walk h e (p₀ + i)) (ap (λ (n : ℕ). drop n part) l ∙ drop-length part)) ∙ r .same
 
--- ---- a sequence's words
+-- ---- a step's or a sequence's words
 
--- what holds at the head of the loop over them
+-- what holds at the head of a loop over them
 pub record Skipping (h : Head) (part : List ℕ) (e : Earlier) (at last i : ℕ) : Type 0 where
   pub low : at ≤ i
   pub within : i ≤ length part
   pub same : (p : ℕ) → walk h e (p + at) (drop at part) ≡ walk h (withLast e last) (p + i) (drop i part)
 
-pub skipping-turn : (h : Head) (part : List ℕ) (e : Earlier) (at last i : ℕ) → i < length part → bodyRight h e last (getD part i 0) ≡ true
+pub skipping-start : (h : Head) (part : List ℕ) (e : Earlier) (at : ℕ) → at ≤ length part → Skipping h part e at (e .last) at
+skipping-start h part e at l = record { low = omega arith; within = l; same = λ p. refl }
+
+pub skipping-turn : (h : Head) (part : List ℕ) (e : Earlier) (at last i : ℕ) → i < length part → Passing h e last (getD part i 0)
     → Skipping h part e at last i → Skipping h part e at (getD part i 0) (i + 1)
-skipping-turn h part e at last i l right here =
+skipping-turn h part e at last i l passing here =
     record {
       low = omega (arith, here .low);
       within = omega arith;
@@ -82,9 +85,60 @@ skipping-turn h part e at last i l right here =
           let w = getD part i 0 in
           let next : p + i + 1 ≡ p + (i + 1) = omega arith in
           here .same p ∙ walk-drop h (withLast e last) (p + i) i part l
-          ∙ ap (λ (f : Fault). atWord f (walk h (after (withLast e last) w) (p + i + 1) (drop (i + 1) part))) (sym (body-faultless h e last w right (p + i)))
-          ∙ ap₂ (λ (x : Earlier) (n : ℕ). walk h x n (drop (i + 1) part)) (body-after h e last w right) next;
+          ∙ ap (λ (f : Fault). atWord f (walk h (after (withLast e last) w) (p + i + 1) (drop (i + 1) part))) (sym (passing .faultless (p + i)))
+          ∙ ap₂ (λ (x : Earlier) (n : ℕ). walk h x n (drop (i + 1) part)) (passing .opens) next;
     }
+
+-- words that another reader passed by, from the loop's place on
+pub skipping-read : (h : Head) (part : List ℕ) (e : Earlier) (at last i : ℕ) (r : Body) → Skipping h part e at last i
+    → BodyRead h part (withLast e last) i r → Skipping h part e at (r .last) (r .next)
+skipping-read h part e at last i r here read =
+    record { low = omega (arith, here .low, read .low); within = read .within; same = λ p. here .same p ∙ read .same p }
+
+pub skipping-stop : (h : Head) (part : List ℕ) (e : Earlier) (at last i : ℕ) → Skipping h part e at last i
+    → BodyRead h part e at (record { last = last; next = i })
+skipping-stop h part e at last i here = record { low = here .low; within = here .within; same = here .same }
+
+-- the loop over a step's fact words, of which each must be above `low`
+pub record Facts (h : Head) (part : List ℕ) (last at l low i : ℕ) : Type 0 where
+  pub read : (e : Earlier) → Skipping h part (withLast e last) at l i
+  pub above : Above l low
+
+pub facts-turn : (h : Head) (part : List ℕ) (last at l low i : ℕ) → i < length part → factAbove h low (getD part i 0) ≡ true
+    → Facts h part last at l low i → Facts h part last at (getD part i 0) (getD part i 0) (i + 1)
+facts-turn h part last at l low i lt right here =
+    let w = getD part i 0 in
+    record {
+      read = λ e. skipping-turn h part (withLast e last) at l i lt (fact-passing h l low w (here .above) right (withLast e last)) (here .read e);
+      above = above-fact h l low w (here .above) right;
+    }
+
+-- the loop over a sequence's words, four at a time
+pub record Fours (h : Head) (part : List ℕ) (last at l i : ℕ) : Type 0 where
+  pub read : (e : Earlier) → 0 < e .sequences → Skipping h part (withLast e last) at l i
+  pub follows : inAlternative l ≡ true
+
+module _ (h : Head) (part : List ℕ) (last at : ℕ) where
+  one-turn : (l i j : ℕ) → i < length part → i + 1 ≡ j → insideRight h (getD part i 0) ≡ true
+      → Fours h part last at l i → Fours h part last at (getD part i 0) j
+  one-turn l i j lt next right here =
+      let w = getD part i 0 in
+      let body : (e : Earlier) → 0 < e .sequences → bodyRight h e l w ≡ true = λ e opened. inside-body h e l w opened (here .follows) right in
+      let one : Earlier = record { steps = 0; sequences = 1; last = l } in
+      record {
+        read = λ e opened.
+            subst (Skipping h part (withLast e last) at w) next
+            (skipping-turn h part (withLast e last) at l i lt (body-passing h (withLast e last) l w (body (withLast e last) opened)) (here .read e opened));
+        follows = body-follows h one l w (body one (omega arith));
+      }
+
+  pub fours-turn : (l i : ℕ) → i + 4 ≤ length part → FourRight h part i → Fours h part last at l i
+      → Fours h part last at (getD part (i + 3) 0) (i + 4)
+  fours-turn l i lt right here =
+      one-turn (getD part (i + 2) 0) (i + 3) (i + 4) (omega arith) (omega arith) (right .fourth)
+      (one-turn (getD part (i + 1) 0) (i + 2) (i + 3) (omega arith) (omega arith) (right .third)
+      (one-turn (getD part i 0) (i + 1) (i + 2) (omega arith) (omega arith) (right .second)
+      (one-turn l i (i + 1) (omega arith) refl (right .first) here)))
 
 -- a loop that reads on after them
 pub reading-body : (h : Head) (e₀ : Earlier) (p₀ : ℕ) (part : List ℕ) (e : Earlier) (i : ℕ) (r : Body) → Reading h e₀ p₀ part e i

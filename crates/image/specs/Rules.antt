@@ -66,7 +66,7 @@ faultAt h e p w =
 
 -- A word that is right by the rules of its kind alone has no fault: `proofs/Right` proves it. An entry after a kind 7 or another entry
 -- that names what the head counts; an alternative's opener after the first sequence's; the next step's opener before the first
--- sequence's; a fact after a step's opener, or greater than the fact word before it
+-- sequence's; the next sequence's opener after all steps; a fact after a step's opener, or greater than the fact word before it
 abbrev pub entryRight : Head → ℕ → ℕ → Bool
 entryRight h last w =
     (isKind 7 last || isEntry last) && (isKind 8 w && ltb (payload w) (h .steps) || isKind 9 w && ltb (payload w) (h .sequences))
@@ -80,5 +80,21 @@ bodyRight h e last w = entryRight h last w || alternativeRight e w
 abbrev pub stepRight : Head → Earlier → ℕ → Bool
 stepRight h e w = isKind 5 w && eqb (e .sequences) 0 && eqb (payload w) (e .steps) && ltb (payload w) (h .steps)
 
+abbrev pub sequenceRight : Head → Earlier → ℕ → Bool
+sequenceRight h e w = isKind 6 w && leb (h .steps) (e .steps) && eqb (payload w) (e .sequences) && ltb (payload w) (h .sequences)
+
 abbrev pub factRight : Head → ℕ → ℕ → Bool
 factRight h last w = isFact w && ltb (payload w) (h .facts) && (isKind 5 last || isFact last && ltb last w)
+
+-- the same where what a fact word is held against is a number: the fact word before it, or 0 after a step's opener
+abbrev pub factAbove : Head → ℕ → ℕ → Bool
+factAbove h low w = isFact w && ltb (payload w) (h .facts) && ltb low w
+
+-- an entry or an alternative's opener, where the word before is one too
+abbrev pub insideRight : Head → ℕ → Bool
+insideRight h w = isKind 8 w && ltb (payload w) (h .steps) || isKind 9 w && ltb (payload w) (h .sequences) || eqb w (7 * 2 ^ 28)
+
+-- what the head counts is below what a payload may be
+pub record Counts (h : Head) : Type 0 where
+  pub steps : h .steps < 2 ^ 28
+  pub sequences : h .sequences < 2 ^ 28

@@ -3,7 +3,7 @@ use Prim.Native.Nat.{ℕ, suc, _+_, _*_, _≤_, _<_}
 use mathlib.Core.Path.{_≡_}
 use mathlib.Core.Bool.{cond}
 use mathlib.Core.List.{List, [], _∷_}
-use lib.ListN.{length, set}
+use lib.ListN.{length, take, drop, set}
 use Rattle.column.specs.Column.{column, withFact}
 use Rattle.image.specs.Word.{payload, isKind}
 use Rattle.image.specs.Rules.{opened}
@@ -59,3 +59,9 @@ withWord m w =
 -- the area with three words from index j on
 abbrev pub withRow : List ℕ → ℕ → Masks → List ℕ
 withRow area j m = set (set (set area j (m .needs)) (j + 1) (m .sets)) (j + 2) (m .clears)
+
+-- from index i up to and without `end` no sequence is opened
+pub record NoPlaces (part : List ℕ) (i end : ℕ) : Type 0 where
+  pub low : i ≤ end
+  pub opened : opened 6 (take i part) ≡ opened 6 (take end part)
+  pub places : placesFrom i (drop i part) ≡ placesFrom end (drop end part)

@@ -1,14 +1,14 @@
 -- The scan of `Checked` in the form that a loop follows: in place of the words before a word it carries what the rules ask of
 -- them, and the position. Readers of document 01 need not look at it: `Laws` proves that it is the scan.
-use Prim.Native.Nat.{ℕ, suc, _+_, _≤_}
+use Prim.Native.Nat.{ℕ, suc, _+_, _≤_, _<_}
 use mathlib.Core.Path.{_≡_}
-use lib.ListN.{length, drop}
-use mathlib.Core.Bool.{cond, _||_}
+use lib.ListN.{length, getD, drop}
+use mathlib.Core.Bool.{Bool, true, cond, _||_}
 use mathlib.Core.List.{List, [], _∷_}
 use lib.Dec.{ltb}
 use mir.Val.{boolByte}
-use Rattle.image.specs.Word.{isKind}
-use Rattle.image.specs.Rules.{faultAt}
+use Rattle.image.specs.Word.{isKind, isEntry}
+use Rattle.image.specs.Rules.{insideRight, faultAt}
 use Rattle.image.specs.Checked.{atWord}
 use Rattle.image.specs.declared.answer.Head.{Head}
 use Rattle.image.specs.declared.answer.Refusal.the-variants.{Missing}
@@ -54,8 +54,27 @@ pub record StepsRead (h : Head) (first : ℕ) (part : List ℕ) (r : Steps) : Ty
 abbrev pub withLast : Earlier → ℕ → Earlier
 withLast e last = record { steps = e .steps; sequences = e .sequences; last = last }
 
--- what the reader of a sequence's words promises: the answer from where it stopped is the answer from where it began
+-- what a reader of a step's or a sequence's words promises: the answer from where it stopped is the answer from where it began
 pub record BodyRead (h : Head) (part : List ℕ) (e : Earlier) (at : ℕ) (r : Body) : Type 0 where
   pub low : at ≤ r .next
   pub within : r .next ≤ length part
   pub same : (p : ℕ) → walk h e (p + at) (drop at part) ≡ walk h (withLast e (r .last)) (p + r .next) (drop (r .next) part)
+
+-- the same of a step's fact words after the word `last`, whatever was opened before
+abbrev pub FactsRead : Head → List ℕ → ℕ → ℕ → Body → Type 0
+FactsRead h part last at r = (e : Earlier) → BodyRead h part (withLast e last) at r
+
+-- the same of a sequence's words after the word `last`
+abbrev pub FoursRead : Head → List ℕ → ℕ → ℕ → Body → Type 0
+FoursRead h part last at r = (e : Earlier) → 0 < e .sequences → BodyRead h part (withLast e last) at r
+
+-- an alternative's opener or an entry: what an entry may follow
+abbrev pub inAlternative : ℕ → Bool
+inAlternative w = isKind 7 w || isEntry w
+
+-- the four words from index i on are right within an alternative
+pub record FourRight (h : Head) (part : List ℕ) (i : ℕ) : Type 0 where
+  pub first : insideRight h (getD part i 0) ≡ true
+  pub second : insideRight h (getD part (i + 1) 0) ≡ true
+  pub third : insideRight h (getD part (i + 2) 0) ≡ true
+  pub fourth : insideRight h (getD part (i + 3) 0) ≡ true

@@ -3,9 +3,8 @@ use crate::answer::Head;
 use crate::answer::Refusal;
 ghost use mathlib.Core.Path.{_≡_};
 ghost use mathlib.Core.Bool.{true};
-ghost use Prim.Native.Nat.{ℕ, _+_, _<_};
-ghost use Rattle.image.specs.Rules.{mayStand, payloadRight, inOrder, entryRight, alternativeRight, bodyRight, stepRight, factRight, faultAt};
-ghost use Rattle.image.specs.declared.rules.Fault.the-variants.{Nothing};
+ghost use Prim.Native.Nat.{_+_, _<_};
+ghost use Rattle.image.specs.Rules.{mayStand, payloadRight, inOrder, entryRight, alternativeRight, bodyRight, insideRight, Counts, stepRight, sequenceRight, factAbove, faultAt};
 ghost use Rattle.image.specs.Walk.{after};
 
 // What the rules ask of the words before a word: how many steps and sequences they open, and the word right before it.
@@ -93,32 +92,32 @@ fn step_right(h: Head, e: Earlier, w: u32) -> bool
     (k == 5) & (e.sequences == 0) & (p == e.steps) & (p < h.steps)
 }
 
-// Whether a word of kind 2, 3 or 4 is right.
-fn fact_right(h: Head, last: u32, w: u32) -> bool
-    ensures { λ r. ⌜ r ≡ factRight h last w ⌝ }
+// Whether a word of kind 6 is right.
+fn sequence_right(h: Head, e: Earlier, w: u32) -> bool
+    ensures { λ r. ⌜ r ≡ sequenceRight h e w ⌝ }
 {
     let k = w / 268435456;
     let p = w % 268435456;
-    let l = last / 268435456;
-    ((k == 2) | (k == 3) | (k == 4))
-        & (p < h.facts)
-        & ((l == 5) | (((l == 2) | (l == 3) | (l == 4)) & (last < w)))
+    (k == 6) & (h.steps <= e.steps) & (p == e.sequences) & (p < h.sequences)
 }
 
-// Whether a word is seen to be right by the rules of its kind alone. An opener of a sequence is left to all rules.
-fn seen_right(h: Head, e: Earlier, w: u32) -> bool
-    ensures { λ r. ⌜ ((p : ℕ) → r ≡ true → Nothing ≡ faultAt h e p w) ⌝ }
+// Whether a word is a fact word of a fact that the head counts, and greater than `low`.
+pub fn fact_above(h: Head, low: u32, w: u32) -> bool
+    ensures { λ r. ⌜ r ≡ factAbove h low w ⌝ }
 {
-    if 2147483648 <= w {
-        return entry_right(h, e.last, w);
-    }
-    if 1879048192 <= w {
-        return alternative_right(e, w);
-    }
-    if 1342177280 <= w {
-        return step_right(h, e, w);
-    }
-    fact_right(h, e.last, w)
+    let k = w / 268435456;
+    let p = w % 268435456;
+    ((k == 2) | (k == 3) | (k == 4)) & (p < h.facts) & (low < w)
+}
+
+// Whether a word of kind 7, 8 or 9 is right after another such word. Counts below 2^28 leave a kind's payloads in one range of numbers.
+pub fn inside_right(h: Head, w: u32) -> bool
+    requires { ⌜ Counts h ⌝ }
+    ensures { λ r. ⌜ (r ≡ true → insideRight h w ≡ true) ⌝ }
+{
+    let step = std::num::wrapping_add_u32(w, 2147483648);
+    let sequence = std::num::wrapping_add_u32(w, 1879048192);
+    (step < h.steps) | (sequence < h.sequences) | (w == 1879048192)
 }
 
 // The lowest refusal of 4 to 6 that a word at position `p` meets, by each rule.
@@ -137,11 +136,21 @@ fn first_fault(h: Head, e: Earlier, p: u32, w: u32) -> Fault
     Fault::Nothing
 }
 
-// The lowest refusal of 4 to 6 that a word at position `p` meets.
-pub fn fault_at(h: Head, e: Earlier, p: u32, w: u32) -> Fault
+// The lowest refusal of 4 to 6 that a word at position `p` meets, quickly where it opens the next step.
+pub fn step_fault(h: Head, e: Earlier, p: u32, w: u32) -> Fault
     ensures { λ r. ⌜ r ≡ faultAt h e p w ⌝ }
 {
-    if seen_right(h, e, w) {
+    if step_right(h, e, w) {
+        return Fault::Nothing;
+    }
+    first_fault(h, e, p, w)
+}
+
+// The lowest refusal of 4 to 6 that a word at position `p` meets, quickly where it opens the next sequence.
+pub fn sequence_fault(h: Head, e: Earlier, p: u32, w: u32) -> Fault
+    ensures { λ r. ⌜ r ≡ faultAt h e p w ⌝ }
+{
+    if sequence_right(h, e, w) {
         return Fault::Nothing;
     }
     first_fault(h, e, p, w)

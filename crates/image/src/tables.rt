@@ -1,6 +1,7 @@
 // Tables made of the parts of an accepted image, in lent areas: the steps' masks, and where each sequence stands. Both are written from the
 // last word to the first, since a step's facts stand after its opener.
 use crate::answer::Head;
+use crate::parts::none_opens;
 use crate::word::is_kind;
 use crate::word::payload_of;
 ghost use mathlib.Core.Path.{_≡_};
@@ -9,7 +10,7 @@ ghost use Prim.Native.Nat.{_+_, _*_, _≤_, _<_};
 ghost use lib.ListN.{length, drop};
 ghost use Rattle.image.specs.Word.{payload};
 ghost use Rattle.image.specs.Library.{stepsFrom};
-ghost use Rattle.image.specs.Tables.{masks, placesFrom, withWord, withRow, StepsAsked, SequencesAsked};
+ghost use Rattle.image.specs.Tables.{masks, placesFrom, withWord, withRow, NoPlaces, StepsAsked, SequencesAsked};
 
 // What a step needs, sets and clears, a bit a fact.
 pub struct Masks {
@@ -83,6 +84,21 @@ pub fn write_masks(h: Head, part: &[u32], area: &mut [u64])
     }
 }
 
+// Passes words from index `end` back, by fours of which none opens a sequence.
+fn pass_back(part: &[u32], end: usize) -> usize
+    requires { ⌜ end ≤ length (now part) ⌝ }
+    ensures { λ r. ⌜ NoPlaces (now (part .entry)) r end ⌝ }
+{
+    let mut i = end;
+    while 4 <= i {
+        if !none_opens(part, i - 4) {
+            return i;
+        }
+        i -= 4;
+    }
+    i
+}
+
 // Writes where each sequence of the sequences' part stands: the index of its opener. Words past them stay.
 pub fn write_places(h: Head, part: &[u32], area: &mut [u32])
     requires { ⌜ SequencesAsked h (now part) (now area) ⌝ }
@@ -90,10 +106,11 @@ pub fn write_places(h: Head, part: &[u32], area: &mut [u32])
 {
     let mut i = part.len();
     while 0 < i {
-        i -= 1;
-        let w = part[i];
+        let at = i - 1;
+        let w = part[at];
+        i = pass_back(part, at);
         if is_kind(6, w) {
-            area[payload_of(w) as usize] = i as u32;
+            area[payload_of(w) as usize] = at as u32;
         }
     }
 }

@@ -2,13 +2,14 @@
 -- Assumes nothing.
 use borrow.Author.Needs.{needs}
 use native.Mathlib.Omega.{arith}
-use mathlib.Core.Path.{ap, _∙_}
+use mathlib.Core.Path.{sym, ap, _∙_, subst}
 use Prim.Native.Nat.{_+_, _≤_}
 use lib.ListN.{length, length-drop}
 use Rattle.image.specs.Word.{headOf}
+use Rattle.image.specs.Rules.{Counts}
 use Rattle.image.specs.Walk.{walk, opening}
 use Rattle.image.specs.declared.answer.Head.{Head}
-use Rattle.image.proofs.Read.{stopped-refused, stopped-end, stopped-within}
+use Rattle.image.proofs.Read.{head-counts, stopped-refused, stopped-end, stopped-within}
 use Rattle.image.proofs.Seam.{whole-rest}
 use Rattle.image.proofs.check.read.Statement.{statement}
 use Rattle.image.proofs.check.read.Tie as tie
@@ -55,7 +56,10 @@ read-sequences-requires : tie.Need-read-sequences-requires
 read-sequences-requires c κs =
     let i = c .before .before .e .given .0 .1 .0 in
     let ws = c .before .before .before .before .before .before .before .args .between .now in
-    rw (whole-rest i ws) (omega (arith, left-within (c .before), length-drop i ws))
+    let stopped = c .before .before .before .before in
+    let counts = subst Counts (sym (stopped .before .head-of .ensures)) (head-counts (stopped .before .before .before .args .first)) in
+    let within = left-within (c .before) in
+    rw (whole-rest i ws) (omega (arith, within, length-drop i ws), omega (arith, within), omega (arith, within), counts)
 
 returns : tie.Need-returns
 returns c =

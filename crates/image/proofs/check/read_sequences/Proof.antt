@@ -14,7 +14,7 @@ use Rattle.image.proofs.check.read_sequences.Lts as lts
 use Rattle.image.proofs.check.ended_at.Reads as ended-at-reads
 use Rattle.image.proofs.check.read_body.Reads as read-body-reads
 use Rattle.image.proofs.check.with_last.Reads as with-last-reads
-use Rattle.image.proofs.rules.fault_at.Reads as fault-at-reads
+use Rattle.image.proofs.rules.sequence_fault.Reads as sequence-fault-reads
 use Rattle.image.proofs.rules.past.Reads as past-reads
 
 abbrev Inv-loop : tie.InvT-loop
@@ -32,14 +32,14 @@ mul-w c = search needs
 shared-slice-read-w : tie.Need-shared-slice-read-w Inv-loop μ-loop
 shared-slice-read-w c = search needs
 
-add-fault-at : tie.Need-add-fault-at Inv-loop μ-loop
-add-fault-at c = search needs
+add-sequence-fault : tie.Need-add-sequence-fault Inv-loop μ-loop
+add-sequence-fault c = search needs
 
-cast-fault-at : tie.Need-cast-fault-at Inv-loop μ-loop
-cast-fault-at c = search needs
+cast-sequence-fault : tie.Need-cast-sequence-fault Inv-loop μ-loop
+cast-sequence-fault c = search needs
 
-fault-at-requires : tie.Need-fault-at-requires Inv-loop μ-loop
-fault-at-requires c κs = search needs
+sequence-fault-requires : tie.Need-sequence-fault-requires Inv-loop μ-loop
+sequence-fault-requires c κs = search needs
 
 enum-known-r : tie.Need-enum-known-r Inv-loop μ-loop
 enum-known-r c = search needs
@@ -51,7 +51,7 @@ returns c =
     let at-loop = judged .before .before .before in
     let a = at-loop .before .before .args in
     reading-refused (a .h) (a .before) (a .at) (a .part .now) (at-loop .loop .e) (at-loop .loop .i) (found .r .given .0 .0)
-    (omega arith) (at-loop .loop .inv) (sym (found .r .given .1) ∙ judged .fault-at .ensures)
+    (omega arith) (at-loop .loop .inv) (sym (found .r .given .1) ∙ judged .sequence-fault .ensures)
 
 enum-told : tie.Need-enum-told Inv-loop μ-loop
 enum-told c = search needs
@@ -83,7 +83,7 @@ loop-again c =
     let w = getD (a .part .now) (at-loop .loop .i) 0 in
     let next =
     reading-turn (a .h) (a .before) (a .at) (a .part .now) (at-loop .loop .e) (at-loop .loop .i) (omega arith) (at-loop .loop .inv)
-    (sym (told .enum-told .given .1) ∙ judged .fault-at .ensures) in
+    (sym (told .enum-told .given .1) ∙ judged .sequence-fault .ensures) in
     rw (c .with-last .ensures, read .before .past .ensures)
     (reading-body (a .h) (a .before) (a .at) (a .part .now) (after (at-loop .loop .e) w) (at-loop .loop .i + 1) (read .read-body .result) next
     (rw (read .before .past .ensures) at (read .read-body .ensures)))
@@ -113,9 +113,9 @@ read-sequences-spec =
     loop-holds
     mul-w
     shared-slice-read-w
-    add-fault-at
-    cast-fault-at
-    fault-at-requires
+    add-sequence-fault
+    cast-sequence-fault
+    sequence-fault-requires
     enum-known-r
     returns
     enum-told

@@ -1,15 +1,17 @@
+-- `image::check::read_steps` meets its contract: the answer from here is the answer from the part's start.
+-- Assumes nothing.
 use borrow.Author.Needs.{needs}
 use native.Mathlib.Omega.{arith}
-use Prim.Native.Nat.{_-_}
+use Prim.Native.Nat.{_+_, _-_}
 use mathlib.Core.Path.{sym, _∙_}
-use lib.ListN.{length}
-use Rattle.image.specs.Walk.{opening}
-use Rattle.image.proofs.Walk.{Reading, reading-start, reading-turn, reading-refused, reading-end}
+use lib.ListN.{length, getD}
+use Rattle.image.specs.Walk.{opening, after}
+use Rattle.image.proofs.Walk.{Reading, reading-start, reading-turn, reading-refused, reading-body}
 use Rattle.image.proofs.check.read_steps.Statement.{statement}
 use Rattle.image.proofs.check.read_steps.Tie as tie
 use Rattle.image.proofs.check.read_steps.Reads as reads
 use Rattle.image.proofs.check.read_steps.Lts as lts
-use Rattle.image.proofs.rules.fault_at.Reads as fault-at-reads
+use Rattle.image.proofs.rules.step_fault.Reads as step-fault-reads
 use Rattle.image.proofs.rules.past.Reads as past-reads
 use Rattle.image.proofs.word.is_kind.Reads as is-kind-reads
 
@@ -34,14 +36,14 @@ is-kind-requires c κs = search needs
 returns : tie.Need-returns Inv-loop μ-loop
 returns c = search needs
 
-add-fault-at : tie.Need-add-fault-at Inv-loop μ-loop
-add-fault-at c = search needs
+add-step-fault : tie.Need-add-step-fault Inv-loop μ-loop
+add-step-fault c = search needs
 
-cast-fault-at : tie.Need-cast-fault-at Inv-loop μ-loop
-cast-fault-at c = search needs
+cast-step-fault : tie.Need-cast-step-fault Inv-loop μ-loop
+cast-step-fault c = search needs
 
-fault-at-requires : tie.Need-fault-at-requires Inv-loop μ-loop
-fault-at-requires c κs = search needs
+step-fault-requires : tie.Need-step-fault-requires Inv-loop μ-loop
+step-fault-requires c κs = search needs
 
 enum-known-r : tie.Need-enum-known-r Inv-loop μ-loop
 enum-known-r c = search needs
@@ -55,7 +57,7 @@ returns-2 c =
     record {
       same =
           reading-refused (a .h) (opening (a .first)) 1 (a .part .now) (at-loop .loop .e) (at-loop .loop .i) (found .r .given .0 .0)
-          (omega arith) (at-loop .loop .inv) (sym (found .r .given .1) ∙ judged .fault-at .ensures);
+          (omega arith) (at-loop .loop .inv) (sym (found .r .given .1) ∙ judged .step-fault .ensures);
       left = tt;
     }
 
@@ -65,20 +67,35 @@ enum-told c = search needs
 past-requires : tie.Need-past-requires Inv-loop μ-loop
 past-requires c κs = search needs
 
-add-i : tie.Need-add-i Inv-loop μ-loop
-add-i c = search needs
+add-read-facts : tie.Need-add-read-facts Inv-loop μ-loop
+add-read-facts c = search needs
+
+read-facts-requires : tie.Need-read-facts-requires Inv-loop μ-loop
+read-facts-requires c κs = search needs
+
+with-last-requires : tie.Need-with-last-requires Inv-loop μ-loop
+with-last-requires c κs = search needs
 
 loop-less : tie.Need-loop-less Inv-loop μ-loop
-loop-less c = search needs
+loop-less c =
+    let read = c .before in
+    let turn = read .before .before .before .before .before .before .before .before in
+    omega (arith, turn .loop-test .taken, read .read-facts .ensures (turn .before .loop .e) .low)
 
 loop-again : tie.Need-loop-again Inv-loop μ-loop
 loop-again c =
-    let judged = c .before .before .before in
+    let read = c .before in
+    let told = read .before .before in
+    let judged = told .before .before in
     let at-loop = judged .before .before .before .before .before in
     let a = at-loop .before .before .args in
-    rw (c .past .ensures)
-    (reading-turn (a .h) (opening (a .first)) 1 (a .part .now) (at-loop .loop .e) (at-loop .loop .i) (omega arith) (at-loop .loop .inv)
-    (sym (c .before .enum-told .given .1) ∙ judged .fault-at .ensures))
+    let w = getD (a .part .now) (at-loop .loop .i) 0 in
+    let next =
+    reading-turn (a .h) (opening (a .first)) 1 (a .part .now) (at-loop .loop .e) (at-loop .loop .i) (omega arith) (at-loop .loop .inv)
+    (sym (told .enum-told .given .1) ∙ judged .step-fault .ensures) in
+    rw (c .with-last .ensures, read .before .past .ensures)
+    (reading-body (a .h) (opening (a .first)) 1 (a .part .now) (after (at-loop .loop .e) w) (at-loop .loop .i + 1) (read .read-facts .result) next
+    (read .read-facts .ensures (after (at-loop .loop .e) w)))
 
 returns-3 : tie.Need-returns-3 Inv-loop μ-loop
 returns-3 c = search needs
@@ -94,14 +111,16 @@ read-steps-spec =
     shared-slice-read-w
     is-kind-requires
     returns
-    add-fault-at
-    cast-fault-at
-    fault-at-requires
+    add-step-fault
+    cast-step-fault
+    step-fault-requires
     enum-known-r
     returns-2
     enum-told
     past-requires
-    add-i
+    add-read-facts
+    read-facts-requires
+    with-last-requires
     loop-less
     loop-again
     returns-3)

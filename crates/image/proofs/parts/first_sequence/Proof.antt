@@ -5,11 +5,13 @@ use native.Mathlib.Omega.{arith}
 use Prim.Native.Nat.{_-_, _≤_}
 use mathlib.Core.Path.{sym, _∙_}
 use lib.ListN.{length}
-use Rattle.image.proofs.Seam.{Passed, passed-found, passed-turn, passed-end}
+use Rattle.image.specs.Library.{Passed}
+use Rattle.image.proofs.Seam.{passed-found, passed-turn, passed-end}
 use Rattle.image.proofs.parts.first_sequence.Statement.{statement}
 use Rattle.image.proofs.parts.first_sequence.Tie as tie
 use Rattle.image.proofs.parts.first_sequence.Reads as reads
 use Rattle.image.proofs.parts.first_sequence.Lts as lts
+use Rattle.image.proofs.parts.pass_fours.Reads as pass-fours-reads
 use Rattle.image.proofs.word.is_kind.Reads as is-kind-reads
 
 abbrev Inv-loop : tie.InvT-loop
@@ -18,8 +20,11 @@ Inv-loop words i₀ i = (i ≤ length words) × Passed words i
 abbrev μ-loop : tie.MeasureT-loop
 μ-loop words i₀ i = length words - i
 
+pass-fours-requires : tie.Need-pass-fours-requires Inv-loop μ-loop
+pass-fours-requires c κs = search needs
+
 loop-holds : tie.Need-loop-holds Inv-loop μ-loop
-loop-holds c = search needs
+loop-holds c = (c .pass-fours .ensures .within, c .pass-fours .ensures)
 
 mul-is-kind : tie.Need-mul-is-kind Inv-loop μ-loop
 mul-is-kind c = search needs
@@ -33,7 +38,7 @@ is-kind-requires c κs = search needs
 returns : tie.Need-returns Inv-loop μ-loop
 returns c =
     let at-loop = c .before .before .before .before in
-    passed-found (at-loop .before .before .args .words .now) (at-loop .loop .i) (omega arith) (at-loop .loop .inv .1)
+    passed-found (at-loop .before .before .before .args .words .now) (at-loop .loop .i) (omega arith) (at-loop .loop .inv .1)
     (sym (c .before .is-kind .ensures) ∙ c .if1 .taken)
 
 add-i : tie.Need-add-i Inv-loop μ-loop
@@ -46,12 +51,12 @@ loop-again : tie.Need-loop-again Inv-loop μ-loop
 loop-again c =
     let at-loop = c .before .before .before .before in (
       omega arith,
-      passed-turn (at-loop .before .before .args .words .now) (at-loop .loop .i) (omega arith) (at-loop .loop .inv .1)
+      passed-turn (at-loop .before .before .before .args .words .now) (at-loop .loop .i) (omega arith) (at-loop .loop .inv .1)
           (sym (c .before .is-kind .ensures) ∙ c .if1 .left),
     )
 
 returns-2 : tie.Need-returns-2 Inv-loop μ-loop
-returns-2 c = passed-end (c .before .before .before .args .words .now) (c .before .loop .i) (omega arith) (c .before .loop .inv .1)
+returns-2 c = passed-end (c .before .before .before .before .args .words .now) (c .before .loop .i) (omega arith) (c .before .loop .inv .1)
 
 pub first-sequence-spec : {M : Type 1} → statement M
 first-sequence-spec =
@@ -59,6 +64,7 @@ first-sequence-spec =
     (tie.spec
     Inv-loop
     μ-loop
+    pass-fours-requires
     loop-holds
     mul-is-kind
     shared-slice-read-is-kind

@@ -7,11 +7,12 @@ use mathlib.Core.Path.{_≡_, sym, ap, _∙_, subst}
 use mathlib.Core.List.{_++_}
 use lib.ListN.{drop}
 use Rattle.image.specs.Tables.{placesFrom}
-use Rattle.image.proofs.Rows.{back, PlacesAt, places-start, places-skip, place-room, places-write, places-end}
+use Rattle.image.proofs.Rows.{back, PlacesAt, places-start, places-pass, places-skip, place-room, places-write, places-end}
 use Rattle.image.proofs.tables.write_places.Statement.{statement}
 use Rattle.image.proofs.tables.write_places.Tie as tie
 use Rattle.image.proofs.tables.write_places.Reads as reads
 use Rattle.image.proofs.tables.write_places.Lts as lts
+use Rattle.image.proofs.tables.pass_back.Reads as pass-back-reads
 use Rattle.image.proofs.word.is_kind.Reads as is-kind-reads
 use Rattle.image.proofs.word.payload_of.Reads as payload-of-reads
 
@@ -28,14 +29,17 @@ at-word c = back (PlacesAt _ _ (c .before .loop .area)) (c .before .loop .i) (c 
 loop-holds : tie.Need-loop-holds Inv-loop μ-loop
 loop-holds c = places-start (c .before .before .args .part .now) (c .before .before .args .area .now)
 
-sub-i : tie.Need-sub-i Inv-loop μ-loop
-sub-i c = search needs
+sub-at : tie.Need-sub-at Inv-loop μ-loop
+sub-at c = search needs
 
 mul-w : tie.Need-mul-w Inv-loop μ-loop
 mul-w c = search needs
 
 shared-slice-read-w : tie.Need-shared-slice-read-w Inv-loop μ-loop
 shared-slice-read-w c = search needs
+
+pass-back-requires : tie.Need-pass-back-requires Inv-loop μ-loop
+pass-back-requires c κs = search needs
 
 is-kind-requires : tie.Need-is-kind-requires Inv-loop μ-loop
 is-kind-requires c κs = search needs
@@ -55,33 +59,44 @@ mul-area c = search needs
 slice-write-area : tie.Need-slice-write-area Inv-loop μ-loop
 slice-write-area c =
     let kinds = c .before .before in
-    let turn = kinds .before .before in
+    let turn = kinds .before .before .before in
     let start = turn .before .before .before .before in
     rw (c .payload-of .ensures)
     (place-room (start .args .part .now) (start .args .area .now) (start .args .h) (start .pre) (turn .before .loop .area) (turn .before .loop .i - 1)
     (omega arith) (at-word turn) (sym (kinds .is-kind .ensures) ∙ c .before .if1 .taken))
 
 loop-less : tie.Need-loop-less Inv-loop μ-loop
-loop-less c = search needs
+loop-less c =
+    let passed = c .before .before .before in
+    omega (arith, passed .before .before .loop-test .taken, passed .pass-back .ensures .low)
 
 loop-again : tie.Need-loop-again Inv-loop μ-loop
 loop-again c =
     let kinds = c .before .before in
-    let turn = kinds .before .before in
+    let passed = kinds .before in
+    let turn = passed .before .before in
     let start = turn .before .before .before .before in
+    let j = turn .before .loop .i - 1 in
     rw (c .payload-of .ensures)
-    (places-write (start .args .part .now) (start .args .area .now) (start .args .h) (start .pre) (turn .before .loop .area) (turn .before .loop .i - 1)
-    (omega arith) (at-word turn) (sym (kinds .is-kind .ensures) ∙ c .before .if1 .taken))
+    (places-pass (start .args .part .now) (start .args .area .now) _ (passed .pass-back .result) j (passed .pass-back .ensures)
+    (places-write (start .args .part .now) (start .args .area .now) (start .args .h) (start .pre) (turn .before .loop .area) j
+    (omega arith) (at-word turn) (sym (kinds .is-kind .ensures) ∙ c .before .if1 .taken)))
 
 loop-less-2 : tie.Need-loop-less-2 Inv-loop μ-loop
-loop-less-2 c = search needs
+loop-less-2 c =
+    let passed = c .before .before in
+    omega (arith, passed .before .before .loop-test .taken, passed .pass-back .ensures .low)
 
 loop-again-2 : tie.Need-loop-again-2 Inv-loop μ-loop
 loop-again-2 c =
-    let turn = c .before .before .before in
+    let kinds = c .before in
+    let passed = kinds .before in
+    let turn = passed .before .before in
     let start = turn .before .before .before .before in
-    places-skip (start .args .part .now) (start .args .area .now) (start .args .h) (start .pre) (turn .before .loop .area) (turn .before .loop .i - 1)
-    (omega arith) (at-word turn) (sym (c .before .is-kind .ensures) ∙ c .if1 .left)
+    let j = turn .before .loop .i - 1 in
+    places-pass (start .args .part .now) (start .args .area .now) (turn .before .loop .area) (passed .pass-back .result) j (passed .pass-back .ensures)
+    (places-skip (start .args .part .now) (start .args .area .now) (start .args .h) (start .pre) (turn .before .loop .area) j
+    (omega arith) (at-word turn) (sym (kinds .is-kind .ensures) ∙ c .if1 .left))
 
 same-length : tie.Need-same-length Inv-loop μ-loop
 same-length c = search needs
@@ -101,9 +116,10 @@ write-places-spec =
     Inv-loop
     μ-loop
     loop-holds
-    sub-i
+    sub-at
     mul-w
     shared-slice-read-w
+    pass-back-requires
     is-kind-requires
     cast-area
     payload-of-requires
