@@ -22,7 +22,7 @@ use Rattle.outcome.specs.declared.read.Read.{Read}
 pub entry-kinds : (w : ℕ) → isEntry w ≡ true → (kind w ≡ 8 → ⊥) → kind w ≡ 9
 entry-kinds w e d = ⊎-elim (λ p. absurd (d (eqb-true (kind w) 8 p))) (λ p. eqb-true (kind w) 9 p) (or-cases (isKind 8 w) (isKind 9 w) e)
 
-entry-high : (w : ℕ) → isEntry w ≡ true → 8 ≤ kind w
+pub entry-high : (w : ℕ) → isEntry w ≡ true → 8 ≤ kind w
 entry-high w e =
     ⊎-elim (λ p. omega (arith, eqb-true (kind w) 8 p)) (λ p. omega (arith, eqb-true (kind w) 9 p)) (or-cases (isKind 8 w) (isKind 9 w) e)
 
