@@ -21,7 +21,7 @@ use Rattle.outcome.specs.Passes.{visitedRow, visited}
 use Rattle.outcome.specs.Stale.{callsIn, calls}
 use Rattle.outcome.specs.declared.row.Row.{Row}
 use Rattle.outcome.proofs.Tests.{and-both, or-left, or-right}
-use Rattle.outcome.proofs.Stores.{row-same, row-other, row-again}
+use Rattle.outcome.proofs.Stores.{rows-again, row-same, row-other, row-again}
 use Rattle.outcome.proofs.Walks.{entry-kinds, entry-high, fold-cons, united-cons}
 use Rattle.outcome.proofs.Stale.{Local}
 
@@ -98,22 +98,6 @@ module _ (all : ℕ) (steps t t′ : List ℕ) where
   sequence-local X (w ∷ ws) same = sequence-word X w ws (λ Y. sequence-local Y ws) same (isKind 6 w) (isKind 7 w) refl refl
 
 -- ---- a visit depends on those that are called
-
-below-power : (m : ℕ) → m < 2 ^ m
-below-power zero = omega arith
-below-power (suc m) = omega (arith, below-power m, pow-suc 2 m)
-
-or-again : (a b : ℕ) → bitOr (bitOr a b) b ≡ bitOr a b
-or-again a b =
-    let x = bitOr a b in
-    let y = bitOr x b in
-    let w : ℕ = x + y in
-    let left : x ≤ w = omega arith in
-    let right : y ≤ w = omega arith in
-    bits-equal w y x (omega (arith, below-power y, pow-mono right)) (omega (arith, below-power x, pow-mono left)) (λ k l. omega (arith, bit-or x b k, bit-or a b k))
-
-rows-again : (x y : Row) → orRows (orRows x y) y ≡ orRows x y
-rows-again x y = simp or-again
 
 module _ (all : ℕ) (steps part places : List ℕ) where
   given : List ℕ → ℕ → Row
