@@ -4,7 +4,6 @@
 use crate::callers::is_stale;
 use crate::callers::remove;
 use crate::callers::unite;
-use crate::callers::write_callers;
 use crate::read::read_sequence;
 use crate::row::put_row;
 use crate::row::row_at;
@@ -203,24 +202,6 @@ fn settle_in_order(
     }
 }
 
-// So with the callers of each sequence, which are written into the area.
-fn settle_by_callers(
-    all: u64,
-    steps: &[u64],
-    part: &[u32],
-    places: &[u32],
-    callers: &mut [u64],
-    order: &[usize],
-    table: &mut [u64],
-    n: usize,
-)
-    requires { ⌜ Visitable n (now steps) (now part) (now places) (now table) × Complete (now order) n × (n ≤ 256) × (4 * n ≤ length (now callers)) ⌝ }
-    ensures { λ _. ⌜ Pass (visited all (now (steps .entry)) (now (part .entry)) (now (places .entry))) lacking n (now (table .entry)) (now (table .exit)) false ⌝ }
-{
-    write_callers(part, places, callers, n);
-    settle_in_order(all, steps, part, places, callers, order, table, n);
-}
-
 // Passes in the order of the numbers until one changes nothing.
 fn settle_plainly(
     all: u64,
@@ -242,24 +223,17 @@ pub fn settle(
     steps: &[u64],
     part: &[u32],
     places: &[u32],
+    callers: &[u64],
     order: &[usize],
     table: &mut [u64],
     n: usize,
 )
-    requires { ⌜ Visitable n (now steps) (now part) (now places) (now table) ⌝ }
+    requires { ⌜ Visitable n (now steps) (now part) (now places) (now table) × (n ≤ 256) × (4 * n ≤ length (now callers)) × CallersWritten n (now part) (now places) (now callers) ⌝ }
     ensures { λ _. ⌜ Pass (visited all (now (steps .entry)) (now (part .entry)) (now (places .entry))) lacking n (now (table .entry)) (now (table .exit)) false ⌝ }
 {
     if complete(order, n) {
-        if n <= 32 {
-            let mut callers = [0u64; 128];
-            settle_by_callers(all, steps, part, places, &mut callers, order, table, n);
-            return;
-        }
-        if n <= 256 {
-            let mut callers = [0u64; 1024];
-            settle_by_callers(all, steps, part, places, &mut callers, order, table, n);
-            return;
-        }
+        settle_in_order(all, steps, part, places, callers, order, table, n);
+    } else {
+        settle_plainly(all, steps, part, places, table, n);
     }
-    settle_plainly(all, steps, part, places, table, n);
 }

@@ -3,10 +3,9 @@
 use borrow.Author.Needs.{needs}
 use borrow.Author.Tests.{not-true, not-false}
 use native.Mathlib.Omega.{arith}
-use mathlib.Core.Path.{sym, ap, _∙_}
+use mathlib.Core.Path.{sym, _∙_}
 use Prim.Native.Nat.{_+_, _-_}
 use lib.ListN.{length}
-use Rattle.outcome.specs.Words.{liveRow}
 use Rattle.outcome.proofs.Walks.{Folding, folding-start, folding-turn, folding-out, folding-dead, folding-end}
 use Rattle.outcome.proofs.read.read_alternative.Statement.{statement}
 use Rattle.outcome.proofs.read.read_alternative.Tie as tie
