@@ -20,3 +20,6 @@ pub mod Sample
 pub mod Settled
 pub mod StepRows
 pub mod Stores
+pub mod Stale
+pub mod Calls
+pub mod CallerSets

@@ -9,12 +9,13 @@ use mathlib.Core.Bool.{Bool, true, false, cond, _||_, false≢true}
 use mathlib.Core.Logic.{⊎-elim}
 use mathlib.Core.List.{List, [], _∷_}
 use lib.ListN.{length, getD, drop}
+use lib.Bits.{and-zero-l}
 use lib.Seq.{drop-cons, drop-length}
 use borrow.Author.Tests.{eqb-true, eqb-false, eq-eqb, ne-eqb}
 use Rattle.image.specs.Word.{kind, payload, isKind, isEntry}
 use Rattle.image.proofs.Bools.{or-cases}
 use Rattle.outcome.specs.Words.{noRow, startRow, joinRows, orRows, liveRow}
-use Rattle.outcome.specs.Walks.{Within, Readable, entryWord, foldWords, alternativeWords, sequenceWords, AlternativeRead, NoEntry}
+use Rattle.outcome.specs.Walks.{Within, Readable, entryWord, foldWords, alternativeWords, sequenceWords, AlternativeRead, NoEntry, EntriesEnd, EmptiesEnd}
 use Rattle.outcome.specs.declared.row.Row.{Row}
 use Rattle.outcome.specs.declared.read.Read.{Read}
 
@@ -22,7 +23,7 @@ use Rattle.outcome.specs.declared.read.Read.{Read}
 pub entry-kinds : (w : ℕ) → isEntry w ≡ true → (kind w ≡ 8 → ⊥) → kind w ≡ 9
 entry-kinds w e d = ⊎-elim (λ p. absurd (d (eqb-true (kind w) 8 p))) (λ p. eqb-true (kind w) 9 p) (or-cases (isKind 8 w) (isKind 9 w) e)
 
-entry-high : (w : ℕ) → isEntry w ≡ true → 8 ≤ kind w
+pub entry-high : (w : ℕ) → isEntry w ≡ true → 8 ≤ kind w
 entry-high w e =
     ⊎-elim (λ p. omega (arith, eqb-true (kind w) 8 p)) (λ p. omega (arith, eqb-true (kind w) 9 p)) (or-cases (isKind 8 w) (isKind 9 w) e)
 
@@ -33,6 +34,18 @@ module _ (steps table : List ℕ) where
       → foldWords steps table X (w ∷ ws) ≡ cond b (foldWords steps table (joinRows X (entryWord steps table w)) ws) X
   unfolding foldWords
   fold-cons X w ws b e = ap (λ (c : Bool). cond c (foldWords steps table (joinRows X (entryWord steps table w)) ws) X) e
+
+  dead-word : (X : Row) (w : ℕ) (ws : List ℕ) → ((Y : Row) → Y .run ≡ 0 → liveRow (foldWords steps table Y ws) ≡ noRow) → X .run ≡ 0 → (b : Bool) → isEntry w ≡ b
+      → liveRow (foldWords steps table X (w ∷ ws)) ≡ noRow
+  dead-word X w ws rest none true e =
+      ap liveRow (fold-cons X w ws true e) ∙ rest (joinRows X (entryWord steps table w)) (rw none (and-zero-l (entryWord steps table w .run)))
+  dead-word X w ws rest none false e = ap liveRow (fold-cons X w ws false e) ∙ rw none (simp and-zero-l)
+
+  -- an alternative of which what stands before has no run
+  pub dead-fold : (X : Row) (ws : List ℕ) → X .run ≡ 0 → liveRow (foldWords steps table X ws) ≡ noRow
+  unfolding foldWords
+  dead-fold X [] none = rw none (simp and-zero-l)
+  dead-fold X (w ∷ ws) none = dead-word X w ws (λ Y. dead-fold Y ws) none (isEntry w) refl
 
 module _ (all : ℕ) (steps table : List ℕ) where
   pub united-cons : (X : Row) (w : ℕ) (ws : List ℕ) (a b : Bool) → isKind 6 w ≡ a → isKind 7 w ≡ b
@@ -86,6 +99,11 @@ module _ (all : ℕ) (steps table part : List ℕ) where
     unfolding alternativeWords foldWords
     folding-end l = ap liveRow (sym (ap (foldWords steps table x) (ap (λ (n : ℕ). drop n part) l ∙ drop-length part)) ∙ here .same)
 
+    -- the entries after those that have no run together
+    pub folding-dead : x .run ≡ 0 → noRow ≡ alternativeWords all steps table (drop at part)
+    unfolding alternativeWords
+    folding-dead none = sym (dead-fold steps table x (drop i part) none) ∙ ap liveRow (here .same)
+
   -- an alternative without entries
   pub empty-read : (at : ℕ) → at ≤ length part → NoEntry part at → AlternativeRead all steps table part at (record { row = liveRow (startRow all); next = at })
   empty-read at l none =
@@ -133,6 +151,10 @@ module _ (all : ℕ) (steps table part : List ℕ) where
     pub uniting-skip : i < length part → isKind 6 (getD part i 0) ≡ false → isKind 7 (getD part i 0) ≡ false → Uniting at x (i + 1)
     uniting-skip l e f = record { within = omega arith; same = after false l e f }
 
+    -- alternatives whose row is there already
+    pub uniting-empties : (r : ℕ) → EmptiesEnd part i r → orRows x (liveRow (startRow all)) ≡ x → Uniting at x r
+    uniting-empties r empties has = record { within = empties .within; same = sym (empties .skips all steps table x has) ∙ here .same }
+
     -- an alternative
     pub uniting-turn : i < length part → isKind 6 (getD part i 0) ≡ false → isKind 7 (getD part i 0) ≡ true → (r : Read)
         → AlternativeRead all steps table part (i + 1) r → Uniting at (orRows x (r .row)) (r .next)
@@ -144,3 +166,41 @@ module _ (all : ℕ) (steps table part : List ℕ) where
               ∙ ap (λ (y : Row). sequenceWords all steps table (orRows x y) (drop (i + 1) part)) (read .row)
               ∙ after true l e f;
         }
+
+-- ---- words that a walk passes over
+
+pub entries-start : (part : List ℕ) (at : ℕ) → at ≤ length part → EntriesEnd part at at
+entries-start part at l = record { low = omega arith; within = l; skips = λ all steps table X. refl }
+
+pub empties-start : (part : List ℕ) (at : ℕ) → at ≤ length part → EmptiesEnd part at at
+empties-start part at l = record { low = omega arith; within = l; skips = λ all steps table X has. refl }
+
+module _ (part : List ℕ) (at i : ℕ) where
+  pub entries-turn : i < length part → isEntry (getD part i 0) ≡ true → EntriesEnd part at i → EntriesEnd part at (i + 1)
+  entries-turn l e here =
+      let w = getD part i 0 in
+      let high = entry-high w e in
+      record {
+        low = omega (arith, here .low);
+        within = omega arith;
+        skips = λ all steps table X.
+            here .skips all steps table X ∙ ap (sequenceWords all steps table X) (drop-cons part i 0 l)
+            ∙ united-cons all steps table X w (drop (suc i) part) false false (ne-eqb (kind w) 6 (λ q. omega arith)) (ne-eqb (kind w) 7 (λ q. omega arith))
+            ∙ ap (λ (n : ℕ). sequenceWords all steps table X (drop n part)) (sym (add-one i));
+      }
+
+  pub empties-turn : i < length part → isKind 7 (getD part i 0) ≡ true → NoEntry part (i + 1) → EmptiesEnd part at i → EmptiesEnd part at (i + 1)
+  empties-turn l e none here =
+      let w = getD part i 0 in
+      let seven = eqb-true (kind w) 7 e in
+      let next : drop (suc i) part ≡ drop (i + 1) part = ap (λ (n : ℕ). drop n part) (sym (add-one i)) in
+      record {
+        low = omega (arith, here .low);
+        within = omega arith;
+        skips = λ all steps table X has.
+            here .skips all steps table X has ∙ ap (sequenceWords all steps table X) (drop-cons part i 0 l)
+            ∙ united-cons all steps table X w (drop (suc i) part) false true (ne-eqb (kind w) 6 (λ q. omega arith)) e
+            ∙ ap (λ (ws : List ℕ). sequenceWords all steps table (orRows X (alternativeWords all steps table ws)) ws) next
+            ∙ ap (λ (Y : Row). sequenceWords all steps table (orRows X Y) (drop (i + 1) part)) (sym (empty-read all steps table part (i + 1) (omega arith) none .row))
+            ∙ ap (λ (Y : Row). sequenceWords all steps table Y (drop (i + 1) part)) has;
+      }

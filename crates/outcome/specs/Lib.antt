@@ -12,4 +12,5 @@ pub mod Rows
 pub mod Words
 pub mod Walks
 pub mod Passes
+pub mod Stale
 pub mod Published

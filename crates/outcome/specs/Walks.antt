@@ -51,6 +51,19 @@ module _ (all : ℕ) (steps table : List ℕ) where
     pub within : r .next ≤ length part
     pub skips : (X : Row) → sequenceWords X (drop at part) ≡ sequenceWords X (drop (r .next) part)
 
+-- where the entries that stand from an index on end: a walk over the alternatives passes over them
+pub record EntriesEnd (part : List ℕ) (at r : ℕ) : Type 0 where
+  pub low : at ≤ r
+  pub within : r ≤ length part
+  pub skips : (all : ℕ) (steps table : List ℕ) (X : Row) → sequenceWords all steps table X (drop at part) ≡ sequenceWords all steps table X (drop r part)
+
+-- where the alternatives without entries that stand from an index on end: a walk that has their row passes over them
+pub record EmptiesEnd (part : List ℕ) (at r : ℕ) : Type 0 where
+  pub low : at ≤ r
+  pub within : r ≤ length part
+  pub skips : (all : ℕ) (steps table : List ℕ) (X : Row) → orRows X (liveRow (startRow all)) ≡ X
+      → sequenceWords all steps table X (drop at part) ≡ sequenceWords all steps table X (drop r part)
+
 -- the row of step a, by the table of masks
 abbrev pub maskRow : ℕ → List ℕ → ℕ → Row
 maskRow all masks a = stepRow all (getD masks (3 * a) 0) (getD masks (3 * a + 1) 0) (getD masks (3 * a + 2) 0)

@@ -1,90 +1,87 @@
-// The order of visits: the finishing order of a depth-first walk over calls, in which a sequence comes after those that it calls, unless they
-// call it in turn. What is proved of the table holds for every order: a number that is no sequence's is passed over, and the last pass goes
-// over all sequences. So the walk promises no more than that the areas keep their lengths, and each index is tested where it is used.
-use image::word::is_kind;
-use image::word::payload_of;
+// The order of visits: a walk along the callers, from each sequence to those that call it, finishes a sequence after all that it leads to. So
+// the order is written from its end: a sequence comes after those that it calls, unless they call it in turn. What is proved of the table
+// holds for every order: a number that is no sequence's is passed over, and it is tested that the order names all sequences. So the walk
+// promises no more than that the areas keep their lengths, and each index is tested where it is used.
+use crate::callers::is_stale;
+use crate::callers::remove;
 ghost use mathlib.Core.Path.{_≡_};
 ghost use Prim.Native.Nat.{_+_, _*_, _≤_, _<_};
 ghost use lib.ListN.{length};
 
-// What the walk finds from a sequence's next word on: a call of a sequence that was not entered before, or none.
+// What the walk finds from a sequence on: a caller that was not entered before, or none.
 enum Found {
-    Call(usize),
+    Caller(usize),
     End,
 }
 
-// Where the walk stands: how many sequences are entered and not finished, how many are finished, and the next one to begin with.
+// Where the walk stands: how many sequences are entered and not finished, how many are finished, and how many were to begin with.
 struct Walk {
     pub depth: usize,
     pub done: usize,
     pub root: usize,
 }
 
-fn after(place: u32) -> usize
-    ensures { λ r. ⌜ r ≡ place + 1 ⌝ }
+// The place of the lowest bit that is set.
+fn lowest(x: u64) -> usize
+    ensures { λ r. ⌜ r ≤ 64 ⌝ }
 {
-    place as usize + 1
+    u64::trailing_zeros(x) as usize
 }
 
-fn callee(w: u32) -> usize
-    ensures { λ r. ⌜ r < 4294967296 ⌝ }
+// Enters sequence `d` where it was not entered before: it is no longer one of the fresh ones.
+fn enter(fresh: &mut [u64], d: usize) -> bool
+    ensures { λ r. ⌜ length (now (fresh .exit)) ≡ length (now (fresh .entry)) ⌝ }
 {
-    payload_of(w) as usize
-}
-
-// Enters sequence `d` where it is one and was not entered before: `next` then has the index of its first word.
-fn enter(places: &[u32], next: &mut [usize], d: usize) -> bool
-    ensures { λ r. ⌜ length (now (next .exit)) ≡ length (now (next .entry)) ⌝ }
-{
-    if d < places.len() {
-        if d < next.len() {
-            if next[d] == 0 {
-                next[d] = after(places[d]);
-                return true;
-            }
-        }
+    if fresh.len() != 4 {
+        return false;
+    }
+    if 256 <= d {
+        return false;
+    }
+    if is_stale(fresh, d) {
+        remove(fresh, d);
+        return true;
     }
     false
 }
 
-// Goes on in sequence `c` up to the next call of a sequence that was not entered before.
-fn scan(part: &[u32], places: &[u32], next: &mut [usize], c: usize) -> Found
-    ensures { λ r. ⌜ length (now (next .exit)) ≡ length (now (next .entry)) ⌝ }
-{
-    if next.len() <= c {
+// The first caller of sequence `c` that was not entered before.
+fn next_caller(callers: &[u64], fresh: &[u64], c: usize) -> Found {
+    if fresh.len() != 4 {
         return Found::End;
     }
-    let mut i = next[c];
-    while i < part.len() {
-        let w = part[i];
-        if is_kind(6, w) {
-            return Found::End;
+    if 256 <= c {
+        return Found::End;
+    }
+    let at = 4 * c;
+    if callers.len() < at + 4 {
+        return Found::End;
+    }
+    let mut k = 0;
+    while k < 4 {
+        let x = callers[at + k] & fresh[k];
+        if x != 0 {
+            return Found::Caller(64 * k + lowest(x));
         }
-        i += 1;
-        if is_kind(9, w) {
-            let d = callee(w);
-            if enter(places, next, d) {
-                next[c] = i;
-                return Found::Call(d);
-            }
-        }
+        k += 1;
     }
     Found::End
 }
 
-// One turn where no sequence is entered: the next one to begin with.
-fn begin(places: &[u32], next: &mut [usize], stack: &mut [usize], at: Walk) -> Walk
-    ensures { λ r. ⌜ (length (now (next .exit)) ≡ length (now (next .entry))) × (length (now (stack .exit)) ≡ length (now (stack .entry))) ⌝ }
+// One turn where no sequence is entered: the next one to begin with, the last sequence first.
+fn begin(fresh: &mut [u64], stack: &mut [usize], n: usize, at: Walk) -> Walk
+    ensures { λ r. ⌜ (length (now (fresh .exit)) ≡ length (now (fresh .entry))) × (length (now (stack .exit)) ≡ length (now (stack .entry))) ⌝ }
 {
     let root = at.root;
-    if places.len() <= root {
+    if n <= root {
         return at;
     }
     if stack.len() == 0 {
         return at;
     }
-    if enter(places, next, root) {
-        stack[0] = root;
+    let c = n - 1 - root;
+    if enter(fresh, c) {
+        stack[0] = c;
         return Walk {
             depth: 1,
             done: at.done,
@@ -98,8 +95,17 @@ fn begin(places: &[u32], next: &mut [usize], stack: &mut [usize], at: Walk) -> W
     }
 }
 
-// The sequence is finished: it is the next in the order.
-fn finish(order: &mut [usize], c: usize, at: Walk) -> Walk
+// Names sequence `c` at a place of the order, where there is one.
+fn name(order: &mut [usize], place: usize, c: usize)
+    ensures { λ _. ⌜ length (now (order .exit)) ≡ length (now (order .entry)) ⌝ }
+{
+    if place < order.len() {
+        order[place] = c;
+    }
+}
+
+// The sequence is finished: it is the next from the end of the order.
+fn finish(order: &mut [usize], n: usize, c: usize, at: Walk) -> Walk
     ensures { λ r. ⌜ length (now (order .exit)) ≡ length (now (order .entry)) ⌝ }
 {
     let depth = at.depth;
@@ -107,82 +113,75 @@ fn finish(order: &mut [usize], c: usize, at: Walk) -> Walk
     if depth == 0 {
         return at;
     }
-    if done < order.len() {
-        order[done] = c;
-        return Walk {
-            depth: depth - 1,
-            done: done + 1,
-            root: at.root,
-        };
+    if n <= done {
+        return at;
     }
+    name(order, n - 1 - done, c);
     Walk {
         depth: depth - 1,
-        done: done,
+        done: done + 1,
         root: at.root,
     }
 }
 
 // Sequence `d` is entered from the one on top.
-fn push(stack: &mut [usize], d: usize, at: Walk) -> Walk
-    ensures { λ r. ⌜ length (now (stack .exit)) ≡ length (now (stack .entry)) ⌝ }
+fn push(stack: &mut [usize], fresh: &mut [u64], d: usize, at: Walk) -> Walk
+    ensures { λ r. ⌜ (length (now (fresh .exit)) ≡ length (now (fresh .entry))) × (length (now (stack .exit)) ≡ length (now (stack .entry))) ⌝ }
 {
     let depth = at.depth;
     if depth < stack.len() {
-        stack[depth] = d;
-        return Walk {
-            depth: depth + 1,
-            done: at.done,
-            root: at.root,
-        };
+        if enter(fresh, d) {
+            stack[depth] = d;
+            return Walk {
+                depth: depth + 1,
+                done: at.done,
+                root: at.root,
+            };
+        }
     }
     at
 }
 
 // One turn: a sequence is begun with, entered or finished.
 fn turn(
-    part: &[u32],
-    places: &[u32],
-    next: &mut [usize],
+    callers: &[u64],
+    fresh: &mut [u64],
     stack: &mut [usize],
     order: &mut [usize],
+    n: usize,
     at: Walk,
 ) -> Walk
     ensures { λ r. ⌜ length (now (order .exit)) ≡ length (now (order .entry)) ⌝ }
 {
     let depth = at.depth;
     if depth == 0 {
-        return begin(places, next, stack, at);
+        return begin(fresh, stack, n, at);
     }
     if stack.len() < depth {
         return at;
     }
     let c = stack[depth - 1];
-    match scan(part, places, next, c) {
-        Found::Call(d) => push(stack, d, at),
-        Found::End => finish(order, c, at),
+    match next_caller(callers, fresh, c) {
+        Found::Caller(d) => push(stack, fresh, d, at),
+        Found::End => finish(order, n, c, at),
     }
 }
 
-// Writes the finishing order of the sequences with these places; `next` holds zeros.
-pub fn finishing_order(
-    part: &[u32],
-    places: &[u32],
-    next: &mut [usize],
-    stack: &mut [usize],
-    order: &mut [usize],
-)
-    requires { ⌜ length (now places) ≤ 256 ⌝ }
+// Writes the order of the sequences below `n` with these callers. At first all of them are fresh.
+pub fn finishing_order(callers: &[u64], stack: &mut [usize], order: &mut [usize], n: usize)
+    requires { ⌜ n ≤ 256 ⌝ }
     ensures { λ _. ⌜ length (now (order .exit)) ≡ length (now (order .entry)) ⌝ }
 {
+    let mut fresh = [18446744073709551615u64; 4];
     let mut at = Walk {
         depth: 0,
         done: 0,
         root: 0,
     };
     // each sequence is begun with, entered and finished once at the most
-    let mut turns = 3 * places.len();
+    let mut turns = 3 * n;
     while 0 < turns {
         turns -= 1;
-        at = turn(part, places, next, stack, order, at);
+        at = turn(callers, &mut fresh, stack, order, n, at);
     }
 }

@@ -15,7 +15,7 @@ ghost use Prim.Native.Nat.{_+_, _*_, _≤_, _<_};
 ghost use lib.ListN.{length, drop};
 ghost use Rattle.image.specs.Word.{isEntry};
 ghost use Rattle.outcome.specs.Words.{noRow};
-ghost use Rattle.outcome.specs.Walks.{Within, Readable, entryWord, sequenceWords, AlternativeRead, NoEntry};
+ghost use Rattle.outcome.specs.Walks.{Within, Readable, entryWord, sequenceWords, AlternativeRead, NoEntry, EntriesEnd, EmptiesEnd};
 
 // The row of an alternative, and the index of the word after its entries.
 pub struct Read {
@@ -34,7 +34,22 @@ fn entry_row(steps: &[u64], table: &[u64], w: u32) -> Row
     row_at(table, payload_of(w) as usize)
 }
 
-// Reads the entries that stand from index `at` on.
+// The index after the entries that stand from index `at` on.
+fn entries_end(part: &[u32], at: usize) -> usize
+    requires { ⌜ at ≤ length (now part) ⌝ }
+    ensures { λ r. ⌜ EntriesEnd (now (part .entry)) at r ⌝ }
+{
+    let mut i = at;
+    while i < part.len() {
+        if !is_entry(part[i]) {
+            return i;
+        }
+        i += 1;
+    }
+    i
+}
+
+// Reads the entries that stand from index `at` on. Where what is read has no run, the entries after it are passed over.
 fn read_alternative(all: u64, steps: &[u64], table: &[u64], part: &[u32], at: usize) -> Read
     requires { ⌜ Readable (now steps) (now table) (now part) × (at ≤ length (now part)) ⌝ }
     ensures { λ r. ⌜ AlternativeRead all (now (steps .entry)) (now (table .entry)) (now (part .entry)) at r ⌝ }
@@ -51,6 +66,12 @@ fn read_alternative(all: u64, steps: &[u64], table: &[u64], part: &[u32], at: us
         }
         x = joined(x, entry_row(steps, table, w));
         i += 1;
+        if x.run == 0 {
+            return Read {
+                row: none(),
+                next: entries_end(part, i),
+            };
+        }
     }
     Read {
         row: live(x),
@@ -68,8 +89,26 @@ fn entry_at(part: &[u32], at: usize) -> bool
     false
 }
 
-// Unites the alternatives that stand from index `at` on, up to the next sequence. An alternative without entries, of which there are many, has
-// the row that reading begins with.
+// The index after the alternatives without entries that stand from index `at` on.
+fn empties_end(part: &[u32], at: usize) -> usize
+    requires { ⌜ at ≤ length (now part) ⌝ }
+    ensures { λ r. ⌜ EmptiesEnd (now (part .entry)) at r ⌝ }
+{
+    let mut i = at;
+    while i < part.len() {
+        if !is_kind(7, part[i]) {
+            return i;
+        }
+        if entry_at(part, i + 1) {
+            return i;
+        }
+        i += 1;
+    }
+    i
+}
+
+// Unites the alternatives that stand from index `at` on, up to the next sequence. An alternative without entries has the row that
+// reading begins with, and where many of them stand in a row it is united once.
 pub fn read_sequence(all: u64, steps: &[u64], table: &[u64], part: &[u32], at: usize) -> Row
     requires { ⌜ Readable (now steps) (now table) (now part) × (at ≤ length (now part)) ⌝ }
     ensures { λ r. ⌜ r ≡ sequenceWords all (now (steps .entry)) (now (table .entry)) noRow (drop at (now (part .entry))) ⌝ }
@@ -90,6 +129,7 @@ pub fn read_sequence(all: u64, steps: &[u64], table: &[u64], part: &[u32], at: u
                 i = r.next;
             } else {
                 x = united(x, live(start(all)));
+                i = empties_end(part, i);
             }
         }
     }

@@ -1,4 +1,5 @@
 // The outcome table of a library: for each sequence eight words, worked out for all facts at once from the image's slices.
+use crate::callers::write_callers;
 use crate::order::finishing_order;
 use crate::pass::settle;
 use crate::row::all_facts;
@@ -14,6 +15,7 @@ ghost use Prim.Native.Nat.{_+_, _*_, _≤_, _<_};
 ghost use lib.ListN.{length, drop};
 ghost use Rattle.image.specs.Library.{libraryOf};
 ghost use Rattle.image.specs.Tables.{StepsAsked, SequencesAsked};
+ghost use Rattle.outcome.specs.Stale.{CallersWritten};
 ghost use Rattle.outcome.specs.Area.{outcomes, TableAsked, FillAsked, RowsAsked, Areas, Prepared, Blank, libraryIn};
 
 // Clears an area.
@@ -27,7 +29,29 @@ fn clear(area: &mut [u64])
     }
 }
 
-// Writes, from the two parts of an accepted image, the steps' masks, the sequences' places and their finishing order into lent areas.
+// Writes, from the two parts of an accepted image, the steps' masks, the sequences' places, their callers and an order of visits into lent
+// areas.
+fn prepare_by(
+    h: Head,
+    steps: &[u32],
+    sequences: &[u32],
+    masks: &mut [u64],
+    places: &mut [u32],
+    callers: &mut [u64],
+    order: &mut [usize],
+)
+    requires { ⌜ StepsAsked h (now steps) (now masks) × SequencesAsked h (now sequences) (now places) × (h .sequences ≤ 256) ⌝ }
+    ensures { λ _. ⌜ Prepared h (now (steps .entry)) (now (sequences .entry)) (now (masks .entry)) (now (places .entry)) (now (masks .exit)) (now (places .exit)) × CallersWritten (h .sequences) (now (sequences .entry)) (now (places .exit)) (now (callers .exit)) ⌝ }
+{
+    let mut stack = [0usize; 256];
+    let n = h.sequences as usize;
+    write_masks(h, steps, masks);
+    write_places(h, sequences, places);
+    write_callers(sequences, places, callers, n);
+    finishing_order(callers, &mut stack, order, n);
+}
+
+// So without the callers.
 pub fn prepare(
     h: Head,
     steps: &[u32],
@@ -39,17 +63,36 @@ pub fn prepare(
     requires { ⌜ StepsAsked h (now steps) (now masks) × SequencesAsked h (now sequences) (now places) × (h .sequences ≤ 256) ⌝ }
     ensures { λ _. ⌜ Prepared h (now (steps .entry)) (now (sequences .entry)) (now (masks .entry)) (now (places .entry)) (now (masks .exit)) (now (places .exit)) ⌝ }
 {
-    let mut next = [0usize; 256];
-    let mut stack = [0usize; 256];
-    let n = h.sequences as usize;
-    write_masks(h, steps, masks);
-    write_places(h, sequences, places);
-    finishing_order(sequences, &places[..n], &mut next, &mut stack, order);
+    let mut callers = [0u64; 1024];
+    prepare_by(h, steps, sequences, masks, places, &mut callers, order);
 }
 
 // Fills `table`, which has eight words a sequence, from the two parts of an accepted image, and what is made of them on the way. The area
 // for the rows of the steps is blank.
 fn fill_by(
+    h: Head,
+    steps: &[u32],
+    sequences: &[u32],
+    masks: &mut [u64],
+    places: &mut [u32],
+    callers: &mut [u64],
+    order: &mut [usize],
+    rows: &mut [u64],
+    table: &mut [u64],
+)
+    requires { ⌜ FillAsked h (now steps) (now sequences) (now table) × Areas h (now masks) (now places) (now order) × RowsAsked h (now masks) (now rows) × (4 * h .sequences ≤ length (now callers)) ⌝ }
+    ensures { λ _. ⌜ Prepared h (now (steps .entry)) (now (sequences .entry)) (now (masks .entry)) (now (places .entry)) (now (masks .exit)) (now (places .exit)) × (now (table .exit) ≡ outcomes (libraryIn h (now (steps .entry)) (now (sequences .entry)))) ⌝ }
+{
+    let n = h.sequences as usize;
+    let all = all_facts(h.facts);
+    prepare_by(h, steps, sequences, masks, places, callers, order);
+    write_step_rows(all, masks, h.steps as usize, rows);
+    clear(table);
+    settle(all, rows, sequences, places, callers, &order[..n], table, n);
+}
+
+// So with an area for the callers of its own: a small one where there are few sequences.
+fn fill_rows(
     h: Head,
     steps: &[u32],
     sequences: &[u32],
@@ -62,12 +105,33 @@ fn fill_by(
     requires { ⌜ FillAsked h (now steps) (now sequences) (now table) × Areas h (now masks) (now places) (now order) × RowsAsked h (now masks) (now rows) ⌝ }
     ensures { λ _. ⌜ Prepared h (now (steps .entry)) (now (sequences .entry)) (now (masks .entry)) (now (places .entry)) (now (masks .exit)) (now (places .exit)) × (now (table .exit) ≡ outcomes (libraryIn h (now (steps .entry)) (now (sequences .entry)))) ⌝ }
 {
-    let n = h.sequences as usize;
-    let all = all_facts(h.facts);
-    prepare(h, steps, sequences, masks, places, order);
-    write_step_rows(all, masks, h.steps as usize, rows);
-    clear(table);
-    settle(all, rows, sequences, places, &order[..n], table, n);
+    if h.sequences <= 32 {
+        let mut callers = [0u64; 128];
+        fill_by(
+            h,
+            steps,
+            sequences,
+            masks,
+            places,
+            &mut callers,
+            order,
+            rows,
+            table,
+        );
+    } else {
+        let mut callers = [0u64; 1024];
+        fill_by(
+            h,
+            steps,
+            sequences,
+            masks,
+            places,
+            &mut callers,
+            order,
+            rows,
+            table,
+        );
+    }
 }
 
 // So with an area for the rows of its own: a small one where there are few steps, since it takes time to make it.
@@ -85,10 +149,10 @@ pub fn fill(
 {
     if h.steps <= 64 {
         let mut rows = [0u64; 512];
-        fill_by(h, steps, sequences, masks, places, order, &mut rows, table);
+        fill_rows(h, steps, sequences, masks, places, order, &mut rows, table);
     } else {
         let mut rows = [0u64; 8192];
-        fill_by(h, steps, sequences, masks, places, order, &mut rows, table);
+        fill_rows(h, steps, sequences, masks, places, order, &mut rows, table);
     }
 }
 

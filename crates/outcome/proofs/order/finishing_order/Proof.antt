@@ -1,8 +1,7 @@
 -- `outcome::order::finishing_order` is safe, ends and keeps the areas' lengths.
 -- Assumes nothing.
 use borrow.Author.Needs.{needs}
-use native.Mathlib.Omega.{arith}
-use mathlib.Core.Path.{_≡_, _∙_}
+use mathlib.Core.Path.{_≡_}
 use lib.ListN.{length}
 use Rattle.outcome.proofs.order.finishing_order.Statement.{statement}
 use Rattle.outcome.proofs.order.finishing_order.Tie as tie
@@ -11,11 +10,11 @@ use Rattle.outcome.proofs.order.finishing_order.Lts as lts
 use Rattle.outcome.proofs.order.turn.Reads as turn-reads
 
 abbrev Inv-loop : tie.InvT-loop
-Inv-loop part places next₀ stack₀ order₀ at₀ turns₀ next stack order at turns =
-    (length next ≡ length next₀) × (length stack ≡ length stack₀) × (length order ≡ length order₀)
+Inv-loop callers stack₀ order₀ n fresh₀ at₀ turns₀ stack order fresh at turns =
+    (length fresh ≡ 4) × (length stack ≡ length stack₀) × (length order ≡ length order₀)
 
 abbrev μ-loop : tie.MeasureT-loop
-μ-loop part places next₀ stack₀ order₀ at₀ turns₀ next stack order at turns = turns
+μ-loop callers stack₀ order₀ n fresh₀ at₀ turns₀ stack order fresh at turns = turns
 
 mul-turns : tie.Need-mul-turns Inv-loop μ-loop
 mul-turns c = search needs
@@ -25,6 +24,9 @@ loop-holds c = search needs
 
 sub-turns : tie.Need-sub-turns Inv-loop μ-loop
 sub-turns c = search needs
+
+slice-aggregate-turn : tie.Need-slice-aggregate-turn Inv-loop μ-loop
+slice-aggregate-turn c = search needs
 
 turn-requires : tie.Need-turn-requires Inv-loop μ-loop
 turn-requires c κs = search needs
@@ -41,9 +43,6 @@ same-length c = search needs
 same-length-2 : tie.Need-same-length-2 Inv-loop μ-loop
 same-length-2 c = search needs
 
-same-length-3 : tie.Need-same-length-3 Inv-loop μ-loop
-same-length-3 c = search needs
-
 returns : tie.Need-returns Inv-loop μ-loop
 returns c = search needs
 
@@ -56,10 +55,10 @@ finishing-order-spec =
     mul-turns
     loop-holds
     sub-turns
+    slice-aggregate-turn
     turn-requires
     loop-less
     loop-again
     same-length
     same-length-2
-    same-length-3
     returns)

@@ -1,7 +1,6 @@
 -- `outcome::pass::settle` meets its contract, by the order where it is complete.
 -- Assumes nothing.
 use borrow.Author.Needs.{needs}
-use native.Mathlib.Omega.{arith}
 use Rattle.outcome.proofs.pass.settle.Statement.{statement}
 use Rattle.outcome.proofs.pass.settle.Tie as tie
 use Rattle.outcome.proofs.pass.settle.Reads as reads
@@ -14,7 +13,9 @@ complete-requires : tie.Need-complete-requires
 complete-requires c κs = search needs
 
 settle-in-order-requires : tie.Need-settle-in-order-requires
-settle-in-order-requires c κs = (c .before .before .before .before .before .before .before .before .pre, c .before .before .complete .ensures (c .before .if1 .taken))
+settle-in-order-requires c κs =
+    let start = c .before .before .before .before .before .before .before .before .before in
+    (start .pre .0, c .before .before .complete .ensures (c .before .if1 .taken), start .pre .1, start .pre .2, start .pre .3)
 
 settle-plainly-requires : tie.Need-settle-plainly-requires
 settle-plainly-requires c κs = search needs

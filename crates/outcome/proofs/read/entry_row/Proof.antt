@@ -3,9 +3,7 @@
 use borrow.Author.Needs.{needs}
 use borrow.Author.Tests.{eqb-true, eqb-false}
 use mathlib.Core.Path.{sym, _∙_, ap}
-use mathlib.Core.Bool.{true, false}
-use Prim.Native.Nat.{ℕ}
-use Rattle.image.specs.Word.{kind, payload}
+use Rattle.image.specs.Word.{kind}
 use Rattle.outcome.specs.Words.{rowIn}
 use Rattle.outcome.proofs.Walks.{entry-kinds}
 use Rattle.outcome.proofs.read.entry_row.Statement.{statement}

@@ -3,19 +3,20 @@
 use borrow.Author.Needs.{needs}
 use borrow.Author.Tests.{not-true, not-false}
 use native.Mathlib.Omega.{arith}
-use mathlib.Core.Path.{sym, ap, _∙_}
-use Prim.Native.Nat.{_-_}
+use mathlib.Core.Path.{sym, _∙_}
+use Prim.Native.Nat.{_+_, _-_}
 use lib.ListN.{length}
-use Rattle.outcome.specs.Words.{liveRow}
-use Rattle.outcome.proofs.Walks.{Folding, folding-start, folding-turn, folding-out, folding-end}
+use Rattle.outcome.proofs.Walks.{Folding, folding-start, folding-turn, folding-out, folding-dead, folding-end}
 use Rattle.outcome.proofs.read.read_alternative.Statement.{statement}
 use Rattle.outcome.proofs.read.read_alternative.Tie as tie
 use Rattle.outcome.proofs.read.read_alternative.Reads as reads
 use Rattle.outcome.proofs.read.read_alternative.Lts as lts
 use Rattle.image.proofs.word.is_entry.Reads as is-entry-reads
+use Rattle.outcome.proofs.read.entries_end.Reads as entries-end-reads
 use Rattle.outcome.proofs.read.entry_row.Reads as entry-row-reads
 use Rattle.outcome.proofs.row.joined.Reads as joined-reads
 use Rattle.outcome.proofs.row.live.Reads as live-reads
+use Rattle.outcome.proofs.row.none.Reads as none-reads
 use Rattle.outcome.proofs.row.start.Reads as start-reads
 
 abbrev Inv-loop : tie.InvT-loop
@@ -74,23 +75,48 @@ add-i c =
     let turn = c .before .before .before .before .before in
     omega (arith, turn .loop-test .taken, turn .before .before .before .before .before .before .good)
 
+none-requires : tie.Need-none-requires Inv-loop μ-loop
+none-requires c κs = search needs
+
+entries-end-requires : tie.Need-entries-end-requires Inv-loop μ-loop
+entries-end-requires c κs = search needs
+
+returns-2 : tie.Need-returns-2 Inv-loop μ-loop
+returns-2 c =
+    let dead = c .before .before in
+    let join = dead .before .before in
+    let entry = join .before .before .before in
+    let at-loop = entry .before .before .before in
+    let a = at-loop .before .before .before .before .before .args in
+    let here : Folding (a .all) (a .steps .now) (a .table .now) (a .part .now) (a .at) (join .joined .result) (at-loop .loop .i + 1) =
+    rw (join .joined .ensures, join .before .entry-row .ensures)
+    (folding-turn (a .all) (a .steps .now) (a .table .now) (a .part .now) (a .at) (at-loop .loop .x) (at-loop .loop .i) (at-loop .loop .inv) (omega arith)
+    (sym (entry .is-entry .ensures) ∙ not-false _ (join .before .before .if1 .left))) in
+    record {
+      row = c .before .none .ensures ∙ folding-dead (a .all) (a .steps .now) (a .table .now) (a .part .now) (a .at) (join .joined .result) (at-loop .loop .i + 1) here (dead .if2 .taken);
+      low = omega (arith, here .low, c .entries-end .ensures .low);
+      within = c .entries-end .ensures .within;
+      skips = λ X. here .skips X ∙ c .entries-end .ensures .skips (a .all) (a .steps .now) (a .table .now) X;
+    }
+
 loop-less : tie.Need-loop-less Inv-loop μ-loop
 loop-less c = search needs
 
 loop-again : tie.Need-loop-again Inv-loop μ-loop
 loop-again c =
-    let entry = c .before .before .before in
+    let join = c .before .before in
+    let entry = join .before .before .before in
     let at-loop = entry .before .before .before in
     let a = at-loop .before .before .before .before .before .args in
-    rw (c .joined .ensures, c .before .entry-row .ensures)
+    rw (join .joined .ensures, join .before .entry-row .ensures)
     (folding-turn (a .all) (a .steps .now) (a .table .now) (a .part .now) (a .at) (at-loop .loop .x) (at-loop .loop .i) (at-loop .loop .inv) (omega arith)
-    (sym (entry .is-entry .ensures) ∙ not-false _ (c .before .before .if1 .left)))
+    (sym (entry .is-entry .ensures) ∙ not-false _ (join .before .before .if1 .left)))
 
 live-requires-2 : tie.Need-live-requires-2 Inv-loop μ-loop
 live-requires-2 c κs = search needs
 
-returns-2 : tie.Need-returns-2 Inv-loop μ-loop
-returns-2 c =
+returns-3 : tie.Need-returns-3 Inv-loop μ-loop
+returns-3 c =
     let at-loop = c .before .before in
     let a = at-loop .before .before .before .before .before .args in
     record {
@@ -116,7 +142,10 @@ read-alternative-spec =
     entry-row-requires
     joined-requires
     add-i
+    none-requires
+    entries-end-requires
+    returns-2
     loop-less
     loop-again
     live-requires-2
-    returns-2)
+    returns-3)

@@ -2,15 +2,18 @@
 -- Assumes nothing.
 use borrow.Author.Needs.{needs}
 use native.Mathlib.Omega.{arith}
-use mathlib.Core.Path.{sym, ap, _∙_}
+use mathlib.Core.Path.{sym, _∙_}
 use Prim.Native.Nat.{_+_, _-_}
 use lib.ListN.{length}
-use Rattle.outcome.proofs.Walks.{Uniting, empty-read, uniting-start, uniting-out, uniting-end, uniting-skip, uniting-turn}
+use Rattle.outcome.specs.Words.{startRow, orRows, liveRow}
+use Rattle.outcome.proofs.Walks.{Uniting, empty-read, uniting-start, uniting-out, uniting-end, uniting-skip, uniting-empties, uniting-turn}
+use Rattle.outcome.proofs.Stores.{rows-again}
 use Rattle.outcome.proofs.read.read_sequence.Statement.{statement}
 use Rattle.outcome.proofs.read.read_sequence.Tie as tie
 use Rattle.outcome.proofs.read.read_sequence.Reads as reads
 use Rattle.outcome.proofs.read.read_sequence.Lts as lts
 use Rattle.image.proofs.word.is_kind.Reads as is-kind-reads
+use Rattle.outcome.proofs.read.empties_end.Reads as empties-end-reads
 use Rattle.outcome.proofs.read.entry_at.Reads as entry-at-reads
 use Rattle.outcome.proofs.read.read_alternative.Reads as read-alternative-reads
 use Rattle.outcome.proofs.row.live.Reads as live-reads
@@ -92,21 +95,26 @@ live-requires c κs = search needs
 united-requires-2 : tie.Need-united-requires-2 Inv-loop μ-loop
 united-requires-2 c κs = search needs
 
+empties-end-requires : tie.Need-empties-end-requires Inv-loop μ-loop
+empties-end-requires c κs = search needs
+
 loop-less-2 : tie.Need-loop-less-2 Inv-loop μ-loop
-loop-less-2 c = search needs
+loop-less-2 c = omega (arith, c .empties-end .ensures .low, c .before .before .before .before .before .before .before .before .before .before .before .loop-test .taken)
 
 loop-again-2 : tie.Need-loop-again-2 Inv-loop μ-loop
 loop-again-2 c =
-    let live = c .before in
+    let live = c .before .before in
     let none = live .before .before in
     let alternative = none .before .before .before in
     let sequence = alternative .before .before in
     let at-loop = sequence .before .before .before in
     let a = at-loop .before .before .before .before .before .args in
-    rw (c .united2 .ensures, live .live .ensures, live .before .start .ensures)
+    rw (c .before .united2 .ensures, live .live .ensures, live .before .start .ensures)
+    (uniting-empties (a .all) (a .steps .now) (a .table .now) (a .part .now) (a .at) (orRows (at-loop .loop .x) (liveRow (startRow (a .all)))) (at-loop .loop .i + 1)
     (uniting-turn (a .all) (a .steps .now) (a .table .now) (a .part .now) (a .at) (at-loop .loop .x) (at-loop .loop .i) (at-loop .loop .inv) (omega arith)
     (sym (sequence .is-kind .ensures) ∙ alternative .before .if1 .left) (sym (alternative .is-kind2 .ensures) ∙ none .before .before .if2 .taken) _
     (empty-read (a .all) (a .steps .now) (a .table .now) (a .part .now) (at-loop .loop .i + 1) (omega arith) (none .before .entry-at .ensures (none .if3 .left))))
+    (c .empties-end .result) (c .empties-end .ensures) (rows-again (at-loop .loop .x) (liveRow (startRow (a .all)))))
 
 loop-less-3 : tie.Need-loop-less-3 Inv-loop μ-loop
 loop-less-3 c = search needs
@@ -148,6 +156,7 @@ read-sequence-spec =
     start-requires
     live-requires
     united-requires-2
+    empties-end-requires
     loop-less-2
     loop-again-2
     loop-less-3

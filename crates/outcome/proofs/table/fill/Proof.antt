@@ -1,4 +1,4 @@
--- `outcome::table::fill` meets its contract.
+-- `outcome::table::fill` meets its contract: the rows of the steps have the room that they ask.
 -- Assumes nothing.
 use borrow.Author.Needs.{needs}
 use native.Mathlib.Omega.{arith}
@@ -7,22 +7,22 @@ use Rattle.outcome.proofs.table.fill.Statement.{statement}
 use Rattle.outcome.proofs.table.fill.Tie as tie
 use Rattle.outcome.proofs.table.fill.Reads as reads
 use Rattle.outcome.proofs.table.fill.Lts as lts
-use Rattle.outcome.proofs.table.fill_by.Reads as fill-by-reads
+use Rattle.outcome.proofs.table.fill_rows.Reads as fill-rows-reads
 
-slice-aggregate-fill-by : tie.Need-slice-aggregate-fill-by
-slice-aggregate-fill-by c = search needs
+slice-aggregate-fill-rows : tie.Need-slice-aggregate-fill-rows
+slice-aggregate-fill-rows c = search needs
 
-fill-by-requires : tie.Need-fill-by-requires
-fill-by-requires c κs =
+fill-rows-requires : tie.Need-fill-rows-requires
+fill-rows-requires c κs =
     let few = c .before .before .before .before .before in
     let start = few .before .before .before .before .before .before .before .before in
     (start .pre .0, start .pre .1, rows-asked (start .args .h) (start .args .masks .now) 512 (start .pre .1 .wide) (omega (arith, few .if1 .taken)))
 
-slice-aggregate-fill-by-2 : tie.Need-slice-aggregate-fill-by-2
-slice-aggregate-fill-by-2 c = search needs
+slice-aggregate-fill-rows-2 : tie.Need-slice-aggregate-fill-rows-2
+slice-aggregate-fill-rows-2 c = search needs
 
-fill-by-requires-2 : tie.Need-fill-by-requires-2
-fill-by-requires-2 c κs =
+fill-rows-requires-2 : tie.Need-fill-rows-requires-2
+fill-rows-requires-2 c κs =
     let start = c .before .before .before .before .before .before .before .before .before .before .before .before .before in
     (start .pre .0, start .pre .1, rows-asked (start .args .h) (start .args .masks .now) 8192 (start .pre .1 .wide) (omega (arith, start .pre .0 .steps-high)))
 
@@ -60,10 +60,10 @@ pub fill-spec : {M : Type 1} → statement M
 fill-spec =
     tie.close
     (tie.spec
-    slice-aggregate-fill-by
-    fill-by-requires
-    slice-aggregate-fill-by-2
-    fill-by-requires-2
+    slice-aggregate-fill-rows
+    fill-rows-requires
+    slice-aggregate-fill-rows-2
+    fill-rows-requires-2
     same-length
     same-length-2
     same-length-3

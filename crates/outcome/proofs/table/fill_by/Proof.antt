@@ -13,7 +13,7 @@ use Rattle.outcome.proofs.pass.settle.Reads as settle-reads
 use Rattle.outcome.proofs.row.all_facts.Reads as all-facts-reads
 use Rattle.outcome.proofs.steps.write_step_rows.Reads as write-step-rows-reads
 use Rattle.outcome.proofs.table.clear.Reads as clear-reads
-use Rattle.outcome.proofs.table.prepare.Reads as prepare-reads
+use Rattle.outcome.proofs.table.prepare_by.Reads as prepare-by-reads
 
 cast-n : tie.Need-cast-n
 cast-n c = search needs
@@ -21,9 +21,9 @@ cast-n c = search needs
 all-facts-requires : tie.Need-all-facts-requires
 all-facts-requires c κs = search needs
 
-prepare-requires : tie.Need-prepare-requires
-prepare-requires c κs =
-    let start = c .before .before .before .before .before .before .before .before .before .before .before .before in
+prepare-by-requires : tie.Need-prepare-by-requires
+prepare-by-requires c κs =
+    let start = c .before .before .before .before .before .before .before .before .before .before .before .before .before .before in
     let a = start .args in
     prepare-asked (a .h) (a .steps .now) (a .sequences .now) (a .table .now) _ _ _ (start .pre .0) (start .pre .1)
 
@@ -32,64 +32,74 @@ cast-write-step-rows c = search needs
 
 write-step-rows-requires : tie.Need-write-step-rows-requires
 write-step-rows-requires c κs =
-    let prepared = c .before .before .before .before .before .before .before .before .before in
-    let start = prepared .before .before .before .before .before .before .before .before .before .before .before .before .before in
-    (omega (arith, prepared .prepare .kept, start .pre .2 .masks-room), start .pre .2 .rows-room)
+    let prepared = c .before .before .before .before .before .before .before .before .before .before .before in
+    let start = prepared .before .before .before .before .before .before .before .before .before .before .before .before .before .before .before in
+    (omega (arith, prepared .prepare-by .kept, start .pre .2 .masks-room), start .pre .2 .rows-room)
 
 clear-requires : tie.Need-clear-requires
 clear-requires c κs = search needs
 
 slice-reshare-prefix-settle : tie.Need-slice-reshare-prefix-settle
-slice-reshare-prefix-settle c = search needs
+slice-reshare-prefix-settle c =
+    let prepared = c .before .before .before .before .before .before .before .before .before .before .before .before .before .before .before .before .before .before .before .before .before in
+    let start = prepared .before .before .before .before .before .before .before .before .before .before .before .before .before .before .before in
+    omega (arith, prepared .prepare-by .kept, start .pre .1 .long, start .pre .0 .sequences-high)
 
 slice-aggregate-settle : tie.Need-slice-aggregate-settle
 slice-aggregate-settle c =
-    let prepared = c .before .before .before .before .before .before .before .before .before .before .before .before .before .before .before .before .before .before .before in
-    let start = prepared .before .before .before .before .before .before .before .before .before .before .before .before .before in
-    sym (length-take-le _ _ (omega (arith, prepared .prepare .kept, start .pre .1 .long, start .pre .0 .sequences-high)))
+    let prepared = c .before .before .before .before .before .before .before .before .before .before .before .before .before .before .before .before .before .before .before .before .before .before in
+    let start = prepared .before .before .before .before .before .before .before .before .before .before .before .before .before .before .before in
+    sym (length-take-le _ _ (omega (arith, prepared .prepare-by .kept, start .pre .1 .long, start .pre .0 .sequences-high)))
 
 settle-requires : tie.Need-settle-requires
 settle-requires c κs =
-    let cleared = c .before .before .before .before .before .before in
+    let cleared = c .before .before .before .before .before .before .before in
     let rows = cleared .before .before .before .before in
-    let prepared = rows .before .before .before .before .before .before .before .before .before .before in
-    let facts = prepared .before .before .before .before in
-    let start = facts .before .before .before .before .before .before .before .before .before in
-    let a = start .args in
-    fill-visitable (a .h) (a .steps .now) (a .sequences .now) (a .table .now) (start .pre .0) (a .masks .now) (a .rows .now) (start .pre .2) (facts .all-facts .result) (facts .all-facts .ensures)
-    (prepared .prepare .last .1 .1 .1 .0) _ (rows .write-step-rows .last .1 .1 .1 .0) (prepared .prepare .last .1 .1 .1 .1 .0) _ (prepared .prepare .ensures .masked) (rows .write-step-rows .ensures)
-    (omega (arith, rows .write-step-rows .kept)) (omega (arith, prepared .prepare .kept, start .pre .1 .narrow)) (prepared .prepare .ensures .placed)
-    (cleared .clear .last .0) (omega (arith, cleared .clear .kept))
+    let prepared = rows .before .before .before .before .before .before .before .before .before .before .before .before in
+    let facts = prepared .before .before .before .before .before in
+    let start = facts .before .before .before .before .before .before .before .before .before .before in
+    let a = start .args in (
+      fill-visitable (a .h) (a .steps .now) (a .sequences .now) (a .table .now) (start .pre .0) (a .masks .now) (a .rows .now) (start .pre .2) (facts .all-facts .result) (facts .all-facts .ensures)
+          (prepared .prepare-by .last .1 .1 .1 .0) _ (rows .write-step-rows .last .1 .1 .1 .0) (prepared .prepare-by .last .1 .1 .1 .1 .0) _ (prepared .prepare-by .ensures .0 .masked) (rows .write-step-rows .ensures)
+          (omega (arith, rows .write-step-rows .kept)) (omega (arith, prepared .prepare-by .kept, start .pre .1 .narrow)) (prepared .prepare-by .ensures .0 .placed)
+          (cleared .clear .last .0) (omega (arith, cleared .clear .kept)),
+      start .pre .0 .sequences-high,
+      omega (arith, prepared .prepare-by .kept, start .pre .3),
+      prepared .prepare-by .ensures .1,
+    )
 
 same-length : tie.Need-same-length
-same-length c = omega (arith, c .before .before .before .before .before .before .before .before .before .before .before .before .before .before .before .before .before .before .before .before .before .before .before .prepare .kept)
+same-length c = omega (arith, c .before .before .before .before .before .before .before .before .before .before .before .before .before .before .before .before .before .before .before .before .before .before .before .before .before .before .prepare-by .kept)
 
 same-length-2 : tie.Need-same-length-2
-same-length-2 c = omega (arith, c .before .before .before .before .before .before .before .before .before .before .before .before .before .before .before .before .before .before .before .before .before .before .before .prepare .kept)
+same-length-2 c = omega (arith, c .before .before .before .before .before .before .before .before .before .before .before .before .before .before .before .before .before .before .before .before .before .before .before .before .before .before .prepare-by .kept)
 
 same-length-3 : tie.Need-same-length-3
-same-length-3 c = omega (arith, c .before .before .before .before .before .before .before .before .before .before .before .before .before .before .before .before .before .before .before .before .before .before .before .prepare .kept)
+same-length-3 c = omega (arith, c .before .before .before .before .before .before .before .before .before .before .before .before .before .before .before .before .before .before .before .before .before .before .before .before .before .before .prepare-by .kept)
 
 same-length-4 : tie.Need-same-length-4
-same-length-4 c = omega (arith, c .before .before .before .before .before .before .before .before .before .before .before .before .before .write-step-rows .kept)
+same-length-4 c = omega (arith, c .before .before .before .before .before .before .before .before .before .before .before .before .before .before .before .before .before .before .before .before .before .before .before .before .before .before .prepare-by .kept)
 
 same-length-5 : tie.Need-same-length-5
-same-length-5 c = omega (arith, c .before .before .settle .kept, c .before .before .before .before .before .before .before .before .before .clear .kept)
+same-length-5 c = omega (arith, c .before .before .before .before .before .before .before .before .before .before .before .before .before .before .write-step-rows .kept)
+
+same-length-6 : tie.Need-same-length-6
+same-length-6 c = omega (arith, c .before .before .settle .kept, c .before .before .before .before .before .before .before .before .before .before .clear .kept)
 
 returns : tie.Need-returns
 returns c =
     let settled = c .before .before in
-    let cleared = settled .before .before .before .before .before .before .before in
+    let cleared = settled .before .before .before .before .before .before .before .before in
     let rows = cleared .before .before .before .before in
-    let prepared = rows .before .before .before .before .before .before .before .before .before .before in
-    let facts = prepared .before .before .before .before in
-    let start = facts .before .before .before .before .before .before .before .before .before in
+    let prepared = rows .before .before .before .before .before .before .before .before .before .before .before .before in
+    let facts = prepared .before .before .before .before .before in
+    let start = facts .before .before .before .before .before .before .before .before .before .before in
     let a = start .args in (
-      prepared .prepare .ensures,
+      prepared .prepare-by .ensures .0,
       fill-done (a .h) (a .steps .now) (a .sequences .now) (a .table .now) (start .pre .0) (a .masks .now) (a .rows .now) (start .pre .2) (facts .all-facts .result) (facts .all-facts .ensures)
-          (prepared .prepare .last .1 .1 .1 .0) _ (rows .write-step-rows .last .1 .1 .1 .0) (prepared .prepare .last .1 .1 .1 .1 .0) _ (prepared .prepare .ensures .masked) (rows .write-step-rows .ensures)
-          (omega (arith, rows .write-step-rows .kept)) (omega (arith, prepared .prepare .kept, start .pre .1 .narrow)) (prepared .prepare .ensures .placed)
-          (cleared .clear .last .0) (settled .settle .last .1 .1 .1 .1 .1 .0) (omega (arith, cleared .clear .kept)) (cleared .clear .ensures) (settled .settle .ensures),
+          (prepared .prepare-by .last .1 .1 .1 .0) _ (rows .write-step-rows .last .1 .1 .1 .0) (prepared .prepare-by .last .1 .1 .1 .1 .0) _ (prepared .prepare-by .ensures .0 .masked) (rows .write-step-rows .ensures)
+          (omega (arith, rows .write-step-rows .kept)) (omega (arith, prepared .prepare-by .kept, start .pre .1 .narrow)) (prepared .prepare-by .ensures .0 .placed)
+          (cleared .clear .last .0) (settled .settle .last .1 .1 .1 .1 .1 .1 .0) (omega (arith, cleared .clear .kept)) (cleared .clear .ensures) (settled .settle .ensures),
     )
 
 pub fill-by-spec : {M : Type 1} → statement M
@@ -98,7 +108,7 @@ fill-by-spec =
     (tie.spec
     cast-n
     all-facts-requires
-    prepare-requires
+    prepare-by-requires
     cast-write-step-rows
     write-step-rows-requires
     clear-requires
@@ -110,4 +120,5 @@ fill-by-spec =
     same-length-3
     same-length-4
     same-length-5
+    same-length-6
     returns)
