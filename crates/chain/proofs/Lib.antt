@@ -14,6 +14,7 @@ pub mod Walk
 pub mod Folds
 pub mod Looks
 pub mod Choices
+pub mod Slots
 pub mod Settling
 pub mod Writing
 pub mod Describes

@@ -74,7 +74,22 @@ module _ (S : List Sequence) (test : Item → Bool) (run : ℕ → Bool)
   pub passes-iff : (es : List Entry) → (every (entryPasses test run) es ≡ true) ↔ ((w : List Item) × Gives S es w × (every test w ≡ true))
   passes-iff es = (passes-given es, λ r. given-passes (r .1) (r .2))
 
+-- a sequence has a run exactly where it has one whose items pass a test that all do
+pub any-run : (L : Library) (d : ℕ) → (hasRun L d ≡ true) ↔ ((w : List Item) × RunOf (L .sequences) d w × (every (λ (a : Item). true) w ≡ true))
+any-run L d = (
+  (λ h. let r = hasRun-iff L d .0 h in (r .0, r .1, every-true (r .0))),
+  λ r. hasRun-iff L d .1 (r .0, r .1),
+)
+
 module _ (L : Library) (q : Question) (f : ℕ) where
+  -- and can stay untouched exactly where it has one whose items all leave the fact untouched
+  pub quiet-run : (d : ℕ) → (possibleOutcome L (untouchedOn q) d f ≡ true)
+      ↔ ((w : List Item) × RunOf (L .sequences) d w × (every (λ a. sameMark (itemTouch L (q .side) f a) untouched) w ≡ true))
+  quiet-run d = (
+    (λ h. let r = question-iff L (untouchedOn q) d f .0 h in (r .0, r .1, passes-untouched (q .side) (itemTouch L (q .side) f) (r .0) .1 (r .2))),
+    λ r. question-iff L (untouchedOn q) d f .1 (r .0, r .1, passes-untouched (q .side) (itemTouch L (q .side) f) (r .0) .0 (r .2)),
+  )
+
   -- "can stay untouched"
   pub canStay-iff : (es : List Entry) → (every (canStay L q f) es ≡ true) ↔ ((w : List Item) × Gives (L .sequences) es w × HasOutcome L (untouchedOn q) f w)
   canStay-iff es = (
@@ -85,15 +100,8 @@ module _ (L : Library) (q : Question) (f : ℕ) where
       t : Item → Mark
       t a = itemTouch L (q .side) f a
 
-      right : (d : ℕ) → (possibleOutcome L (untouchedOn q) d f ≡ true)
-          ↔ ((w : List Item) × RunOf (L .sequences) d w × (every (λ a. sameMark (t a) untouched) w ≡ true))
-      right d = (
-        (λ h. let r = question-iff L (untouchedOn q) d f .0 h in (r .0, r .1, passes-untouched (q .side) t (r .0) .1 (r .2))),
-        λ r. question-iff L (untouchedOn q) d f .1 (r .0, r .1, passes-untouched (q .side) t (r .0) .0 (r .2)),
-      )
-
       each : (every (canStay L q f) es ≡ true) ↔ ((w : List Item) × Gives (L .sequences) es w × (every (λ a. sameMark (t a) untouched) w ≡ true))
-      each = passes-iff (L .sequences) (λ a. sameMark (t a) untouched) (λ d. possibleOutcome L (untouchedOn q) d f) right es
+      each = passes-iff (L .sequences) (λ a. sameMark (t a) untouched) (λ d. possibleOutcome L (untouchedOn q) d f) quiet-run es
 
   -- "has a run"
   pub canRun-iff : (es : List Entry) → (every (canRun L q f) es ≡ true) ↔ ((w : List Item) × Gives (L .sequences) es w)
@@ -102,14 +110,8 @@ module _ (L : Library) (q : Question) (f : ℕ) where
     λ r. each .1 (r .0, r .1, every-true (r .0)),
   )
     where
-      right : (d : ℕ) → (hasRun L d ≡ true) ↔ ((w : List Item) × RunOf (L .sequences) d w × (every (λ (a : Item). true) w ≡ true))
-      right d = (
-        (λ h. let r = hasRun-iff L d .0 h in (r .0, r .1, every-true (r .0))),
-        λ r. hasRun-iff L d .1 (r .0, r .1),
-      )
-
       each : (every (canRun L q f) es ≡ true) ↔ ((w : List Item) × Gives (L .sequences) es w × (every (λ (a : Item). true) w ≡ true))
-      each = passes-iff (L .sequences) (λ a. true) (λ d. hasRun L d) right es
+      each = passes-iff (L .sequences) (λ a. true) (λ d. hasRun L d) (any-run L) es
 
   -- what is asked of the entries before a position and of those after it, on either side
   pub beside-given : (s : Side) (xs ys : List Entry) → every (aheadOf L q f s) xs ≡ true → every (behindOf L q f s) ys ≡ true

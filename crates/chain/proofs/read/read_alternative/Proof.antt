@@ -12,13 +12,12 @@ use Rattle.chain.proofs.read.greatest_depth.Reads as greatest-depth-rea
 greatest-depth-requires : tie.Need-greatest-depth-requires
 greatest-depth-requires c κs =
     let start = c .before .before .before .before .before .before in
-    let readable = start .pre .0 in
-    (record { fact = readable .fact; within = λ i l. let w = readable .within i l in (w .0, λ k. w .1 k .1) }, start .pre .1)
+    (start .pre .0 .by-ranks, start .pre .1)
 
 returns : tie.Need-returns
 returns c =
     let a = c .before .before .before .before .before .before .before .args in
-    look-depth (a .q) (a .masks .now) (a .table .now) (a .ranks .now) (a .part .now) (a .at) (c .greatest-depth .result) (c .before .if1 .taken) (c .greatest-depth .ensures)
+    look-depth (a .q) (a .ahead .now) (a .behind .now) (a .ranks .now) (a .part .now) (a .at) (c .greatest-depth .result) (c .before .if1 .taken) (c .greatest-depth .ensures)
 
 fewest-links-requires : tie.Need-fewest-links-requires
 fewest-links-requires c κs = search needs
@@ -26,7 +25,7 @@ fewest-links-requires c κs = search needs
 returns-2 : tie.Need-returns-2
 returns-2 c =
     let a = c .before .before .before .before .before .before .before .args in
-    look-links (a .q) (a .masks .now) (a .table .now) (a .ranks .now) (a .part .now) (a .at) (c .fewest-links .result) (c .before .if1 .left) (c .fewest-links .ensures)
+    look-links (a .q) (a .ahead .now) (a .behind .now) (a .ranks .now) (a .part .now) (a .at) (c .fewest-links .result) (c .before .if1 .left) (c .fewest-links .ensures)
 
 pub read-alternative-spec : {M : Type 1} → statement M
 read-alternative-spec =
