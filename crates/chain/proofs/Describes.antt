@@ -21,11 +21,12 @@ use Rattle.outcome.specs.Execution.{noStep, stepOf}
 use Rattle.outcome.specs.Touch.{Side, last, first, Mark, present, absent, untouched, Question, touch, itemTouch}
 use Rattle.outcome.specs.Algebra.{sameMark}
 use Rattle.chain.specs.Link.{Link, touchLink, untouchedLink, Chain}
+use Rattle.chain.specs.Scan.{every}
 use Rattle.chain.specs.Stands.{entryAt}
-use Rattle.chain.specs.Ranks.{Ranks, Reached, Linked, Closed, unranked, entryRank, entryPasses, depthLook, hasMark, canStay, canRun, aheadOf, behindOf, touchLook, untouchedLook}
+use Rattle.chain.specs.Ranks.{Ranks, Reached, Linked, Closed, unranked, entryRank, entryPasses, depthLook, passLook, hasMark, canStay, canRun, aheadOf, behindOf, touchLook, untouchedLook}
 use Rattle.chain.specs.Answer.{Answer, none, shown, chosenAlternative, followed, linksFrom, touchAnswer, untouchedAnswer}
 use Rattle.chain.specs.Walk.{linkFrom, alternativeFrom, depthFrom, fewestFrom}
-use Rattle.chain.specs.Tables.{entryNumber, inRanks, rankIn, passIn, depthIn, fewestIn, lookIn, alternativesAt, stepMark, markIn, stepRank, Stepped}
+use Rattle.chain.specs.Tables.{entryNumber, inRanks, rankIn, passIn, depthIn, everyIn, fewestIn, lookIn, alternativesAt, stepMark, markIn, stepRank, Stepped}
 use Rattle.chain.specs.Choice.{linkIn, linkEntry, linkAt, linksIn, quietLink, answerIn}
 use Rattle.chain.specs.Described.{isFirst, markNumber, sideBy, Asks, Masked, Placed, StepsBy, Described}
 use Rattle.chain.specs.declared.entry.Asked.{Asked}
@@ -143,6 +144,16 @@ pass-is n some test run T steps ranked (call d) = ranked d
 
 -- ---- the looks are the library's
 
+-- where it is only asked whether all entries pass
+pub pass-look : (m : ℕ) → 0 < m → (q : Asked) (ahead behind : List ℕ) → q .none ≡ m → q .mark ≡ 3 → (test : Item → Bool) (T : List ℕ) → StepsBy m 0 test T
+    → lookIn q ahead behind T ≡ passLook m test (inRanks m T)
+unfolding passLook
+pass-look m some q ahead behind none-is three test T steps =
+    let by : ℕ → ℕ → Alternative → ℕ =
+    λ k n es. cond (eqb k 2) (depthIn n T es) (cond (eqb k 3) (everyIn n T es) (fewestIn n ahead behind T es)) in
+    ap₂ by three none-is
+    ∙ fun-ext (λ es. ap (λ (p : Entry → Bool). cond (every p es) 0 m) (fun-ext (pass-is m some test (λ d. ltb (inRanks m T d) m) T steps (λ d. refl))))
+
 module _ (L : Library) (q : Asked) (Q : Question) (asks : Asks L q Q) where
   two-is : (b : Bool) → eqb (markNumber (Q .mark)) 2 ≡ b → eqb (q .mark) 2 ≡ b
   two-is b e = ap (λ (n : ℕ). eqb n 2) (asks .mark) ∙ e
@@ -152,18 +163,23 @@ module _ (L : Library) (q : Asked) (Q : Question) (asks : Asks L q Q) where
   touch-number absent t = refl
   touch-number untouched t = absurd (t refl)
 
+  three-is : (m : Mark) → Q .mark ≡ m → eqb (q .mark) 3 ≡ false
+  three-is present e = ap (λ (n : ℕ). eqb n 3) (asks .mark ∙ ap markNumber e)
+  three-is absent e = ap (λ (n : ℕ). eqb n 3) (asks .mark ∙ ap markNumber e)
+  three-is untouched e = ap (λ (n : ℕ). eqb n 3) (asks .mark ∙ ap markNumber e)
+
   quiet-number : (m : Mark) → m ≡ untouched → eqb (markNumber m) 2 ≡ true
   quiet-number m e = ap (λ (n : Mark). eqb (markNumber n) 2) e
 
   module _ (ahead behind : List ℕ) where
-    abbrev lookBy : List ℕ → ℕ → Bool → Alternative → ℕ
-    lookBy T n b es = cond b (depthIn n T es) (fewestIn n ahead behind T es)
+    abbrev lookBy : List ℕ → ℕ → Bool → Bool → Alternative → ℕ
+    lookBy T n b d es = cond b (depthIn n T es) (cond d (everyIn n T es) (fewestIn n ahead behind T es))
 
     -- the depth, by any test of the steps
     pub depth-look : Q .mark ≡ untouched → (test : Item → Bool) (T : List ℕ) → StepsBy (unranked L) 0 test T
         → lookIn q ahead behind T ≡ depthLook (unranked L) test (inRanks (unranked L) T)
     depth-look quiet test T steps =
-        ap₂ (lookBy T) (asks .none) (two-is true (quiet-number (Q .mark) quiet))
+        ap₂ (λ (n : ℕ) (b : Bool). lookBy T n b (eqb (q .mark) 3)) (asks .none) (two-is true (quiet-number (Q .mark) quiet))
         ∙ fun-ext (λ es. ap (λ (r : Entry → ℕ). depthFrom r 0 es) (rank-is (unranked L) 0 test T steps) ∙ sym (depth-from (unranked L) test (inRanks (unranked L) T) es))
 
     -- the links
@@ -171,7 +187,8 @@ module _ (L : Library) (q : Asked) (Q : Question) (asks : Asks L q Q) where
         → lookIn q ahead behind T ≡ touchLook L Q (q .fact) (inRanks (unranked L) T)
     touch-look touch described T steps =
         let n = unranked L in
-        ap₂ (lookBy T) (asks .none) (two-is false (touch-number (Q .mark) touch))
+        ap₂ (λ (n : ℕ) (b : Bool). lookBy T n b (eqb (q .mark) 3)) (asks .none) (two-is false (touch-number (Q .mark) touch))
+        ∙ ap (lookBy T n false) (three-is (Q .mark) refl)
         ∙ fun-ext (λ es.
         ap (λ (r : Entry → ℕ). fewestFrom n r (passIn n ahead) (passIn n behind) true n es) (rank-is n n (hasMark L Q (q .fact)) T steps)
         ∙ ap₂ (λ (a b : Entry → Bool). fewestFrom n (entryRank n (hasMark L Q (q .fact)) (inRanks n T)) a b true n es) (fun-ext (described .by-ahead)) (fun-ext (described .by-behind))

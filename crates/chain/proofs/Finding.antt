@@ -10,8 +10,6 @@ use mathlib.Core.Bool.{Bool, true, false, cond}
 use mathlib.Core.List.{List, [], _∷_, _++_}
 use lib.ListN.{length, getD, take, drop, replicate, length-replicate, List·getD-append, List·getD-eq-default}
 use lib.Seq.{getD-drop, getD-take, ext-getD, length-take-le}
-use lib.Dec.{ltb}
-use borrow.Author.Tests.{ltb-true, lt-ltb}
 use Rattle.column.proofs.Bits.{column-none}
 use Rattle.image.specs.Checked.{checked}
 use Rattle.image.specs.Rules.{opened}
@@ -30,23 +28,22 @@ use Rattle.outcome.specs.Possible.{hasRun, possibleOutcome}
 use Rattle.outcome.specs.Run.{Item, RunOf, alternativesOf}
 use Rattle.outcome.proofs.Fill.{blank-zeros, fill-asked, prepare-asked}
 use Rattle.outcome.proofs.Outcome.{present≢untouched, absent≢untouched}
-use Rattle.outcome.proofs.Tests.{both-ways}
-use Rattle.outcome.specs.Touch.{Mark, present, absent, untouched, Question, untouchedOn}
+use Rattle.outcome.specs.Touch.{Mark, present, absent, untouched, Question, untouchedOn, lastSet}
 use Rattle.outcome.specs.Algebra.{sameMark}
 use Rattle.chain.specs.Scan.{every}
-use Rattle.chain.specs.Ranks.{Look, Passing, unranked, entryPasses, hasMark, canStay, canRun, depthLook, touchLook, untouchedLook}
+use Rattle.chain.specs.Ranks.{Look, passLook, unranked, entryPasses, hasMark, canStay, canRun, touchLook, untouchedLook}
 use Rattle.chain.specs.Answer.{answer, ranksIn}
 use Rattle.chain.specs.Visits.{Visits, Settled}
 use Rattle.chain.specs.Tables.{inRanks, passIn, lookIn, Rankable, Readable, Visitable, Steppable, Ranked, alternativesAt}
 use Rattle.chain.specs.Choice.{Choosable, answerIn}
 use Rattle.chain.specs.Described.{Asks, Masked, Placed, StepsBy, Described, FindAsked, Made, Unranked, isFirst, markNumber, sideBy, markBy, questionBy}
 use Rattle.chain.specs.declared.entry.Asked.{Asked}
-use Rattle.chain.proofs.Depth.{depth-reached, run-ranked}
 use Rattle.chain.proofs.Passes.{quiet-run, any-run}
+use Rattle.chain.proofs.Whether.{Passable, pass-reached, pass-exact}
 use Rattle.chain.proofs.Ranks.{start-unranked}
-use Rattle.chain.proofs.Visits.{Good, settled-good, touch-good, settled-touch, settled-untouched}
+use Rattle.chain.proofs.Visits.{settled-good, touch-good, settled-touch, settled-untouched}
 use Rattle.chain.proofs.Settling.{pass-kept, pass-visits, pass-settled}
-use Rattle.chain.proofs.Describes.{described-by, steps-marked, steps-any, pass-is, depth-look, touch-look, touch-answer, quiet-answer}
+use Rattle.chain.proofs.Describes.{described-by, steps-marked, steps-any, pass-is, pass-look, depth-look, touch-look, touch-answer, quiet-answer}
 
 -- past the words of a list there is nothing
 blank-after : (xs rest : List ℕ) (k : ℕ) → Blank rest → length xs ≤ k → getD (xs ++ rest) k 0 ≡ 0
@@ -112,9 +109,18 @@ module _ (image : List ℕ) (h : Head) (accepted : checked image ≡ Accepted h)
       prepare-asked h first part (take (8 * h .sequences) area) ms zeros zeros (fill-asked h image area asked first part p q)
       (record { blank = blank; wide = wide; narrow = refl; long = refl })
 
--- the same question for "untouched"
+-- the same question for "untouched", and where only a rank counts
 abbrev pub quietly : Asked → Asked
 quietly q = record { first = q .first; mark = 2; fact = q .fact; none = q .none }
+
+abbrev pub whether : Asked → Asked
+whether q = record { first = q .first; mark = 3; fact = q .fact; none = q .none }
+
+touch-asked : (k : ℕ) → k ≤ 2 → k ≢ 2 → markBy k ≢ untouched
+touch-asked zero l t = present≢untouched
+touch-asked (suc zero) l t = absent≢untouched
+touch-asked (suc (suc zero)) l t = absurd (t refl)
+touch-asked (suc (suc (suc k))) l t = absurd (omega arith)
 
 -- from blank areas
 pub made-of : (image : List ℕ) (h : Head) (first part ms₀ ms ps : List ℕ) → first ≡ stepsPart image → part ≡ sequencesPart image → Blank ms₀
@@ -259,8 +265,9 @@ module _ (image : List ℕ) (h : Head) (accepted : checked image ≡ Accepted h)
         fact = omega (arith, has .facts);
       }
 
-  -- a table from one without a rank
-  module _ (any : Bool) (q : Asked) (Q : Question) (asks : Asks L q Q) (ahead behind before ranks : List ℕ) (yet : Unranked h q before) (ranked : Ranked any q (h .sequences) ms ahead behind part ps before ranks) where
+  -- a table from one without a rank, whose steps are ranked by the question p and whose sequences by q
+  module _ (any : Bool) (p q : Asked) (p-none : p .none ≡ unranked L) (q-none : q .none ≡ unranked L) (ahead behind before ranks : List ℕ)
+      (yet : Unranked h p before) (ranked : Ranked any p q (h .sequences) ms ahead behind part ps before ranks) where
     abbrev m : ℕ
     m = unranked L
 
@@ -271,164 +278,143 @@ module _ (image : List ℕ) (h : Head) (accepted : checked image ≡ Accepted h)
     start-none : take m (ranked .start) ≡ replicate m m
     start-none =
         ext-getD m (take m (ranked .start)) (replicate m m)
-        (length-take-le m (ranked .start) (omega (arith, ranked .steps .long, asks .none, yet .long)) ∙ sym (length-replicate m m))
+        (length-take-le m (ranked .start) (omega (arith, ranked .steps .long, yet .long)) ∙ sym (length-replicate m m))
         (λ i l.
-        let below : i < m = omega (arith, length-take-le m (ranked .start) (omega (arith, ranked .steps .long, asks .none, yet .long))) in
+        let below : i < m = omega (arith, length-take-le m (ranked .start) (omega (arith, ranked .steps .long, yet .long))) in
         getD-take m (ranked .start) i m below
-        ∙ ap (getD (ranked .start) i) (sym (asks .none)) ∙ ranked .steps .stays i (omega (arith, asks .none)) ∙ yet .empty i ∙ asks .none
+        ∙ ap (getD (ranked .start) i) (sym p-none) ∙ ranked .steps .stays i (omega arith) ∙ yet .empty i ∙ p-none
         ∙ sym (start-unranked (L .sequences) (λ T es. 0) m m i))
+
+    -- the ranks of the steps
+    steps-size : length before ≡ p .none + length (L .steps)
+    steps-size = omega (arith, has .steps, yet .long)
+
+    steps-stay : (past : ℕ) (test : Item → Bool) (T : List ℕ) → drop m T ≡ drop m (ranked .start) → StepsBy (p .none) past test (ranked .start) → StepsBy m past test T
+    steps-stay past test T same steps a =
+        ap (λ (l : List ℕ). getD l a past) (same ∙ ap (λ (n : ℕ). drop n (ranked .start)) (sym p-none)) ∙ steps a ∙ ap (cond (test a) 0) p-none
 
     -- by a look that the tables have, where the ranks of the steps are those that are written
     module _ (look : Look) (looks : (T : List ℕ) → drop m T ≡ drop m (ranked .start) → lookIn q ahead behind T ≡ look (inRanks m T)) where
-      pub made-kept : drop m ranks ≡ drop m (ranked .start)
-      made-kept =
-          pass-kept q ahead behind part ps (drop m (ranked .start)) (L .sequences) look m (h .sequences) (sym (has .sequences)) (omega (arith, has .sequences)) (asks .none) looks
-          (λ d l. places-made d (omega (arith, has .sequences))) refl (ranked .settled)
+      reads : (d : ℕ) → d < h .sequences → alternativesAt part ps d ≡ alternativesOf (L .sequences) d
+      reads d l = places-made d (omega (arith, has .sequences))
 
-      pub made-visits : Visits (L .sequences) look m (replicate m m) (take m ranks)
+      made-kept : drop m ranks ≡ drop m (ranked .start)
+      made-kept =
+          pass-kept q ahead behind part ps (drop m (ranked .start)) (L .sequences) look m (h .sequences) (sym (has .sequences)) (omega (arith, has .sequences)) q-none looks
+          reads refl (ranked .settled)
+
+      made-visits : Visits (L .sequences) look m (replicate m m) (take m ranks)
       made-visits =
           subst (λ (b : List ℕ). Visits (L .sequences) look m b (take m ranks)) start-none
-          (pass-visits q ahead behind part ps (drop m (ranked .start)) (L .sequences) look m (h .sequences) (sym (has .sequences)) (omega (arith, has .sequences)) (asks .none) looks
-          (λ d l. places-made d (omega (arith, has .sequences))) refl (ranked .settled))
+          (pass-visits q ahead behind part ps (drop m (ranked .start)) (L .sequences) look m (h .sequences) (sym (has .sequences)) (omega (arith, has .sequences)) q-none looks
+          reads refl (ranked .settled))
 
-      pub made-settled : Settled (L .sequences) look m (take m ranks)
+      made-settled : Settled (L .sequences) look m (take m ranks)
       made-settled =
-          pass-settled q ahead behind part ps (drop m (ranked .start)) (L .sequences) look m (h .sequences) (sym (has .sequences)) (omega (arith, has .sequences)) (asks .none) looks
-          (λ d l. places-made d (omega (arith, has .sequences))) refl (ranked .settled)
+          pass-settled q ahead behind part ps (drop m (ranked .start)) (L .sequences) look m (h .sequences) (sym (has .sequences)) (omega (arith, has .sequences)) q-none looks
+          reads refl (ranked .settled)
 
-  -- ---- the sequences that have a run all of whose steps pass
-
-  passing-ranked : (test : Item → Bool) (T : List ℕ) → Good (Passing (L .sequences) test) L (depthLook (unranked L) test) T → (d : ℕ) (b : Bool)
-      → ((b ≡ true) ↔ ((w : List Item) × RunOf (L .sequences) d w × (every test w ≡ true))) → ltb (ranksIn L T d) (unranked L) ≡ b
-  passing-ranked test T good d b right =
-      both-ways (ltb (ranksIn L T d) (unranked L)) b
-      (λ e.
-      let r = good .reached d (ltb-true (ranksIn L T d) (unranked L) e) in
-      right .1 (r .run, r .derivation, r .passes))
-      (λ e.
-      let r = right .0 e in
-      lt-ltb (ranksIn L T d) (unranked L)
-      (run-ranked (L .sequences) (unranked L) test (ranksIn L T) (good .reached) (good .closed) (omega arith) d (r .1) (r .2)))
-
-  module _ (q : Asked) (Q : Question) (asks : Asks L q Q) (ahead behind before ranks : List ℕ) (yet : Unranked h q before) where
-    -- the ranks of the steps stay
-    steps-stay : (past : ℕ) (test : Item → Bool) (T U : List ℕ) → drop (unranked L) T ≡ drop (unranked L) U → StepsBy (q .none) past test U
-        → StepsBy (unranked L) past test T
-    steps-stay past test T U same steps a =
-        ap (λ (l : List ℕ). getD l a past) (same ∙ ap (λ (n : ℕ). drop n U) (sym (asks .none)))
-        ∙ steps a ∙ ap (cond (test a) 0) (asks .none)
-
-    steps-size : length before ≡ q .none + length (L .steps)
-    steps-size = omega (arith, counted image h accepted .steps, yet .long)
-
-    -- a table of depths: the ranks of its steps are by a test, and a sequence has one exactly where it has a run whose steps pass
-    module _ (any : Bool) (quiet : Q .mark ≡ untouched) (ranked : Ranked any q (h .sequences) ms ahead behind part ps before ranks) (test : Item → Bool)
-        (steps : StepsBy (q .none) 0 test (ranked .start)) where
+    -- where it is only asked whether all entries pass: an entry has a rank exactly where it passes, a sequence where it has a run whose steps do
+    module _ (three : q .mark ≡ 3) (test : Item → Bool) (steps : StepsBy (p .none) 0 test (ranked .start)) where
       abbrev look : Look
-      look = depthLook (unranked L) test
+      look = passLook m test
 
-      looks : (T : List ℕ) → drop (unranked L) T ≡ drop (unranked L) (ranked .start) → lookIn q ahead behind T ≡ look (inRanks (unranked L) T)
-      looks T same = depth-look L q Q asks ahead behind quiet test T (steps-stay 0 test T (ranked .start) same steps)
+      looks : (T : List ℕ) → drop m T ≡ drop m (ranked .start) → lookIn q ahead behind T ≡ look (inRanks m T)
+      looks T same = pass-look m (omega arith) q ahead behind q-none three test T (steps-stay 0 test T same steps)
 
-      depth-steps : StepsBy (unranked L) 0 test ranks
-      depth-steps = steps-stay 0 test ranks (ranked .start) (made-kept any q Q asks ahead behind before ranks yet ranked look looks) steps
-
-      depth-good : Good (Passing (L .sequences) test) L look (take (unranked L) ranks)
-      depth-good =
-          settled-good L Q (q .fact) (unranked L) (take (unranked L) ranks) (omega arith) (Passing (L .sequences) test) look
-          (depth-reached (L .sequences) (unranked L) test)
-          (made-visits any q Q asks ahead behind before ranks yet ranked look looks)
-          (made-settled any q Q asks ahead behind before ranks yet ranked look looks)
-
-      depth-passes : (run : ℕ → Bool) → ((d : ℕ) → (run d ≡ true) ↔ ((w : List Item) × RunOf (L .sequences) d w × (every test w ≡ true)))
-          → (e : Entry) → passIn (unranked L) ranks e ≡ entryPasses test run e
-      depth-passes run right =
-          pass-is (unranked L) (omega arith) test run ranks depth-steps
-          (λ d. passing-ranked test (take (unranked L) ranks) depth-good d (run d) (right d))
-
-    -- a question that asks for no touch: the answer by the ranks, and the entries that can stay untouched
-    module _ (quiet : Q .mark ≡ untouched) (ranked : Ranked false q (h .sequences) ms ahead behind part ps before ranks) where
-      quiet-steps : StepsBy (q .none) 0 (hasMark L Q (q .fact)) (ranked .start)
-      quiet-steps =
-          steps-marked L q Q ms asks masks-made before (ranked .start) steps-size (ranked .steps) 0
-          (ap (λ (m : Mark). cond (sameMark untouched m) 0 (q .none)) (sym quiet))
-
-      pub quiet-found : (c : ℕ) → c < h .sequences → answerIn q ahead behind ranks part ps c ≡ answer L Q c (q .fact)
-      quiet-found c lt =
-          let l = looks false quiet ranked (hasMark L Q (q .fact)) quiet-steps in
-          quiet-answer L q Q asks ahead behind part ps places-made ranks quiet (depth-steps false quiet ranked (hasMark L Q (q .fact)) quiet-steps) c (omega (arith, counted image h accepted .sequences))
-          ∙ settled-untouched L Q (q .fact) (unranked L) (take (unranked L) ranks) (omega arith) quiet
-          (made-visits false q Q asks ahead behind before ranks yet ranked (untouchedLook L Q (q .fact)) l)
-          (made-settled false q Q asks ahead behind before ranks yet ranked (untouchedLook L Q (q .fact)) l) c
-
-    pub stays-found : (R : Question) → Q ≡ untouchedOn R → Ranked false q (h .sequences) ms ahead behind part ps before ranks → (e : Entry)
-        → passIn (unranked L) ranks e ≡ canStay L R (q .fact) e
-    stays-found R same ranked e =
-        let quiet : Q .mark ≡ untouched = ap (λ (x : Question). x .mark) same in
-        depth-passes false quiet ranked (hasMark L Q (q .fact)) (quiet-steps quiet ranked) (λ d. possibleOutcome L (untouchedOn R) d (q .fact))
-        (λ d. subst (λ (x : Question). (possibleOutcome L (untouchedOn R) d (q .fact) ≡ true) ↔ ((w : List Item) × RunOf (L .sequences) d w × (every (hasMark L x (q .fact)) w ≡ true))) (sym same) (quiet-run L R (q .fact) d)) e
-        ∙ ap (λ (x : Question). entryPasses (hasMark L x (q .fact)) (λ d. possibleOutcome L (untouchedOn R) d (q .fact)) e) same
-
-    pub runs-found : (R : Question) → Q .mark ≡ untouched → Ranked true q (h .sequences) ms ahead behind part ps before ranks → (e : Entry)
-        → passIn (unranked L) ranks e ≡ canRun L R (q .fact) e
-    runs-found R quiet ranked =
-        depth-passes true quiet ranked (λ (a : Item). true) (steps-any L q Q ms asks masks-made before (ranked .start) steps-size (ranked .steps)) (λ d. hasRun L d)
-        (λ d. any-run L d)
-
-    -- a question that asks for a touch: the answer by the ranks
-    pub touch-found : Q .mark ≢ untouched → Described L Q (q .fact) ahead behind → Ranked false q (h .sequences) ms ahead behind part ps before ranks
-        → (c : ℕ) → c < h .sequences → answerIn q ahead behind ranks part ps c ≡ answer L Q c (q .fact)
-    touch-found touch described ranked c lt =
-        let test = hasMark L Q (q .fact) in
-        let look = touchLook L Q (q .fact) in
-        let steps : StepsBy (q .none) (q .none) test (ranked .start) =
-        steps-marked L q Q ms asks masks-made before (ranked .start) steps-size (ranked .steps) (q .none) (past (Q .mark) touch) in
-        let by-steps : StepsBy (q .none) (unranked L) test (ranked .start) = subst (λ (n : ℕ). StepsBy (q .none) n test (ranked .start)) (asks .none) steps in
-        let looks : (T : List ℕ) → drop (unranked L) T ≡ drop (unranked L) (ranked .start) → lookIn q ahead behind T ≡ look (inRanks (unranked L) T) =
-        λ T same. touch-look L q Q asks ahead behind touch described T (steps-stay (unranked L) test T (ranked .start) same by-steps) in
-        let after = steps-stay (unranked L) test ranks (ranked .start) (made-kept false q Q asks ahead behind before ranks yet ranked look looks) by-steps in
-        let good =
-        touch-good L Q (q .fact) (unranked L) (take (unranked L) ranks) (omega arith) touch
-        (made-visits false q Q asks ahead behind before ranks yet ranked look looks)
-        (made-settled false q Q asks ahead behind before ranks yet ranked look looks) in
-        touch-answer L q Q asks ahead behind part ps places-made ranks touch described after (good .reached) (good .closed) c (omega (arith, counted image h accepted .sequences))
-        ∙ settled-touch L Q (q .fact) (unranked L) (take (unranked L) ranks) (omega arith) touch good c
-      where
-        past : (m : Mark) → m ≢ untouched → q .none ≡ cond (sameMark untouched m) 0 (q .none)
-        past present t = refl
-        past absent t = refl
-        past untouched t = absurd (t refl)
+      entries-pass : (run : ℕ → Bool) → ((d : ℕ) → (run d ≡ true) ↔ ((w : List Item) × RunOf (L .sequences) d w × (every test w ≡ true)))
+          → (e : Entry) → passIn m ranks e ≡ entryPasses test run e
+      entries-pass run right =
+          let good =
+          settled-good L lastSet 0 m (take m ranks) (omega arith) (Passable (L .sequences) m test) look (pass-reached (L .sequences) m test)
+          (made-visits look looks) (made-settled look looks) in
+          pass-is m (omega arith) test run ranks (steps-stay 0 test ranks (made-kept look looks) steps)
+          (λ d. pass-exact (L .sequences) m test (ranksIn L (take m ranks)) (good .closed) (omega arith) (good .reached) d (run d) (right d))
 
   -- ---- the answer by the three tables
 
-  again : {q : Asked} {T : List ℕ} → Unranked h q T → Unranked h (quietly q) T
-  again u = record { long = u .long; empty = u .empty }
+  module _ (q : Asked) (c : ℕ) (asked : FindAsked h image q c) where
+    abbrev Q : Question
+    Q = questionBy q
 
-  touch-asked : (m : ℕ) → m ≤ 2 → m ≢ 2 → markBy m ≢ untouched
-  touch-asked zero l t = present≢untouched
-  touch-asked (suc zero) l t = absent≢untouched
-  touch-asked (suc (suc zero)) l t = absurd (t refl)
-  touch-asked (suc (suc (suc m))) l t = absurd (omega arith)
+    no-rank : q .none ≡ unranked L
+    no-rank = omega (arith, asked .none, counted image h accepted .sequences)
 
-  module _ (q : Asked) (c : ℕ) (asked : FindAsked h image q c) (stays₀ links₀ stays : List ℕ) (stays-yet : Unranked h q stays₀)
-      (quiet : Ranked false (quietly q) (h .sequences) ms links₀ links₀ part ps stays₀ stays) where
     quiet-asks : Asks L (quietly q) (questionBy (quietly q))
     quiet-asks = asks-by (quietly q) (omega arith) (asked .fact) (asked .none)
 
-    pub quiet-done : q .mark ≡ 2 → answerIn (quietly q) links₀ links₀ stays part ps c ≡ answer L (questionBy q) c (q .fact)
-    quiet-done two =
-        quiet-found (quietly q) (questionBy (quietly q)) quiet-asks links₀ links₀ stays₀ stays (again stays-yet) refl quiet c (asked .sequence)
-        ∙ ap (λ (m : ℕ). answer L (record { side = sideBy (q .first); mark = markBy m }) c (q .fact)) (sym two)
+    again : {T : List ℕ} → Unranked h q T → Unranked h (quietly q) T
+    again u = record { long = u .long; empty = u .empty }
 
-    pub link-done : q .mark ≢ 2 → (runs₀ runs : List ℕ) → Unranked h q runs₀ → Ranked true (quietly q) (h .sequences) ms links₀ links₀ part ps runs₀ runs
-        → (b : Bool) → q .first ≡ b → (links : List ℕ) → Unranked h q links₀
-        → Ranked false q (h .sequences) ms (cond b stays runs) (cond b runs stays) part ps links₀ links
-        → answerIn q (cond b stays runs) (cond b runs stays) links part ps c ≡ answer L (questionBy q) c (q .fact)
-    link-done touch runs₀ runs runs-yet any b side links links-yet linked =
-        let Q = questionBy q in
+    quiet-steps : (r : Asked) (ahead behind before ranks : List ℕ) → Unranked h q before
+        → (ranked : Ranked false (quietly q) r (h .sequences) ms ahead behind part ps before ranks)
+        → StepsBy (q .none) 0 (hasMark L (questionBy (quietly q)) (q .fact)) (ranked .start)
+    quiet-steps r ahead behind before ranks yet ranked =
+        steps-marked L (quietly q) (questionBy (quietly q)) ms quiet-asks masks-made before (ranked .start) (omega (arith, counted image h accepted .steps, yet .long)) (ranked .steps) 0 refl
+
+    -- a question that asks for no touch
+    pub quiet-done : (links₀ stays₀ stays : List ℕ) → Unranked h q stays₀
+        → Ranked false (quietly q) (quietly q) (h .sequences) ms links₀ links₀ part ps stays₀ stays → q .mark ≡ 2
+        → answerIn (quietly q) links₀ links₀ stays part ps c ≡ answer L Q c (q .fact)
+    quiet-done links₀ stays₀ stays yet ranked two =
+        let R = questionBy (quietly q) in
+        let test = hasMark L R (q .fact) in
+        let look = untouchedLook L R (q .fact) in
+        let steps = quiet-steps (quietly q) links₀ links₀ stays₀ stays yet ranked in
+        let looks : (T : List ℕ) → drop (unranked L) T ≡ drop (unranked L) (ranked .start) → lookIn (quietly q) links₀ links₀ T ≡ look (inRanks (unranked L) T) =
+        λ T same. depth-look L (quietly q) R quiet-asks links₀ links₀ refl test T (steps-stay false (quietly q) (quietly q) no-rank no-rank links₀ links₀ stays₀ stays (again yet) ranked 0 test T same steps) in
+        let kept = made-kept false (quietly q) (quietly q) no-rank no-rank links₀ links₀ stays₀ stays (again yet) ranked look looks in
+        quiet-answer L (quietly q) R quiet-asks links₀ links₀ part ps places-made stays refl
+        (steps-stay false (quietly q) (quietly q) no-rank no-rank links₀ links₀ stays₀ stays (again yet) ranked 0 test stays kept steps) c (omega (arith, asked .sequence, counted image h accepted .sequences))
+        ∙ settled-untouched L R (q .fact) (unranked L) (take (unranked L) stays) (omega arith) refl
+        (made-visits false (quietly q) (quietly q) no-rank no-rank links₀ links₀ stays₀ stays (again yet) ranked look looks)
+        (made-settled false (quietly q) (quietly q) no-rank no-rank links₀ links₀ stays₀ stays (again yet) ranked look looks) c
+        ∙ ap (λ (k : ℕ). answer L (record { side = sideBy (q .first); mark = markBy k }) c (q .fact)) (sym two)
+
+    -- the entries that can stay untouched, and those that have a run
+    stays-done : (links₀ stays₀ stays : List ℕ) → Unranked h q stays₀ → Ranked false (quietly q) (whether q) (h .sequences) ms links₀ links₀ part ps stays₀ stays
+        → (e : Entry) → passIn (unranked L) stays e ≡ canStay L Q (q .fact) e
+    stays-done links₀ stays₀ stays yet ranked =
+        entries-pass false (quietly q) (whether q) no-rank no-rank links₀ links₀ stays₀ stays (again yet) ranked refl (hasMark L (questionBy (quietly q)) (q .fact))
+        (quiet-steps (whether q) links₀ links₀ stays₀ stays yet ranked) (λ d. possibleOutcome L (untouchedOn Q) d (q .fact)) (quiet-run L Q (q .fact))
+
+    runs-done : (links₀ runs₀ runs : List ℕ) → Unranked h q runs₀ → Ranked true (quietly q) (whether q) (h .sequences) ms links₀ links₀ part ps runs₀ runs
+        → (e : Entry) → passIn (unranked L) runs e ≡ canRun L Q (q .fact) e
+    runs-done links₀ runs₀ runs yet ranked =
+        entries-pass true (quietly q) (whether q) no-rank no-rank links₀ links₀ runs₀ runs (again yet) ranked refl (λ (a : Item). true)
+        (steps-any L (quietly q) (questionBy (quietly q)) ms quiet-asks masks-made runs₀ (ranked .start) (omega (arith, counted image h accepted .steps, yet .long)) (ranked .steps))
+        (λ d. hasRun L d) (any-run L)
+
+    -- a question that asks for a touch
+    pub link-done : (links₀ stays₀ stays : List ℕ) → Unranked h q stays₀
+        → Ranked false (quietly q) (whether q) (h .sequences) ms links₀ links₀ part ps stays₀ stays → q .mark ≢ 2 → (runs₀ runs : List ℕ) → Unranked h q runs₀
+        → Ranked true (quietly q) (whether q) (h .sequences) ms links₀ links₀ part ps runs₀ runs → (b : Bool) → q .first ≡ b → (links : List ℕ)
+        → Unranked h q links₀ → Ranked false q q (h .sequences) ms (cond b stays runs) (cond b runs stays) part ps links₀ links
+        → answerIn q (cond b stays runs) (cond b runs stays) links part ps c ≡ answer L Q c (q .fact)
+    link-done links₀ stays₀ stays stays-yet quiet two runs₀ runs runs-yet any b side links yet ranked =
+        let asks = asks-by q (asked .mark) (asked .fact) (asked .none) in
+        let touch = touch-asked (q .mark) (asked .mark) two in
+        let ahead = cond b stays runs in
+        let behind = cond b runs stays in
         let described =
-        described-by L Q (q .fact) stays runs
-        (stays-found (quietly q) (questionBy (quietly q)) quiet-asks links₀ links₀ stays₀ stays (again stays-yet) Q refl quiet)
-        (runs-found (quietly q) (questionBy (quietly q)) quiet-asks links₀ links₀ runs₀ runs (again runs-yet) Q refl any) b (ap sideBy side) in
-        touch-found q Q (asks-by q (asked .mark) (asked .fact) (asked .none)) (cond b stays runs) (cond b runs stays) links₀ links links-yet
-        (touch-asked (q .mark) (asked .mark) touch) described linked c (asked .sequence)
+        described-by L Q (q .fact) stays runs (stays-done links₀ stays₀ stays stays-yet quiet) (runs-done links₀ runs₀ runs runs-yet any) b (ap sideBy side) in
+        let test = hasMark L Q (q .fact) in
+        let look = touchLook L Q (q .fact) in
+        let steps : StepsBy (q .none) (unranked L) test (ranked .start) =
+        subst (λ (n : ℕ). StepsBy (q .none) n test (ranked .start)) no-rank
+        (steps-marked L q Q ms asks masks-made links₀ (ranked .start) (omega (arith, counted image h accepted .steps, yet .long)) (ranked .steps) (q .none) (past (Q .mark) touch)) in
+        let looks : (T : List ℕ) → drop (unranked L) T ≡ drop (unranked L) (ranked .start) → lookIn q ahead behind T ≡ look (inRanks (unranked L) T) =
+        λ T same. touch-look L q Q asks ahead behind touch described T (steps-stay false q q no-rank no-rank ahead behind links₀ links yet ranked (unranked L) test T same steps) in
+        let kept = made-kept false q q no-rank no-rank ahead behind links₀ links yet ranked look looks in
+        let good =
+        touch-good L Q (q .fact) (unranked L) (take (unranked L) links) (omega arith) touch
+        (made-visits false q q no-rank no-rank ahead behind links₀ links yet ranked look looks)
+        (made-settled false q q no-rank no-rank ahead behind links₀ links yet ranked look looks) in
+        touch-answer L q Q asks ahead behind part ps places-made links touch described
+        (steps-stay false q q no-rank no-rank ahead behind links₀ links yet ranked (unranked L) test links kept steps) (good .reached) (good .closed) c (omega (arith, asked .sequence, counted image h accepted .sequences))
+        ∙ settled-touch L Q (q .fact) (unranked L) (take (unranked L) links) (omega arith) touch good c
+      where
+        past : (k : Mark) → k ≢ untouched → q .none ≡ cond (sameMark untouched k) 0 (q .none)
+        past present t = refl
+        past absent t = refl
+        past untouched t = absurd (t refl)

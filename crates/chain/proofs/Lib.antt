@@ -2,6 +2,7 @@ pub mod Scan
 pub mod Ranks
 pub mod Depth
 pub mod Passes
+pub mod Whether
 pub mod Stands
 pub mod Links
 pub mod Answers

@@ -3,15 +3,17 @@
 -- Assumes nothing.
 use Prim.Native.Nat.{ℕ, suc, _+_, _≤_, _<_, min, max}
 use native.Mathlib.Numerals.{one-add}
-use mathlib.Core.Path.{_≡_, refl, sym, ap, _∙_}
+use mathlib.Core.Path.{_≡_, refl, sym, ap, ap₂, _∙_}
 use mathlib.Core.Bool.{Bool, true, false, cond, _&&_}
-use mathlib.Core.List.{List, []}
+use mathlib.Core.List.{List, [], _∷_}
 use lib.ListN.{length, getD, drop}
+use lib.Dec.{eqb}
 use borrow.Author.Tests.{eq-eqb, ne-eqb}
 use Rattle.image.specs.Word.{isKind, isEntry}
 use Rattle.image.specs.Library.{Entry, Alternative, entriesFrom, alternativesFrom}
+use Rattle.chain.specs.Scan.{every}
 use Rattle.chain.specs.Walk.{depthFrom, fewestFrom, loweredFrom}
-use Rattle.chain.specs.Tables.{entryOf, rankIn, passIn, traitsIn, depthIn, fewestIn, lookIn, AlternativeRead}
+use Rattle.chain.specs.Tables.{entryOf, rankIn, passIn, traitsIn, depthIn, everyIn, fewestIn, lookIn, AlternativeRead}
 use Rattle.chain.specs.declared.entry.Asked.{Asked}
 use Rattle.chain.specs.declared.entry.Traits.{Traits}
 use Rattle.chain.specs.declared.read.Read.{Read}
@@ -58,6 +60,54 @@ module _ (none : ℕ) (ranks part : List ℕ) (at : ℕ) where
     unfolding depthFrom
     deepest-end l = read-end part (depthIn none ranks) at (depthFrom rank d) i here d refl l
 
+-- whether all its entries have a rank
+module _ (none : ℕ) (ranks part : List ℕ) (at : ℕ) where
+  abbrev ranked : List Entry → ℕ
+  ranked es = everyIn none ranks es
+
+  abbrev pub Ranking : ℕ → Type 0
+  Ranking i = Folding part (ranked (entriesFrom (drop at part))) at ranked i
+
+  pub ranking-start : at ≤ length part → Ranking at
+  ranking-start l = folding-start part (ranked (entriesFrom (drop at part))) at ranked l refl
+
+  module _ (i : ℕ) (here : Ranking i) where
+    abbrev entry : Entry
+    entry = entryOf (getD part i 0)
+
+    opened : i < length part → isEntry (getD part i 0) ≡ true → Folding part (ranked (entriesFrom (drop at part))) at (λ es. ranked (entry ∷ es)) (i + 1)
+    opened l e = folding-turn part (ranked (entriesFrom (drop at part))) at ranked i here l e (λ es. ranked (entry ∷ es)) refl
+
+    by-entry : (b : Bool) → passIn none ranks entry ≡ b → (es : List Entry) → ranked (entry ∷ es) ≡ cond b (ranked es) none
+    unfolding every
+    by-entry b told es = ap (λ (x : Bool). cond (x && every (passIn none ranks) es) 0 none) told ∙ go b (every (passIn none ranks) es)
+      where
+        go : (x y : Bool) → cond (x && y) 0 none ≡ cond x (cond y 0 none) none
+        go true y = refl
+        go false y = refl
+
+    pub ranking-turn : i < length part → isEntry (getD part i 0) ≡ true → passIn none ranks entry ≡ true → Ranking (i + 1)
+    ranking-turn l e told = folding-turn part (ranked (entriesFrom (drop at part))) at ranked i here l e ranked (by-entry true told (entriesFrom (drop (i + 1) part)))
+
+    pub ranking-fails : i < length part → isEntry (getD part i 0) ≡ true → passIn none ranks entry ≡ false
+        → AlternativeRead (everyIn none ranks) part at (record { value = none; next = i + 1 })
+    ranking-fails l e told =
+        let read = opened l e in
+        record {
+          value = sym (by-entry false told (entriesFrom (drop (i + 1) part))) ∙ read .same;
+          low = read .low;
+          within = read .within;
+          skips = read .skips;
+        }
+
+    pub ranking-out : i < length part → isEntry (getD part i 0) ≡ false → AlternativeRead (everyIn none ranks) part at (record { value = 0; next = i })
+    unfolding every
+    ranking-out l e = read-out part (everyIn none ranks) at ranked i here 0 refl l e
+
+    pub ranking-end : i ≡ length part → AlternativeRead (everyIn none ranks) part at (record { value = 0; next = i })
+    unfolding every
+    ranking-end l = read-end part (everyIn none ranks) at ranked i here 0 refl l
+
 -- the fewest links after this one
 module _ (none : ℕ) (ahead behind ranks part : List ℕ) (at : ℕ) where
   abbrev links : Alternative → ℕ
@@ -95,19 +145,23 @@ module _ (q : Asked) (ahead behind ranks part : List ℕ) (at : ℕ) (r : Read) 
   abbrev es : Alternative
   es = entriesFrom (drop at part)
 
-  abbrev by : Bool → ℕ
-  by b = cond b (depthIn (q .none) ranks es) (fewestIn (q .none) ahead behind ranks es)
+  abbrev by : Bool → Bool → ℕ
+  by b d = cond b (depthIn (q .none) ranks es) (cond d (everyIn (q .none) ranks es) (fewestIn (q .none) ahead behind ranks es))
 
   look-same : (worth : Alternative → ℕ) → lookIn q ahead behind ranks es ≡ worth es → AlternativeRead worth part at r
       → AlternativeRead (lookIn q ahead behind ranks) part at r
   look-same worth same read = record { value = read .value ∙ sym same; low = read .low; within = read .within; skips = read .skips }
 
   pub look-depth : q .mark ≡ 2 → AlternativeRead (depthIn (q .none) ranks) part at r → AlternativeRead (lookIn q ahead behind ranks) part at r
-  look-depth e = look-same (depthIn (q .none) ranks) (ap by (eq-eqb (q .mark) 2 e))
+  look-depth e = look-same (depthIn (q .none) ranks) (ap (λ (b : Bool). by b (eqb (q .mark) 3)) (eq-eqb (q .mark) 2 e))
 
-  pub look-links : (q .mark ≡ 2 → ⊥) → AlternativeRead (fewestIn (q .none) ahead behind ranks) part at r
+  pub look-every : (q .mark ≡ 2 → ⊥) → q .mark ≡ 3 → AlternativeRead (everyIn (q .none) ranks) part at r
       → AlternativeRead (lookIn q ahead behind ranks) part at r
-  look-links e = look-same (fewestIn (q .none) ahead behind ranks) (ap by (ne-eqb (q .mark) 2 e))
+  look-every e d = look-same (everyIn (q .none) ranks) (ap₂ by (ne-eqb (q .mark) 2 e) (eq-eqb (q .mark) 3 d))
+
+  pub look-links : (q .mark ≡ 2 → ⊥) → (q .mark ≡ 3 → ⊥) → AlternativeRead (fewestIn (q .none) ahead behind ranks) part at r
+      → AlternativeRead (lookIn q ahead behind ranks) part at r
+  look-links e d = look-same (fewestIn (q .none) ahead behind ranks) (ap₂ by (ne-eqb (q .mark) 2 e) (ne-eqb (q .mark) 3 d))
 
 -- ---- the alternatives of a sequence
 

@@ -42,9 +42,8 @@ passes-untouched s t w = (
 )
 
 -- Entries pass exactly when they give a list all of whose items pass, where a sequence passes if it has such a run.
-module _ (S : List Sequence) (test : Item → Bool) (run : ℕ → Bool)
-    (right : (d : ℕ) → (run d ≡ true) ↔ ((w : List Item) × RunOf S d w × (every test w ≡ true))) where
-  passes-given : (es : List Entry) → every (entryPasses test run) es ≡ true → (w : List Item) × Gives S es w × (every test w ≡ true)
+module _ (S : List Sequence) (test : Item → Bool) (run : ℕ → Bool) (sound : (d : ℕ) → run d ≡ true → (w : List Item) × RunOf S d w × (every test w ≡ true)) where
+  pub passes-given : (es : List Entry) → every (entryPasses test run) es ≡ true → (w : List Item) × Gives S es w × (every test w ≡ true)
   unfolding every
   passes-given [] h = ([], nothing, refl)
   passes-given (step a ∷ es) h =
@@ -54,12 +53,14 @@ module _ (S : List Sequence) (test : Item → Bool) (run : ℕ → Bool)
   passes-given (call d ∷ es) h =
       let p = and-parts (run d) (every (entryPasses test run) es) h in
       let r = passes-given es (p .1) in
-      let o = right d .0 (p .0) in (
+      let o = sound d (p .0) in (
         o .0 ++ r .0,
         by-call (o .1 .alternative) (o .1 .listed) (o .1 .given) (r .1) refl,
         passes-append test (o .0) (r .0) (o .2) (r .2),
       )
 
+module _ (S : List Sequence) (test : Item → Bool) (run : ℕ → Bool)
+    (right : (d : ℕ) → (run d ≡ true) ↔ ((w : List Item) × RunOf S d w × (every test w ≡ true))) where
   given-passes : {es : List Entry} {w : List Item} → Gives S es w → every test w ≡ true → every (entryPasses test run) es ≡ true
   unfolding every
   given-passes nothing h = refl
@@ -72,7 +73,7 @@ module _ (S : List Sequence) (test : Item → Bool) (run : ℕ → Bool)
       (given-passes g′ (p .1))
 
   pub passes-iff : (es : List Entry) → (every (entryPasses test run) es ≡ true) ↔ ((w : List Item) × Gives S es w × (every test w ≡ true))
-  passes-iff es = (passes-given es, λ r. given-passes (r .1) (r .2))
+  passes-iff es = (passes-given S test run (λ d. right d .0) es, λ r. given-passes (r .1) (r .2))
 
 -- a sequence has a run exactly where it has one whose items pass a test that all do
 pub any-run : (L : Library) (d : ℕ) → (hasRun L d ≡ true) ↔ ((w : List Item) × RunOf (L .sequences) d w × (every (λ (a : Item). true) w ≡ true))

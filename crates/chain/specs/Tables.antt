@@ -12,7 +12,7 @@ use Rattle.image.specs.Word.{kind, payload, isKind, isEntry}
 use Rattle.image.specs.Library.{Alternative, Entry, step, call, entriesFrom, alternativesFrom}
 use Rattle.outcome.specs.Run.{Item}
 use Rattle.outcome.specs.Passes.{Pass}
-use Rattle.chain.specs.Scan.{total}
+use Rattle.chain.specs.Scan.{every, total}
 use Rattle.chain.specs.Ranks.{Ranks}
 use Rattle.chain.specs.Walk.{loweredFrom, depthFrom, fewestFrom}
 use Rattle.chain.specs.declared.entry.Asked.{Asked}
@@ -50,15 +50,21 @@ passIn none T e = ltb (rankIn none 0 T e) none
 abbrev pub traitsIn : ℕ → List ℕ → List ℕ → List ℕ → Entry → Traits
 traitsIn none ahead behind ranks e = record { rank = rankIn none none ranks e; ahead = passIn none ahead e; behind = passIn none behind e }
 
--- what an alternative comes to: its greatest depth where no touch is asked for, otherwise the fewest links after this one
+-- what an alternative comes to: its greatest depth where no touch is asked for (mark 2), 0 where all its entries have a rank if only that is
+-- asked (mark 3), otherwise the fewest links after this one
 abbrev pub depthIn : ℕ → List ℕ → Alternative → ℕ
 depthIn none ranks es = depthFrom (rankIn none 0 ranks) 0 es
+
+abbrev pub everyIn : ℕ → List ℕ → Alternative → ℕ
+everyIn none ranks es = cond (every (passIn none ranks) es) 0 none
 
 abbrev pub fewestIn : ℕ → List ℕ → List ℕ → List ℕ → Alternative → ℕ
 fewestIn none ahead behind ranks es = fewestFrom none (rankIn none none ranks) (passIn none ahead) (passIn none behind) true none es
 
 abbrev pub lookIn : Asked → List ℕ → List ℕ → List ℕ → Alternative → ℕ
-lookIn q ahead behind ranks es = cond (eqb (q .mark) 2) (depthIn (q .none) ranks es) (fewestIn (q .none) ahead behind ranks es)
+lookIn q ahead behind ranks es =
+    cond (eqb (q .mark) 2) (depthIn (q .none) ranks es)
+    (cond (eqb (q .mark) 3) (everyIn (q .none) ranks es) (fewestIn (q .none) ahead behind ranks es))
 
 -- an entry has a word in a table
 pub record Within (none : ℕ) (T : List ℕ) (w : ℕ) : Type 0 where
@@ -135,9 +141,9 @@ module _ (q : Asked) (ahead behind part places : List ℕ) where
   abbrev pub visitedRanks : List ℕ → ℕ → List ℕ
   visitedRanks ranks c = set ranks c (visitedRank ranks c)
 
--- a table of ranks that is made from one without a rank: those of the steps are written, then those of the sequences below n lowered until
--- no visit changes them
-pub record Ranked (any : Bool) (q : Asked) (n : ℕ) (masks ahead behind part places before after : List ℕ) : Type 0 where
+-- a table of ranks that is made from one without a rank: those of the steps are written by the question p, then those of the sequences below
+-- n lowered by the question q until no visit changes them
+pub record Ranked (any : Bool) (p q : Asked) (n : ℕ) (masks ahead behind part places before after : List ℕ) : Type 0 where
   pub start : List ℕ
-  pub steps : Stepped any q masks before start
+  pub steps : Stepped any p masks before start
   pub settled : Pass (visitedRanks q ahead behind part places) total n start after false

@@ -23,9 +23,10 @@ ghost use Rattle.chain.specs.Choice.{Choosable, answerIn};
 ghost use Rattle.chain.specs.Described.{FindAsked, Made, TablesAsked, questionBy};
 ghost use Rattle.chain.specs.Reply.{accepts, Answered, Called};
 
-// Ranks the steps and the sequences in a table that has no rank yet.
+// Ranks the steps by one question and the sequences by another, in a table that has no rank yet.
 fn rank(
     any: bool,
+    p: Asked,
     q: Asked,
     masks: &[u64],
     ahead: &[u32],
@@ -36,10 +37,10 @@ fn rank(
     ranks: &mut [u32],
     n: usize,
 )
-    requires { ⌜ Steppable q (now masks) (now ranks) × Visitable q n (now ahead) (now behind) (now ranks) (now part) (now places) ⌝ }
-    ensures { λ _. ⌜ Ranked any q n (now (masks .entry)) (now (ahead .entry)) (now (behind .entry)) (now (part .entry)) (now (places .entry)) (now (ranks .entry)) (now (ranks .exit)) ⌝ }
+    requires { ⌜ Steppable p (now masks) (now ranks) × Visitable q n (now ahead) (now behind) (now ranks) (now part) (now places) ⌝ }
+    ensures { λ _. ⌜ Ranked any p q n (now (masks .entry)) (now (ahead .entry)) (now (behind .entry)) (now (part .entry)) (now (places .entry)) (now (ranks .entry)) (now (ranks .exit)) ⌝ }
 {
-    write_step_ranks(any, q, masks, ranks);
+    write_step_ranks(any, p, masks, ranks);
     settle(q, ahead, behind, part, places, order, ranks, n);
 }
 
@@ -58,10 +59,11 @@ fn link(
     c: u32,
 ) -> Chained
     requires { ⌜ Steppable q (now masks) (now links) × Visitable q n (now ahead) (now behind) (now links) (now part) (now places) × Choosable q (now ahead) (now behind) (now links) (now part) (now places) × (c < 2 ^ 28) × (c < length (now links)) ⌝ }
-    ensures { λ r. ⌜ Ranked false q n (now (masks .entry)) (now (ahead .entry)) (now (behind .entry)) (now (part .entry)) (now (places .entry)) (now (links .entry)) (now (links .exit)) × Answered (answerIn q (now (ahead .entry)) (now (behind .entry)) (now (links .exit)) (now (part .entry)) (now (places .entry)) c) (now (area .entry)) r (now (area .exit)) ⌝ }
+    ensures { λ r. ⌜ Ranked false q q n (now (masks .entry)) (now (ahead .entry)) (now (behind .entry)) (now (part .entry)) (now (places .entry)) (now (links .entry)) (now (links .exit)) × Answered (answerIn q (now (ahead .entry)) (now (behind .entry)) (now (links .exit)) (now (part .entry)) (now (places .entry)) c) (now (area .entry)) r (now (area .exit)) ⌝ }
 {
     rank(
         false,
+        q,
         q,
         masks,
         ahead,
@@ -75,8 +77,8 @@ fn link(
     write_chain(q, ahead, behind, links, part, places, area, c)
 }
 
-// Finds the answer to a question of sequence `c` of an accepted image, by its masks and places: first the sequences that can stay untouched
-// are ranked by their depths, which answers a question that asks for no touch; then those that have a run; then the links.
+// Finds the answer to a question of sequence `c` of an accepted image, by its masks and places. A question that asks for no touch is
+// answered by the depths of the sequences that can stay untouched; one that asks for a touch by which can, which have a run, and the links.
 fn find_by(
     h: Head,
     image: &[u32],
@@ -100,10 +102,33 @@ fn find_by(
         fact: q.fact,
         none: q.none,
     };
+    let ranked = Asked {
+        first: q.first,
+        mark: 3,
+        fact: q.fact,
+        none: q.none,
+    };
     let part = sequences_part(image);
+    if q.mark == 2 {
+        rank(
+            false,
+            quiet,
+            quiet,
+            masks,
+            links,
+            links,
+            part,
+            places,
+            order,
+            stays,
+            n,
+        );
+        return write_chain(quiet, links, links, stays, part, places, area, c);
+    }
     rank(
         false,
         quiet,
+        ranked,
         masks,
         links,
         links,
@@ -113,12 +138,10 @@ fn find_by(
         stays,
         n,
     );
-    if q.mark == 2 {
-        return write_chain(quiet, links, links, stays, part, places, area, c);
-    }
     rank(
         true,
         quiet,
+        ranked,
         masks,
         links,
         links,

@@ -9,7 +9,7 @@ ghost use lib.ListN.{length};
 ghost use Rattle.image.specs.Word.{isEntry};
 ghost use Rattle.chain.specs.Tables.{markOf, stepMark, stepRank, Steppable, Stepped, slotOf, entryOf, rankIn, passIn, traitsIn, Within};
 
-// The question: its side, the mark asked for there (0 and 1 for the two touches, 2 for untouched), the fact, and what stands for "no rank".
+// The question: its side, the mark asked for there (0 and 1 for the two touches, 2 for untouched, 3 where only a rank counts), the fact, and what stands for "no rank".
 pub struct Asked {
     pub first: bool,
     pub mark: u32,

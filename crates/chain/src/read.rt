@@ -1,6 +1,7 @@
 // What an alternative comes to by the ranks as they stand, and the rank of a sequence lowered by its alternatives.
 use crate::entry::Asked;
 use crate::entry::kept;
+use crate::entry::passes;
 use crate::entry::rank_of;
 use crate::entry::traits_of;
 use image::word::is_entry;
@@ -10,7 +11,7 @@ ghost use Prim.Native.Nat.{_+_, _≤_, min, max};
 ghost use lib.ListN.{length, drop};
 ghost use Rattle.image.specs.Library.{alternativesFrom};
 ghost use Rattle.chain.specs.Walk.{loweredFrom};
-ghost use Rattle.chain.specs.Tables.{depthIn, fewestIn, lookIn, Readable, Rankable, AlternativeRead};
+ghost use Rattle.chain.specs.Tables.{depthIn, everyIn, fewestIn, lookIn, Readable, Rankable, AlternativeRead};
 
 // What an alternative comes to, and the index of the word after its entries.
 pub struct Read {
@@ -95,6 +96,28 @@ fn fewest_links(
     }
 }
 
+// Whether all entries that stand from index `at` on have a rank: 0 where they do. The first without one ends the reading.
+fn all_ranked(none: u32, ranks: &[u32], part: &[u32], at: usize) -> Read
+    requires { ⌜ Rankable none (now ranks) (now part) × (at ≤ length (now part)) ⌝ }
+    ensures { λ r. ⌜ AlternativeRead (everyIn none (now (ranks .entry))) (now (part .entry)) at r ⌝ }
+{
+    let mut i = at;
+    while i < part.len() {
+        let w = part[i];
+        if !is_entry(w) {
+            return Read { value: 0, next: i };
+        }
+        i += 1;
+        if !passes(none, ranks, w) {
+            return Read {
+                value: none,
+                next: i,
+            };
+        }
+    }
+    Read { value: 0, next: i }
+}
+
 // What the alternative comes to whose entries stand from index `at` on.
 pub fn read_alternative(
     q: Asked,
@@ -109,6 +132,9 @@ pub fn read_alternative(
 {
     if q.mark == 2 {
         return greatest_depth(q.none, ranks, part, at);
+    }
+    if q.mark == 3 {
+        return all_ranked(q.none, ranks, part, at);
     }
     fewest_links(q.none, ahead, behind, ranks, part, at)
 }

@@ -1,10 +1,10 @@
--- `chain::call::find_by` meets its contract: the tables of depths say which entries can stay untouched and which have a run, and settled ranks
--- give the answer.
+-- `chain::call::find_by` meets its contract: settled ranks give the answer, by tables that say which entries can stay untouched and which have a
+-- run.
 -- Assumes nothing.
 use borrow.Author.Needs.{needs}
 use native.Mathlib.Omega.{arith}
 use mathlib.Core.Bool.{true, false}
-use Rattle.chain.proofs.Finding.{image-long, few-sequences, tables-steppable, tables-visitable, tables-choosable, quietly, quiet-done, link-done}
+use Rattle.chain.proofs.Finding.{image-long, few-sequences, tables-steppable, tables-visitable, tables-choosable, quietly, whether, quiet-done, link-done}
 use Rattle.chain.proofs.Writing.{answered-same}
 use Rattle.chain.proofs.call.find_by.Statement.{statement}
 use Rattle.chain.proofs.call.find_by.Tie as tie
@@ -25,12 +25,13 @@ sequences-part-requires c κs =
 
 rank-requires : tie.Need-rank-requires
 rank-requires c κs =
-    let part = c .before .before in
+    let part = c .before .before .before .before in
     let start = part .before .before .before .before .before .before .before .before .before .before in
     let a = start .args in
     let asked = start .pre .0 in
     let made = start .pre .1 in
-    (tables-steppable (a .image .now) (a .h) (asked .accepted) (a .masks .now) (a .places .now) made _ (part .sequences-part .ensures) (quietly (a .q)) (asked .fact) (asked .none) _ (start .pre .2 .0 .long), tables-visitable (a .image .now) (a .h) (asked .accepted) (a .masks .now) (a .places .now) made _ (part .sequences-part .ensures) (quietly (a .q)) (asked .fact) (asked .none) _ _ _ (start .pre .2 .2 .long) (start .pre .2 .2 .long) (start .pre .2 .0 .long))
+    let tables = start .pre .2 in
+    (tables-steppable (a .image .now) (a .h) (asked .accepted) (a .masks .now) (a .places .now) made _ (part .sequences-part .ensures) (quietly (a .q)) (asked .fact) (asked .none) _ (tables .0 .long), tables-visitable (a .image .now) (a .h) (asked .accepted) (a .masks .now) (a .places .now) made _ (part .sequences-part .ensures) (quietly (a .q)) (asked .fact) (asked .none) _ _ _ (tables .2 .long) (tables .2 .long) (tables .0 .long))
 
 write-chain-requires : tie.Need-write-chain-requires
 write-chain-requires c κs =
@@ -39,8 +40,9 @@ write-chain-requires c κs =
     let a = start .args in
     let asked = start .pre .0 in
     let made = start .pre .1 in
-    let stay = c .before .before .before .before .before .before .before in
-    (tables-choosable (a .image .now) (a .h) (asked .accepted) (a .masks .now) (a .places .now) made _ (part .sequences-part .ensures) (quietly (a .q)) (asked .fact) (asked .none) _ _ _ (start .pre .2 .2 .long) (start .pre .2 .2 .long) (omega (arith, stay .rank .kept, start .pre .2 .0 .long)) (omega (arith, asked .sequence)), omega (arith, asked .sequence, few-sequences (a .image .now) (a .h) (asked .accepted)), omega (arith, stay .rank .kept, start .pre .2 .0 .long, asked .sequence, asked .none))
+    let tables = start .pre .2 in
+    let stay = c .before .before .before .before .before in
+    (tables-choosable (a .image .now) (a .h) (asked .accepted) (a .masks .now) (a .places .now) made _ (part .sequences-part .ensures) (quietly (a .q)) (asked .fact) (asked .none) _ _ _ (tables .2 .long) (tables .2 .long) (omega (arith, stay .rank .kept, tables .0 .long)) (omega (arith, asked .sequence)), omega (arith, asked .sequence, few-sequences (a .image .now) (a .h) (asked .accepted)), omega (arith, stay .rank .kept, tables .0 .long, asked .sequence, asked .none))
 
 same-length : tie.Need-same-length
 same-length c = search needs
@@ -58,19 +60,30 @@ returns c =
     let a = start .args in
     let asked = start .pre .0 in
     let made = start .pre .1 in
-    let stay = c .before .before .before .before .before .before .before .before .before .before in
+    let tables = start .pre .2 in
+    let stay = c .before .before .before .before .before .before .before .before in
     answered-same
-    (quiet-done (a .image .now) (a .h) (asked .accepted) (a .masks .now) (a .places .now) made _ (part .sequences-part .ensures) (a .q) (a .c) asked _ _ _ (start .pre .2 .0) (stay .rank .ensures) (c .before .before .before .before .before .before .if1 .taken)) (c .before .before .write-chain .ensures)
+    (quiet-done (a .image .now) (a .h) (asked .accepted) (a .masks .now) (a .places .now) made _ (part .sequences-part .ensures) (a .q) (a .c) asked _ _ _ (tables .0) (stay .rank .ensures) (c .before .before .before .before .before .before .before .before .before .before .before .if1 .taken)) (c .before .before .write-chain .ensures)
 
 rank-requires-2 : tie.Need-rank-requires-2
 rank-requires-2 c κs =
+    let part = c .before .before .before .before in
+    let start = part .before .before .before .before .before .before .before .before .before .before in
+    let a = start .args in
+    let asked = start .pre .0 in
+    let made = start .pre .1 in
+    let tables = start .pre .2 in
+    (tables-steppable (a .image .now) (a .h) (asked .accepted) (a .masks .now) (a .places .now) made _ (part .sequences-part .ensures) (quietly (a .q)) (asked .fact) (asked .none) _ (tables .0 .long), tables-visitable (a .image .now) (a .h) (asked .accepted) (a .masks .now) (a .places .now) made _ (part .sequences-part .ensures) (whether (a .q)) (asked .fact) (asked .none) _ _ _ (tables .2 .long) (tables .2 .long) (tables .0 .long))
+
+rank-requires-3 : tie.Need-rank-requires-3
+rank-requires-3 c κs =
     let part = c .before .before .before .before .before .before .before .before .before in
     let start = part .before .before .before .before .before .before .before .before .before .before in
     let a = start .args in
     let asked = start .pre .0 in
     let made = start .pre .1 in
-    let stay = c .before .before .before .before .before .before in
-    (tables-steppable (a .image .now) (a .h) (asked .accepted) (a .masks .now) (a .places .now) made _ (part .sequences-part .ensures) (quietly (a .q)) (asked .fact) (asked .none) _ (start .pre .2 .1 .long), tables-visitable (a .image .now) (a .h) (asked .accepted) (a .masks .now) (a .places .now) made _ (part .sequences-part .ensures) (quietly (a .q)) (asked .fact) (asked .none) _ _ _ (start .pre .2 .2 .long) (start .pre .2 .2 .long) (start .pre .2 .1 .long))
+    let tables = start .pre .2 in
+    (tables-steppable (a .image .now) (a .h) (asked .accepted) (a .masks .now) (a .places .now) made _ (part .sequences-part .ensures) (quietly (a .q)) (asked .fact) (asked .none) _ (tables .1 .long), tables-visitable (a .image .now) (a .h) (asked .accepted) (a .masks .now) (a .places .now) made _ (part .sequences-part .ensures) (whether (a .q)) (asked .fact) (asked .none) _ _ _ (tables .2 .long) (tables .2 .long) (tables .1 .long))
 
 link-requires : tie.Need-link-requires
 link-requires c κs =
@@ -79,13 +92,14 @@ link-requires c κs =
     let a = start .args in
     let asked = start .pre .0 in
     let made = start .pre .1 in
-    let stay = c .before .before .before .before .before .before .before .before .before .before .before .before .before .before in
+    let tables = start .pre .2 in
+    let stay = c .before .before .before .before .before .before .before .before .before .before .before .before in
     let run = c .before .before .before .before .before .before .before in (
-      tables-steppable (a .image .now) (a .h) (asked .accepted) (a .masks .now) (a .places .now) made _ (part .sequences-part .ensures) (a .q) (asked .fact) (asked .none) _ (start .pre .2 .2 .long),
-      tables-visitable (a .image .now) (a .h) (asked .accepted) (a .masks .now) (a .places .now) made _ (part .sequences-part .ensures) (a .q) (asked .fact) (asked .none) _ _ _ (omega (arith, stay .rank .kept, start .pre .2 .0 .long)) (omega (arith, run .rank2 .kept, start .pre .2 .1 .long)) (start .pre .2 .2 .long),
-      tables-choosable (a .image .now) (a .h) (asked .accepted) (a .masks .now) (a .places .now) made _ (part .sequences-part .ensures) (a .q) (asked .fact) (asked .none) _ _ _ (omega (arith, stay .rank .kept, start .pre .2 .0 .long)) (omega (arith, run .rank2 .kept, start .pre .2 .1 .long)) (start .pre .2 .2 .long) (omega (arith, asked .sequence)),
+      tables-steppable (a .image .now) (a .h) (asked .accepted) (a .masks .now) (a .places .now) made _ (part .sequences-part .ensures) (a .q) (asked .fact) (asked .none) _ (tables .2 .long),
+      tables-visitable (a .image .now) (a .h) (asked .accepted) (a .masks .now) (a .places .now) made _ (part .sequences-part .ensures) (a .q) (asked .fact) (asked .none) _ _ _ (omega (arith, stay .rank2 .kept, tables .0 .long)) (omega (arith, run .rank3 .kept, tables .1 .long)) (tables .2 .long),
+      tables-choosable (a .image .now) (a .h) (asked .accepted) (a .masks .now) (a .places .now) made _ (part .sequences-part .ensures) (a .q) (asked .fact) (asked .none) _ _ _ (omega (arith, stay .rank2 .kept, tables .0 .long)) (omega (arith, run .rank3 .kept, tables .1 .long)) (tables .2 .long) (omega (arith, asked .sequence)),
       omega (arith, asked .sequence, few-sequences (a .image .now) (a .h) (asked .accepted)),
-      omega (arith, start .pre .2 .2 .long, asked .sequence, asked .none),
+      omega (arith, tables .2 .long, asked .sequence, asked .none),
     )
 
 same-length-4 : tie.Need-same-length-4
@@ -107,11 +121,12 @@ returns-2 c =
     let a = start .args in
     let asked = start .pre .0 in
     let made = start .pre .1 in
-    let stay = c .before .before .before .before .before .before .before .before .before .before .before .before .before .before .before .before .before .before .before in
+    let tables = start .pre .2 in
+    let stay = c .before .before .before .before .before .before .before .before .before .before .before .before .before .before .before .before .before in
     let run = c .before .before .before .before .before .before .before .before .before .before .before .before in
     let linked = c .before .before .before .before .link .ensures in
     answered-same
-    (link-done (a .image .now) (a .h) (asked .accepted) (a .masks .now) (a .places .now) made _ (part .sequences-part .ensures) (a .q) (a .c) asked _ _ _ (start .pre .2 .0) (stay .rank .ensures) (c .before .before .before .before .before .before .before .before .before .before .before .before .before .before .before .if1 .left) _ _ (start .pre .2 .1) (run .rank2 .ensures) true (c .before .before .before .before .before .before .before .before .before .if2 .taken) _ (start .pre .2 .2) (linked .0))
+    (link-done (a .image .now) (a .h) (asked .accepted) (a .masks .now) (a .places .now) made _ (part .sequences-part .ensures) (a .q) (a .c) asked _ _ _ (tables .0) (stay .rank2 .ensures) (c .before .before .before .before .before .before .before .before .before .before .before .before .before .before .before .before .before .before .before .before .if1 .left) _ _ (tables .1) (run .rank3 .ensures) true (c .before .before .before .before .before .before .before .before .before .if2 .taken) _ (tables .2) (linked .0))
     (linked .1)
 
 link-requires-2 : tie.Need-link-requires-2
@@ -121,13 +136,14 @@ link-requires-2 c κs =
     let a = start .args in
     let asked = start .pre .0 in
     let made = start .pre .1 in
-    let stay = c .before .before .before .before .before .before .before .before .before .before .before .before .before .before in
+    let tables = start .pre .2 in
+    let stay = c .before .before .before .before .before .before .before .before .before .before .before .before in
     let run = c .before .before .before .before .before .before .before in (
-      tables-steppable (a .image .now) (a .h) (asked .accepted) (a .masks .now) (a .places .now) made _ (part .sequences-part .ensures) (a .q) (asked .fact) (asked .none) _ (start .pre .2 .2 .long),
-      tables-visitable (a .image .now) (a .h) (asked .accepted) (a .masks .now) (a .places .now) made _ (part .sequences-part .ensures) (a .q) (asked .fact) (asked .none) _ _ _ (omega (arith, run .rank2 .kept, start .pre .2 .1 .long)) (omega (arith, stay .rank .kept, start .pre .2 .0 .long)) (start .pre .2 .2 .long),
-      tables-choosable (a .image .now) (a .h) (asked .accepted) (a .masks .now) (a .places .now) made _ (part .sequences-part .ensures) (a .q) (asked .fact) (asked .none) _ _ _ (omega (arith, run .rank2 .kept, start .pre .2 .1 .long)) (omega (arith, stay .rank .kept, start .pre .2 .0 .long)) (start .pre .2 .2 .long) (omega (arith, asked .sequence)),
+      tables-steppable (a .image .now) (a .h) (asked .accepted) (a .masks .now) (a .places .now) made _ (part .sequences-part .ensures) (a .q) (asked .fact) (asked .none) _ (tables .2 .long),
+      tables-visitable (a .image .now) (a .h) (asked .accepted) (a .masks .now) (a .places .now) made _ (part .sequences-part .ensures) (a .q) (asked .fact) (asked .none) _ _ _ (omega (arith, run .rank3 .kept, tables .1 .long)) (omega (arith, stay .rank2 .kept, tables .0 .long)) (tables .2 .long),
+      tables-choosable (a .image .now) (a .h) (asked .accepted) (a .masks .now) (a .places .now) made _ (part .sequences-part .ensures) (a .q) (asked .fact) (asked .none) _ _ _ (omega (arith, run .rank3 .kept, tables .1 .long)) (omega (arith, stay .rank2 .kept, tables .0 .long)) (tables .2 .long) (omega (arith, asked .sequence)),
       omega (arith, asked .sequence, few-sequences (a .image .now) (a .h) (asked .accepted)),
-      omega (arith, start .pre .2 .2 .long, asked .sequence, asked .none),
+      omega (arith, tables .2 .long, asked .sequence, asked .none),
     )
 
 same-length-8 : tie.Need-same-length-8
@@ -149,11 +165,12 @@ returns-3 c =
     let a = start .args in
     let asked = start .pre .0 in
     let made = start .pre .1 in
-    let stay = c .before .before .before .before .before .before .before .before .before .before .before .before .before .before .before .before .before .before .before in
+    let tables = start .pre .2 in
+    let stay = c .before .before .before .before .before .before .before .before .before .before .before .before .before .before .before .before .before in
     let run = c .before .before .before .before .before .before .before .before .before .before .before .before in
     let linked = c .before .before .before .before .link2 .ensures in
     answered-same
-    (link-done (a .image .now) (a .h) (asked .accepted) (a .masks .now) (a .places .now) made _ (part .sequences-part .ensures) (a .q) (a .c) asked _ _ _ (start .pre .2 .0) (stay .rank .ensures) (c .before .before .before .before .before .before .before .before .before .before .before .before .before .before .before .if1 .left) _ _ (start .pre .2 .1) (run .rank2 .ensures) false (c .before .before .before .before .before .before .before .before .before .if2 .left) _ (start .pre .2 .2) (linked .0))
+    (link-done (a .image .now) (a .h) (asked .accepted) (a .masks .now) (a .places .now) made _ (part .sequences-part .ensures) (a .q) (a .c) asked _ _ _ (tables .0) (stay .rank2 .ensures) (c .before .before .before .before .before .before .before .before .before .before .before .before .before .before .before .before .before .before .before .before .if1 .left) _ _ (tables .1) (run .rank3 .ensures) false (c .before .before .before .before .before .before .before .before .before .if2 .left) _ (tables .2) (linked .0))
     (linked .1)
 
 pub find-by-spec : {M : Type 1} → statement M
@@ -169,6 +186,7 @@ find-by-spec =
     same-length-3
     returns
     rank-requires-2
+    rank-requires-3
     link-requires
     same-length-4
     same-length-5
