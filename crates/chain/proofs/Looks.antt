@@ -3,6 +3,7 @@
 -- Assumes nothing.
 use Prim.Native.Nat.{ℕ, suc, _+_, _≤_, _<_, min, max}
 use native.Mathlib.Numerals.{one-add}
+use native.Mathlib.Omega.{arith}
 use mathlib.Core.Path.{_≡_, refl, sym, ap, ap₂, _∙_}
 use mathlib.Core.Bool.{Bool, true, false, cond, _&&_}
 use mathlib.Core.List.{List, [], _∷_}
@@ -19,6 +20,21 @@ use Rattle.chain.specs.declared.entry.Traits.{Traits}
 use Rattle.chain.specs.declared.read.Read.{Read}
 use Rattle.chain.proofs.Walk.{lowered-least}
 use Rattle.chain.proofs.Folds.{Folding, folding-start, folding-turn, folding-out, folding-end, Walking, walking-turn, walking-skip, walking-out, walking-end}
+
+-- ---- the entries of an alternative are passed over
+
+module _ (part : List ℕ) (at : ℕ) where
+  abbrev pub Over : ℕ → Type 0
+  Over i = Folding part {R = ℕ} 0 at (λ es. 0) i
+
+  pub over-start : at ≤ length part → Over at
+  over-start l = folding-start part {R = ℕ} 0 at (λ es. 0) l refl
+
+  pub over-turn : (i : ℕ) → Over i → i < length part → isEntry (getD part i 0) ≡ true → Over (i + 1)
+  over-turn i here l e = folding-turn part {R = ℕ} 0 at (λ es. 0) i here l e (λ es. 0) refl
+
+  pub over-end : (i : ℕ) → Over i → (at ≤ i) × (i ≤ length part) × (alternativesFrom (drop at part) ≡ alternativesFrom (drop i part))
+  over-end i here = (here .low, here .within, here .skips)
 
 -- ---- an alternative
 
@@ -89,15 +105,15 @@ module _ (none : ℕ) (ranks part : List ℕ) (at : ℕ) where
     pub ranking-turn : i < length part → isEntry (getD part i 0) ≡ true → passIn none ranks entry ≡ true → Ranking (i + 1)
     ranking-turn l e told = folding-turn part (ranked (entriesFrom (drop at part))) at ranked i here l e ranked (by-entry true told (entriesFrom (drop (i + 1) part)))
 
-    pub ranking-fails : i < length part → isEntry (getD part i 0) ≡ true → passIn none ranks entry ≡ false
-        → AlternativeRead (everyIn none ranks) part at (record { value = none; next = i + 1 })
-    ranking-fails l e told =
+    pub ranking-fails : i < length part → isEntry (getD part i 0) ≡ true → passIn none ranks entry ≡ false → (j : ℕ) → i + 1 ≤ j → j ≤ length part
+        → alternativesFrom (drop (i + 1) part) ≡ alternativesFrom (drop j part) → AlternativeRead (everyIn none ranks) part at (record { value = none; next = j })
+    ranking-fails l e told j low within passed =
         let read = opened l e in
         record {
           value = sym (by-entry false told (entriesFrom (drop (i + 1) part))) ∙ read .same;
-          low = read .low;
-          within = read .within;
-          skips = read .skips;
+          low = omega (arith, read .low);
+          within = within;
+          skips = read .skips ∙ passed;
         }
 
     pub ranking-out : i < length part → isEntry (getD part i 0) ≡ false → AlternativeRead (everyIn none ranks) part at (record { value = 0; next = i })

@@ -96,7 +96,22 @@ fn fewest_links(
     }
 }
 
-// Whether all entries that stand from index `at` on have a rank: 0 where they do. The first without one ends the reading.
+// The index of the first word from index `at` on that is no entry.
+fn after_entries(part: &[u32], at: usize) -> usize
+    requires { ⌜ at ≤ length (now part) ⌝ }
+    ensures { λ r. ⌜ (at ≤ r) × (r ≤ length (now (part .entry))) × (alternativesFrom (drop at (now (part .entry))) ≡ alternativesFrom (drop r (now (part .entry)))) ⌝ }
+{
+    let mut i = at;
+    while i < part.len() {
+        if !is_entry(part[i]) {
+            return i;
+        }
+        i += 1;
+    }
+    i
+}
+
+// Whether all entries that stand from index `at` on have a rank: 0 where they do. After the first without one the others are passed over.
 fn all_ranked(none: u32, ranks: &[u32], part: &[u32], at: usize) -> Read
     requires { ⌜ Rankable none (now ranks) (now part) × (at ≤ length (now part)) ⌝ }
     ensures { λ r. ⌜ AlternativeRead (everyIn none (now (ranks .entry))) (now (part .entry)) at r ⌝ }
@@ -111,7 +126,7 @@ fn all_ranked(none: u32, ranks: &[u32], part: &[u32], at: usize) -> Read
         if !passes(none, ranks, w) {
             return Read {
                 value: none,
-                next: i,
+                next: after_entries(part, i),
             };
         }
     }

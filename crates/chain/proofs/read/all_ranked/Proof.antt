@@ -12,6 +12,7 @@ use Rattle.chain.proofs.read.all_ranked.Tie as tie
 use Rattle.chain.proofs.read.all_ranked.Reads as reads
 use Rattle.chain.proofs.read.all_ranked.Lts as lts
 use Rattle.chain.proofs.entry.passes.Reads as passes-reads
+use Rattle.chain.proofs.read.after_entries.Reads as after-entries-reads
 use Rattle.image.proofs.word.is_entry.Reads as is-entry-reads
 
 abbrev Inv-loop : tie.InvT-loop
@@ -51,14 +52,18 @@ passes-requires c κs =
     let start = at-loop .before .before .before in
     (start .pre .0 .within (at-loop .loop .i) (omega arith), sym (c .before .is-entry .ensures) ∙ not-false _ (c .if1 .left))
 
+after-entries-requires : tie.Need-after-entries-requires Inv-loop μ-loop
+after-entries-requires c κs = search needs
+
 returns-2 : tie.Need-returns-2 Inv-loop μ-loop
 returns-2 c =
-    let tested = c .before in
+    let tested = c .before .before in
+    let after = c .after-entries .ensures in
     let entry = tested .before .before in
     let at-loop = entry .before .before .before in
     let a = at-loop .before .before .before .args in
     ranking-fails (a .none) (a .ranks .now) (a .part .now) (a .at) (at-loop .loop .i) (at-loop .loop .inv) (omega arith)
-    (sym (entry .is-entry .ensures) ∙ not-false _ (tested .before .if1 .left)) (sym (tested .passes .ensures) ∙ not-true _ (c .if2 .taken))
+    (sym (entry .is-entry .ensures) ∙ not-false _ (tested .before .if1 .left)) (sym (tested .passes .ensures) ∙ not-true _ (c .before .if2 .taken)) _ (after .0) (after .1) (after .2)
 
 loop-less : tie.Need-loop-less Inv-loop μ-loop
 loop-less c = search needs
@@ -92,6 +97,7 @@ all-ranked-spec =
     returns
     add-i
     passes-requires
+    after-entries-requires
     returns-2
     loop-less
     loop-again
