@@ -14,10 +14,9 @@ use Rattle.image.specs.Word.{payload, isKind, isEntry}
 use Rattle.image.specs.Library.{Entry, step, call, Alternative, entriesFrom, alternativesFrom}
 use Rattle.chain.specs.Scan.{every}
 use Rattle.chain.specs.Link.{Link, touchLink}
-use Rattle.chain.specs.Ranks.{entryRank}
 use Rattle.chain.specs.Stands.{entryAt}
 use Rattle.chain.specs.Walk.{tailFrom, positionFrom, linkFrom, alternativeFrom}
-use Rattle.chain.specs.Tables.{entryOf, entryNumber, inRanks, markIn, aheadIn, behindIn, traitsIn, AlternativeRead}
+use Rattle.chain.specs.Tables.{entryOf, entryNumber, rankIn, passIn, traitsIn, AlternativeRead}
 use Rattle.chain.specs.Choice.{linkIn, Chosen}
 use Rattle.chain.specs.declared.entry.Asked.{Asked}
 use Rattle.chain.specs.declared.entry.Traits.{Traits}
@@ -65,15 +64,15 @@ entry-number w = go (isKind 8 w)
     go true = refl
     go false = refl
 
-module _ (q : Asked) (masks table ranks part : List ℕ) (k : ℕ) where
+module _ (q : Asked) (ahead behind ranks part : List ℕ) (k : ℕ) where
   abbrev rank : Entry → ℕ
-  rank = entryRank (q .none) (markIn q masks) (inRanks q ranks)
+  rank = rankIn (q .none) (q .none) ranks
 
   abbrev position : Bool → ℕ → List Entry → ℕ
-  position = positionFrom (q .none) rank (aheadIn q masks table) (behindIn q masks table) k
+  position = positionFrom (q .none) rank (passIn (q .none) ahead) (passIn (q .none) behind) k
 
   abbrev link : ℕ → ℕ → List Alternative → Link
-  link c = linkFrom (q .none) rank (aheadIn q masks table) (behindIn q masks table) c k
+  link c = linkFrom (q .none) rank (passIn (q .none) ahead) (passIn (q .none) behind) c k
 
   module _ (s : ℕ) where
     abbrev entries : List Entry
@@ -95,9 +94,9 @@ module _ (q : Asked) (masks table ranks part : List ℕ) (k : ℕ) where
         folding-start part whole s (rest true s) l (rw z (ap (λ (n : ℕ). (position true 0 entries, n)) (omega arith)))
 
     -- an entry, with its traits, where `quiet` is the index from which on all entries pass as those behind
-    module _ (quiet : ℕ) (quieted : quiet ≡ tailFrom (behindIn q masks table) s s entries) (ok : Bool) (i : ℕ) (here : Placing ok i)
+    module _ (quiet : ℕ) (quieted : quiet ≡ tailFrom (passIn (q .none) behind) s s entries) (ok : Bool) (i : ℕ) (here : Placing ok i)
         (l : i < length part) (e : isEntry (getD part i 0) ≡ true) (t : Traits)
-        (told : t ≡ traitsIn q masks table ranks (entryOf (getD part i 0))) where
+        (told : t ≡ traitsIn (q .none) ahead behind ranks (entryOf (getD part i 0))) where
       abbrev entry : Entry
       entry = entryOf (getD part i 0)
 
@@ -109,12 +108,12 @@ module _ (q : Asked) (masks table ranks part : List ℕ) (k : ℕ) where
       opened = folding-turn part whole s (rest ok i) i here l e (λ es. rest ok i (entry ∷ es)) refl
 
       -- the entries behind the position pass
-      behind-passes : leb quiet (i + 1) ≡ every (behindIn q masks table) later
+      behind-passes : leb quiet (i + 1) ≡ every (passIn (q .none) behind) later
       behind-passes =
           let n : s + (i + 1 - s) ≡ i + 1 = omega (arith, here .low) in
-          let h = tail-from (behindIn q masks table) s s (i + 1 - s) entries (omega arith) in
-          ap (λ (x : ℕ). leb x (i + 1)) quieted ∙ ap (leb (tailFrom (behindIn q masks table) s s entries)) (sym n) ∙ h
-          ∙ ap (every (behindIn q masks table)) (opened .passed)
+          let h = tail-from (passIn (q .none) behind) s s (i + 1 - s) entries (omega arith) in
+          ap (λ (x : ℕ). leb x (i + 1)) quieted ∙ ap (leb (tailFrom (passIn (q .none) behind) s s entries)) (sym n) ∙ h
+          ∙ ap (every (passIn (q .none) behind)) (opened .passed)
 
       -- whether this position is chosen
       abbrev pub Taken : Bool
@@ -123,11 +122,11 @@ module _ (q : Asked) (masks table ranks part : List ℕ) (k : ℕ) where
       position-here : (b : Bool) → Taken ≡ b → position ok (i - s) (entry ∷ later) ≡ cond b (i - s) (position (ok && t .ahead) (suc (i - s)) later)
       unfolding positionFrom
       position-here b taken =
-          let test : ((ok && every (behindIn q masks table) later) && leb (rank entry) k) ≡ b =
+          let test : ((ok && every (passIn (q .none) behind) later) && leb (rank entry) k) ≡ b =
           ap (λ (x : Bool). (ok && x) && leb (rank entry) k) (sym behind-passes)
           ∙ ap (λ (x : Traits). (ok && leb quiet (i + 1)) && leb (x .rank) k) (sym told)
           ∙ taken in
-          ap (λ (x : Bool). cond x (i - s) (position (ok && aheadIn q masks table entry) (suc (i - s)) later)) test
+          ap (λ (x : Bool). cond x (i - s) (position (ok && passIn (q .none) ahead entry) (suc (i - s)) later)) test
           ∙ ap (λ (x : Traits). cond b (i - s) (position (ok && x .ahead) (suc (i - s)) later)) (sym told)
 
       pub placing-turn : Taken ≡ false → Placing (ok && t .ahead) (i + 1)
@@ -225,7 +224,7 @@ module _ (q : Asked) (masks table ranks part : List ℕ) (k : ℕ) where
           ∙ getD-append-add (here .read) alts 0 []
 
       -- no alternative
-      unchosen : ((c : ℕ) → left (here .read) c [] ≡ all c) → Chosen q masks table ranks part at k (record { alternative = alternative; position = 0; entry = 0 })
+      unchosen : ((c : ℕ) → left (here .read) c [] ≡ all c) → Chosen q ahead behind ranks part at k (record { alternative = alternative; position = 0; entry = 0 })
       unfolding linkFrom linkIn
       unchosen h =
           record {
@@ -236,18 +235,18 @@ module _ (q : Asked) (masks table ranks part : List ℕ) (k : ℕ) where
           }
 
       pub choosing-out : i < length part → isKind 7 (getD part i 0) ≡ false → isEntry (getD part i 0) ≡ false
-          → Chosen q masks table ranks part at k (record { alternative = alternative; position = 0; entry = 0 })
+          → Chosen q ahead behind ranks part at k (record { alternative = alternative; position = 0; entry = 0 })
       choosing-out l e f = unchosen (λ c. walking-out part (all c) (left (here .read) c) i (here .walk c) l e f)
 
-      pub choosing-end : i ≡ length part → Chosen q masks table ranks part at k (record { alternative = alternative; position = 0; entry = 0 })
+      pub choosing-end : i ≡ length part → Chosen q ahead behind ranks part at k (record { alternative = alternative; position = 0; entry = 0 })
       choosing-end l = unchosen (λ c. walking-end part (all c) (left (here .read) c) i (here .walk c) l)
 
       -- an alternative with such a position
       pub choosing-found : i < length part → isKind 7 (getD part i 0) ≡ true → (quiet : ℕ)
-          → quiet ≡ tailFrom (behindIn q masks table) (i + 1) (i + 1) (entriesFrom (drop (i + 1) part)) → (ok : Bool) (j : ℕ)
+          → quiet ≡ tailFrom (passIn (q .none) behind) (i + 1) (i + 1) (entriesFrom (drop (i + 1) part)) → (ok : Bool) (j : ℕ)
           → Placing (i + 1) ok j → j < length part → isEntry (getD part j 0) ≡ true → (t : Traits)
-          → t ≡ traitsIn q masks table ranks (entryOf (getD part j 0)) → (ok && leb quiet (j + 1)) && leb (t .rank) k ≡ true
-          → Chosen q masks table ranks part at k (record { alternative = alternative; position = j - (i + 1); entry = payload (getD part j 0) })
+          → t ≡ traitsIn (q .none) ahead behind ranks (entryOf (getD part j 0)) → (ok && leb quiet (j + 1)) && leb (t .rank) k ≡ true
+          → Chosen q ahead behind ranks part at k (record { alternative = alternative; position = j - (i + 1); entry = payload (getD part j 0) })
       unfolding linkIn
       choosing-found l e quiet quieted ok j placed l′ e′ t told taken =
           let es = entriesFrom (drop (i + 1) part) in

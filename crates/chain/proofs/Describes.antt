@@ -2,36 +2,38 @@
 -- ranks are the library's.
 -- Assumes nothing.
 use Prim.Native.Nat.{ℕ, zero, suc, pred, _+_, _*_, _≤_, _<_}
+use native.Mathlib.Decide.{decLt}
 use native.Mathlib.Omega.{arith}
-use native.Mathlib.Nat.{add-zero}
 use mathlib.Core.Path.{_≡_, refl, sym, ap, ap₂, _∙_, fun-ext}
 use mathlib.Core.Logic.{_≢_}
 use mathlib.Core.Bool.{Bool, true, false, cond}
 use mathlib.Core.List.{List, [], _∷_}
-use lib.ListN.{length, getD}
+use lib.ListN.{length, getD, drop, List·getD-eq-default}
+use lib.Seq.{getD-take, getD-drop}
 use lib.Dec.{eqb, ltb}
-use borrow.Author.Tests.{ltb-true}
+use borrow.Author.Tests.{ltb-true, lt-ltb, le-ltb}
 use Rattle.column.specs.Sets.{inColumn}
 use Rattle.column.proofs.Operations.{in-column}
-use Rattle.image.specs.Library.{has, Library, Alternative, Entry, step, call}
+use Rattle.image.specs.Library.{has, Library, Step, Alternative, Entry, step, call}
 use Rattle.image.specs.Tables.{maskOf}
 use Rattle.outcome.specs.Run.{Item, alternativesOf, alternativeOf}
-use Rattle.outcome.specs.Execution.{stepOf}
-use Rattle.outcome.specs.Touch.{Side, last, first, Mark, present, absent, untouched, Question, itemTouch}
+use Rattle.outcome.specs.Execution.{noStep, stepOf}
+use Rattle.outcome.specs.Touch.{Side, last, first, Mark, present, absent, untouched, Question, touch, itemTouch}
 use Rattle.outcome.specs.Algebra.{sameMark}
-use Rattle.outcome.specs.Possible.{possibleOutcome}
 use Rattle.chain.specs.Link.{Link, touchLink, untouchedLink, Chain}
+use Rattle.chain.specs.Scan.{every}
 use Rattle.chain.specs.Stands.{entryAt}
-use Rattle.chain.specs.Ranks.{Ranks, Look, Reached, Linked, Closed, unranked, entryRank, linkLook, depthLook, hasMark, canStay, canRun, aheadOf, behindOf, touchLook, untouchedLook}
-use Rattle.chain.specs.Answer.{Answer, none, shown, chosenAlternative, chosenPosition, followed, linksFrom, touchAnswer, untouchedAnswer, ranksIn}
-use Rattle.chain.specs.Walk.{linkFrom, alternativeFrom}
-use Rattle.chain.specs.Tables.{entryNumber, markOf, inRanks, stepMark, markIn, runIn, stayIn, possibleIn, aheadIn, behindIn, lookIn, alternativesAt}
+use Rattle.chain.specs.Ranks.{Ranks, Reached, Linked, Closed, unranked, entryRank, entryPasses, depthLook, passLook, hasMark, canStay, canRun, aheadOf, behindOf, touchLook, untouchedLook}
+use Rattle.chain.specs.Answer.{Answer, none, shown, chosenAlternative, followed, linksFrom, touchAnswer, untouchedAnswer}
+use Rattle.chain.specs.Walk.{linkFrom, alternativeFrom, depthFrom, fewestFrom}
+use Rattle.chain.specs.Tables.{entryNumber, inRanks, rankIn, passIn, depthIn, everyIn, fewestIn, lookIn, alternativesAt, stepMark, markIn, stepRank, Stepped}
 use Rattle.chain.specs.Choice.{linkIn, linkEntry, linkAt, linksIn, quietLink, answerIn}
-use Rattle.chain.specs.Described.{isFirst, markNumber, Asks, Described}
+use Rattle.chain.specs.Described.{isFirst, markNumber, sideBy, Asks, Masked, Placed, StepsBy, Described}
 use Rattle.chain.specs.declared.entry.Asked.{Asked}
 use Rattle.chain.proofs.Depth.{step-rank, step-passes}
 use Rattle.chain.proofs.Links.{entriesOf, chosenAt, positionAt, chosen, chosen-rank, ranked-listed}
-use Rattle.chain.proofs.Walk.{alternative-from, link-from}
+use Rattle.chain.proofs.Scan.{getD-inside}
+use Rattle.chain.proofs.Walk.{alternative-from, depth-from, fewest-from, link-from}
 
 cond-mark : (x y : Bool) → cond x 0 (cond y 1 2) ≡ markNumber (cond x present (cond y absent untouched))
 cond-mark true y = refl
@@ -53,75 +55,106 @@ by-test : (b : Bool) (x y : Answer) → cond b x y ≡ elim b [ true ↦ x | fal
 by-test true x y = refl
 by-test false x y = refl
 
-module _ (L : Library) (q : Asked) (Q : Question) (masks table part places : List ℕ) (asks : Asks L q Q) (described : Described L Q masks table part places) where
-  abbrev f : ℕ
-  f = q .fact
+-- ---- the ranks of the steps
 
-  -- ---- what the tables say of an entry
+no-touch : (s : Side) (f : ℕ) → touch s noStep f ≡ untouched
+unfolding has
+no-touch last f = refl
+no-touch first f = refl
 
-  mask-has : (n : ℕ) (facts : List ℕ) → n ≡ maskOf facts → inColumn n f ≡ has f facts
+module _ (L : Library) (q : Asked) (Q : Question) (masks : List ℕ) (asks : Asks L q Q) (masked : Masked L masks) where
+  abbrev asked : ℕ
+  asked = q .fact
+
+  mask-has : (n : ℕ) (facts : List ℕ) → n ≡ maskOf facts → inColumn n asked ≡ has asked facts
   unfolding maskOf
   mask-has n facts e =
-      let low : f < 64 = omega (arith, asks .fact, described .narrow) in
-      ap (λ (x : ℕ). inColumn x f) e ∙ in-column 64 (λ (g : ℕ). has g facts) f low
+      let low : asked < 64 = omega (arith, asks .fact, masked .narrow) in
+      ap (λ (x : ℕ). inColumn x asked) e ∙ in-column 64 (λ (g : ℕ). has g facts) asked low
 
-  step-mark : (a : ℕ) → stepMark q masks a ≡ markNumber (itemTouch L (Q .side) f a)
+  step-mark : (a : ℕ) → stepMark q masks a ≡ markNumber (itemTouch L (Q .side) asked a)
   step-mark a =
-      let n = mask-has (getD masks (3 * a) 0) (stepOf L a .needs) (described .needs a) in
-      let s = mask-has (getD masks (3 * a + 1) 0) (stepOf L a .sets) (described .sets a) in
-      let k = mask-has (getD masks (3 * a + 2) 0) (stepOf L a .clears) (described .clears a) in
+      let n = mask-has (getD masks (3 * a) 0) (stepOf L a .needs) (masked .needs a) in
+      let s = mask-has (getD masks (3 * a + 1) 0) (stepOf L a .sets) (masked .sets a) in
+      let k = mask-has (getD masks (3 * a + 2) 0) (stepOf L a .clears) (masked .clears a) in
       rw (asks .first, n, s, k) (go (Q .side))
     where
       go : (s : Side)
-          → cond (isFirst s) (cond (has f (stepOf L a .needs)) 0 (cond (has f (stepOf L a .sets)) 1 2))
-          (cond (has f (stepOf L a .sets)) 0 (cond (has f (stepOf L a .clears)) 1 2))
-          ≡ markNumber (itemTouch L s f a)
-      go last = cond-mark (has f (stepOf L a .sets)) (has f (stepOf L a .clears))
-      go first = cond-mark (has f (stepOf L a .needs)) (has f (stepOf L a .sets))
+          → cond (isFirst s) (cond (has asked (stepOf L a .needs)) 0 (cond (has asked (stepOf L a .sets)) 1 2))
+          (cond (has asked (stepOf L a .sets)) 0 (cond (has asked (stepOf L a .clears)) 1 2))
+          ≡ markNumber (itemTouch L s asked a)
+      go last = cond-mark (has asked (stepOf L a .sets)) (has asked (stepOf L a .clears))
+      go first = cond-mark (has asked (stepOf L a .needs)) (has asked (stepOf L a .sets))
 
-  mark-is : markIn q masks ≡ hasMark L Q f
-  mark-is = fun-ext (λ a. rw (step-mark a, asks .mark) (same-number (itemTouch L (Q .side) f a) (Q .mark)))
+  mark-is : (a : Item) → markIn false q masks a ≡ hasMark L Q asked a
+  mark-is a = rw (step-mark a, asks .mark) (same-number (itemTouch L (Q .side) asked a) (Q .mark))
 
-  run-is : Q .mark ≢ untouched → (e : Entry) → runIn q masks table e ≡ canRun L Q f e
-  run-is touch (step a) = refl
-  run-is touch (call d) = ap (λ (n : ℕ). inColumn (getD table n 0) f) (sym (add-zero (8 * d))) ∙ described .rows touch d 0 f (omega arith) (asks .fact)
+  -- a step past the library's touches nothing
+  pub mark-past : (a : Item) → length (L .steps) ≤ a → hasMark L Q asked a ≡ sameMark untouched (Q .mark)
+  mark-past a le =
+      ap (λ (m : Mark). sameMark m (Q .mark))
+      (ap (λ (s : Step). touch (Q .side) s asked) (List·getD-eq-default (L .steps) noStep {n = a} le) ∙ no-touch (Q .side) asked)
 
-  -- the columns of the question's side
-  pub possible-is : Q .mark ≢ untouched → (d : ℕ) (m : Mark) → possibleIn q table d (markNumber m) ≡ possibleOutcome L (record { side = Q .side; mark = m }) d f
-  possible-is touch d m = rw (asks .first) (go (Q .side) m)
+  module _ (before after : List ℕ) (size : length before ≡ q .none + length (L .steps)) where
+    -- the table's words are by the marks, or all 0
+    step-in : (any : Bool) → Stepped any q masks before after → (past a : ℕ) → a < length (L .steps)
+        → getD (drop (q .none) after) a past ≡ stepRank any q masks a
+    step-in any stepped past a l =
+        getD-drop (q .none) after a past ∙ getD-inside after (q .none + a) past 0 (omega (arith, stepped .long)) ∙ stepped .ranked a (omega arith)
+
+    step-out : (any : Bool) → Stepped any q masks before after → (past a : ℕ) → length (L .steps) ≤ a → getD (drop (q .none) after) a past ≡ past
+    step-out any stepped past a l = getD-drop (q .none) after a past ∙ List·getD-eq-default after past {n = q .none + a} (omega (arith, stepped .long))
+
+    pub steps-marked : Stepped false q masks before after → (past : ℕ) → past ≡ cond (sameMark untouched (Q .mark)) 0 (q .none)
+        → StepsBy (q .none) past (hasMark L Q asked) after
+    steps-marked stepped past end a =
+        elim (decLt a (length (L .steps))) [
+          | yes l ↦ step-in false stepped past a l ∙ ap (λ (b : Bool). cond b 0 (q .none)) (mark-is a)
+          | no l ↦
+              step-out false stepped past a (omega arith) ∙ end
+              ∙ ap (λ (b : Bool). cond b 0 (q .none)) (sym (mark-past a (omega arith)))
+        ]
+
+    pub steps-any : Stepped true q masks before after → StepsBy (q .none) 0 (λ (a : Item). true) after
+    steps-any stepped a =
+        elim (decLt a (length (L .steps))) [
+          | yes l ↦ step-in true stepped 0 a l
+          | no l ↦ step-out true stepped 0 a (omega arith)
+        ]
+
+-- ---- what a table says of an entry
+
+module _ (none past : ℕ) (test : Item → Bool) (T : List ℕ) (steps : StepsBy none past test T) where
+  rank-is : rankIn none past T ≡ entryRank none test (inRanks none T)
+  rank-is = fun-ext go
     where
-      go : (s : Side) (m : Mark)
-          → inColumn (getD table (8 * d + (cond (isFirst s) 5 2 + markNumber m)) 0) f ≡ possibleOutcome L (record { side = s; mark = m }) d f
-      go last present = described .rows touch d 2 f (omega arith) (asks .fact)
-      go last absent = described .rows touch d 3 f (omega arith) (asks .fact)
-      go last untouched = described .rows touch d 4 f (omega arith) (asks .fact)
-      go first present = described .rows touch d 5 f (omega arith) (asks .fact)
-      go first absent = described .rows touch d 6 f (omega arith) (asks .fact)
-      go first untouched = described .rows touch d 7 f (omega arith) (asks .fact)
+      go : (e : Entry) → rankIn none past T e ≡ entryRank none test (inRanks none T) e
+      go (step a) = steps a
+      go (call d) = refl
 
-  stay-is : Q .mark ≢ untouched → (e : Entry) → stayIn q masks table e ≡ canStay L Q f e
-  stay-is touch (step a) = rw (step-mark a) (same-number (itemTouch L (Q .side) f a) untouched)
-  stay-is touch (call d) = possible-is touch d untouched
+-- an entry has a rank exactly where it passes, where a sequence has one exactly where it passes
+pub pass-is : (none : ℕ) → 0 < none → (test : Item → Bool) (run : ℕ → Bool) (T : List ℕ) → StepsBy none 0 test T
+    → ((d : ℕ) → ltb (inRanks none T d) none ≡ run d) → (e : Entry) → passIn none T e ≡ entryPasses test run e
+pass-is n some test run T steps ranked (step a) = ap (λ (r : ℕ). ltb r n) (steps a) ∙ go (test a)
+  where
+    go : (b : Bool) → ltb (cond b 0 n) n ≡ b
+    go true = lt-ltb 0 n some
+    go false = le-ltb n n (omega arith)
+pass-is n some test run T steps ranked (call d) = ranked d
 
-  ahead-is : Q .mark ≢ untouched → aheadIn q masks table ≡ aheadOf L Q f (Q .side)
-  ahead-is touch = fun-ext (λ e. ap (λ (b : Bool). cond b (stayIn q masks table e) (runIn q masks table e)) (asks .first) ∙ go (Q .side) e)
-    where
-      go : (s : Side) (e : Entry) → cond (isFirst s) (stayIn q masks table e) (runIn q masks table e) ≡ aheadOf L Q f s e
-      go last e = run-is touch e
-      go first e = stay-is touch e
+-- ---- the looks are the library's
 
-  behind-is : Q .mark ≢ untouched → behindIn q masks table ≡ behindOf L Q f (Q .side)
-  behind-is touch = fun-ext (λ e. ap (λ (b : Bool). cond b (runIn q masks table e) (stayIn q masks table e)) (asks .first) ∙ go (Q .side) e)
-    where
-      go : (s : Side) (e : Entry) → cond (isFirst s) (runIn q masks table e) (stayIn q masks table e) ≡ behindOf L Q f s e
-      go last e = stay-is touch e
-      go first e = run-is touch e
+-- where it is only asked whether all entries pass
+pub pass-look : (m : ℕ) → 0 < m → (q : Asked) (ahead behind : List ℕ) → q .none ≡ m → q .mark ≡ 3 → (test : Item → Bool) (T : List ℕ) → StepsBy m 0 test T
+    → lookIn q ahead behind T ≡ passLook m test (inRanks m T)
+unfolding passLook
+pass-look m some q ahead behind none-is three test T steps =
+    let by : ℕ → ℕ → Alternative → ℕ =
+    λ k n es. cond (eqb k 2) (depthIn n T es) (cond (eqb k 3) (everyIn n T es) (fewestIn n ahead behind T es)) in
+    ap₂ by three none-is
+    ∙ fun-ext (λ es. ap (λ (p : Entry → Bool). cond (every p es) 0 m) (fun-ext (pass-is m some test (λ d. ltb (inRanks m T d) m) T steps (λ d. refl))))
 
-  rank-is : (ranks : List ℕ) → entryRank (q .none) (markIn q masks) (inRanks q ranks) ≡ entryRank (unranked L) (hasMark L Q f) (ranksIn L ranks)
-  rank-is ranks =
-      ap (λ (n : ℕ). entryRank n (markIn q masks) (λ d. getD ranks d n)) (asks .none)
-      ∙ ap (λ (t : Item → Bool). entryRank (unranked L) t (ranksIn L ranks)) mark-is
-
+module _ (L : Library) (q : Asked) (Q : Question) (asks : Asks L q Q) where
   two-is : (b : Bool) → eqb (markNumber (Q .mark)) 2 ≡ b → eqb (q .mark) 2 ≡ b
   two-is b e = ap (λ (n : ℕ). eqb n 2) (asks .mark) ∙ e
 
@@ -130,98 +163,128 @@ module _ (L : Library) (q : Asked) (Q : Question) (masks table part places : Lis
   touch-number absent t = refl
   touch-number untouched t = absurd (t refl)
 
+  three-is : (m : Mark) → Q .mark ≡ m → eqb (q .mark) 3 ≡ false
+  three-is present e = ap (λ (n : ℕ). eqb n 3) (asks .mark ∙ ap markNumber e)
+  three-is absent e = ap (λ (n : ℕ). eqb n 3) (asks .mark ∙ ap markNumber e)
+  three-is untouched e = ap (λ (n : ℕ). eqb n 3) (asks .mark ∙ ap markNumber e)
+
   quiet-number : (m : Mark) → m ≡ untouched → eqb (markNumber m) 2 ≡ true
   quiet-number m e = ap (λ (n : Mark). eqb (markNumber n) 2) e
 
-  abbrev lookBy : Bool → Look
-  lookBy b T es =
-      cond b (depthLook (q .none) (markIn q masks) T es) (linkLook (q .none) (markIn q masks) (aheadIn q masks table) (behindIn q masks table) T es)
+  module _ (ahead behind : List ℕ) where
+    abbrev lookBy : List ℕ → ℕ → Bool → Bool → Alternative → ℕ
+    lookBy T n b d es = cond b (depthIn n T es) (cond d (everyIn n T es) (fewestIn n ahead behind T es))
 
-  -- the looks are the library's
-  pub touch-look : Q .mark ≢ untouched → lookIn q masks table ≡ touchLook L Q f
-  touch-look touch =
-      ap lookBy (two-is false (touch-number (Q .mark) touch))
-      ∙ ap₂ (λ (n : ℕ) (t : Item → Bool). linkLook n t (aheadIn q masks table) (behindIn q masks table)) (asks .none) mark-is
-      ∙ ap₂ (λ (a b : Entry → Bool). linkLook (unranked L) (hasMark L Q f) a b) (ahead-is touch) (behind-is touch)
+    -- the depth, by any test of the steps
+    pub depth-look : Q .mark ≡ untouched → (test : Item → Bool) (T : List ℕ) → StepsBy (unranked L) 0 test T
+        → lookIn q ahead behind T ≡ depthLook (unranked L) test (inRanks (unranked L) T)
+    depth-look quiet test T steps =
+        ap₂ (λ (n : ℕ) (b : Bool). lookBy T n b (eqb (q .mark) 3)) (asks .none) (two-is true (quiet-number (Q .mark) quiet))
+        ∙ fun-ext (λ es. ap (λ (r : Entry → ℕ). depthFrom r 0 es) (rank-is (unranked L) 0 test T steps) ∙ sym (depth-from (unranked L) test (inRanks (unranked L) T) es))
 
-  pub quiet-look : Q .mark ≡ untouched → lookIn q masks table ≡ untouchedLook L Q f
-  quiet-look quiet =
-      ap lookBy (two-is true (quiet-number (Q .mark) quiet))
-      ∙ ap₂ (λ (n : ℕ) (t : Item → Bool). depthLook n t) (asks .none) mark-is
+    -- the links
+    pub touch-look : Q .mark ≢ untouched → Described L Q (q .fact) ahead behind → (T : List ℕ) → StepsBy (unranked L) (unranked L) (hasMark L Q (q .fact)) T
+        → lookIn q ahead behind T ≡ touchLook L Q (q .fact) (inRanks (unranked L) T)
+    touch-look touch described T steps =
+        let n = unranked L in
+        ap₂ (λ (n : ℕ) (b : Bool). lookBy T n b (eqb (q .mark) 3)) (asks .none) (two-is false (touch-number (Q .mark) touch))
+        ∙ ap (lookBy T n false) (three-is (Q .mark) refl)
+        ∙ fun-ext (λ es.
+        ap (λ (r : Entry → ℕ). fewestFrom n r (passIn n ahead) (passIn n behind) true n es) (rank-is n n (hasMark L Q (q .fact)) T steps)
+        ∙ ap₂ (λ (a b : Entry → Bool). fewestFrom n (entryRank n (hasMark L Q (q .fact)) (inRanks n T)) a b true n es) (fun-ext (described .by-ahead)) (fun-ext (described .by-behind))
+        ∙ sym (fewest-from n (hasMark L Q (q .fact)) (aheadOf L Q (q .fact) (Q .side)) (behindOf L Q (q .fact) (Q .side)) (inRanks n T) es))
 
-  -- ---- the answer by the ranks
+    -- ---- the answer by the ranks
 
-  module _ (ranks : List ℕ) where
-    abbrev T : Ranks
-    T = ranksIn L ranks
+    module _ (part places : List ℕ) (placed : Placed L part places) (ranks : List ℕ) where
+      abbrev f : ℕ
+      f = q .fact
 
-    own : (c : ℕ) → inRanks q ranks c ≡ T c
-    own c = ap (λ (n : ℕ). getD ranks c n) (asks .none)
+      abbrev T : Ranks
+      T = inRanks (unranked L) ranks
 
-    -- a question that asks for no touch
-    pub quiet-answer : Q .mark ≡ untouched → (c : ℕ) → c < length (L .sequences)
-        → answerIn q masks table ranks part places c ≡ untouchedAnswer L Q f T c
-    unfolding answerIn quietLink untouchedAnswer
-    quiet-answer quiet c lt =
-        let look = quiet-look quiet in
-        let alternative : alternativeFrom (lookIn q masks table (inRanks q ranks)) (pred (inRanks q ranks c)) 0 (alternativesAt part places c)
-        ≡ chosenAlternative (L .sequences) (untouchedLook L Q f) T (pred (T c)) c =
-        ap₂ (λ (n : ℕ) (alts : List Alternative). alternativeFrom (lookIn q masks table (λ d. getD ranks d n)) (pred (getD ranks c n)) 0 alts) (asks .none) (described .placed c lt)
-        ∙ ap (λ (l : Look). alternativeFrom (l T) (pred (T c)) 0 (alternativesOf (L .sequences) c)) look
-        ∙ sym (alternative-from (L .sequences) (untouchedLook L Q f) T (pred (T c)) c) in
-        ap (λ (b : Bool). cond (ltb (inRanks q ranks c) (q .none)) (shown (cond b (quietLink q masks table ranks part places c ∷ []) (linksIn q masks table ranks part places (inRanks q ranks c) c))) none)
-        (two-is true (quiet-number (Q .mark) quiet))
-        ∙ ap (λ (i : ℕ). cond (ltb (inRanks q ranks c) (q .none)) (shown (untouchedLink c i ∷ [])) none) alternative
-        ∙ ap (λ (n : ℕ). cond (ltb (getD ranks c n) n) (shown (untouchedLink c (chosenAlternative (L .sequences) (untouchedLook L Q f) T (pred (T c)) c) ∷ [])) none) (asks .none)
-        ∙ by-test (ltb (T c) (unranked L)) (shown (untouchedLink c (chosenAlternative (L .sequences) (untouchedLook L Q f) T (pred (T c)) c) ∷ [])) none
+      own : (c : ℕ) → c < length (L .sequences) → getD ranks c (q .none) ≡ T c
+      own c lt = ap (λ (n : ℕ). getD ranks c n) (asks .none) ∙ sym (getD-take (unranked L) ranks c (unranked L) (omega arith))
 
-    -- a question that asks for a touch, by ranks that are reached and that no look lowers
-    module _ (touch : Q .mark ≢ untouched) (reached : Reached (Linked L Q f) (unranked L) T) (closed : Closed (L .sequences) (touchLook L Q f) T) where
-      link-is : (k c : ℕ) → k < unranked L → c < length (L .sequences)
-          → linkAt q masks table ranks part places k c ≡ touchLink c (chosenAt L Q f (unranked L) T c k) (positionAt L Q f (unranked L) T c k)
-      unfolding linkIn
-      link-is k c low lt =
-          ap (λ (alts : List Alternative). linkFrom (q .none) (entryRank (q .none) (markIn q masks) (inRanks q ranks)) (aheadIn q masks table) (behindIn q masks table) c k 0 alts)
-          (described .placed c lt)
-          ∙ ap₂ (λ (n : ℕ) (r : Entry → ℕ). linkFrom n r (aheadIn q masks table) (behindIn q masks table) c k 0 (alternativesOf (L .sequences) c)) (asks .none) (rank-is ranks)
-          ∙ ap₂ (λ (a b : Entry → Bool). linkFrom (unranked L) (entryRank (unranked L) (hasMark L Q f) T) a b c k 0 (alternativesOf (L .sequences) c)) (ahead-is touch) (behind-is touch)
-          ∙ sym (link-from (L .sequences) (unranked L) (hasMark L Q f) (aheadOf L Q f (Q .side)) (behindOf L Q f (Q .side)) T k low c)
+      -- a question that asks for no touch
+      pub quiet-answer : Q .mark ≡ untouched → StepsBy (unranked L) 0 (hasMark L Q f) ranks → (c : ℕ) → c < length (L .sequences)
+          → answerIn q ahead behind ranks part places c ≡ untouchedAnswer L Q f T c
+      unfolding answerIn quietLink untouchedAnswer
+      quiet-answer quiet steps c lt =
+          let chosen = chosenAlternative (L .sequences) (untouchedLook L Q f) T (pred (T c)) c in
+          let alternative : alternativeFrom (lookIn q ahead behind ranks) (pred (getD ranks c (q .none))) 0 (alternativesAt part places c) ≡ chosen =
+          ap₂ (λ (r : ℕ) (alts : List Alternative). alternativeFrom (lookIn q ahead behind ranks) (pred r) 0 alts) (own c lt) (placed c lt)
+          ∙ ap (λ (v : Alternative → ℕ). alternativeFrom v (pred (T c)) 0 (alternativesOf (L .sequences) c)) (depth-look quiet (hasMark L Q f) ranks steps)
+          ∙ sym (alternative-from (L .sequences) (untouchedLook L Q f) T (pred (T c)) c) in
+          ap (λ (b : Bool). cond (ltb (getD ranks c (q .none)) (q .none)) (shown (cond b (quietLink q ahead behind ranks part places c ∷ []) (linksIn q ahead behind ranks part places (getD ranks c (q .none)) c))) none)
+          (two-is true (quiet-number (Q .mark) quiet))
+          ∙ ap₂ (λ (r i : ℕ). cond (ltb r (q .none)) (shown (untouchedLink c i ∷ [])) none) (own c lt) alternative
+          ∙ ap (λ (n : ℕ). cond (ltb (T c) n) (shown (untouchedLink c chosen ∷ [])) none) (asks .none)
+          ∙ by-test (ltb (T c) (unranked L)) (shown (untouchedLink c chosen ∷ [])) none
 
-      -- the links after the one that is chosen
-      after-is : (k : ℕ) → k < unranked L → (e : Entry) → entryRank (unranked L) (hasMark L Q f) T e ≡ k
-          → ((d : ℕ) → T d ≡ k → linksIn q masks table ranks part places k d ≡ linksFrom L Q f T k d)
-          → linksIn q masks table ranks part places k (entryNumber e) ≡ followed e (λ d. linksFrom L Q f T k d)
-      unfolding linksIn linksFrom
-      after-is zero low (step a) e rest = refl
-      after-is (suc k) low (step a) e rest =
-          let z = step-rank (unranked L) (hasMark L Q f a) (step-passes (unranked L) (hasMark L Q f a) (omega arith)) in
-          absurd (omega arith)
-      after-is k low (call d) e rest = rest d e
+      -- a question that asks for a touch, by ranks that are reached and that no look lowers
+      module _ (touch : Q .mark ≢ untouched) (described : Described L Q f ahead behind) (steps : StepsBy (unranked L) (unranked L) (hasMark L Q f) ranks)
+          (reached : Reached (Linked L Q f) (unranked L) T) (closed : Closed (L .sequences) (touchLook L Q f) T) where
+        link-is : (k c : ℕ) → k < unranked L → c < length (L .sequences)
+            → linkAt q ahead behind ranks part places k c ≡ touchLink c (chosenAt L Q f (unranked L) T c k) (positionAt L Q f (unranked L) T c k)
+        unfolding linkIn
+        link-is k c low lt =
+            let m = unranked L in
+            ap₂ (λ (n : ℕ) (alts : List Alternative). linkFrom n (rankIn n n ranks) (passIn n ahead) (passIn n behind) c k 0 alts) (asks .none) (placed c lt)
+            ∙ ap (λ (r : Entry → ℕ). linkFrom m r (passIn m ahead) (passIn m behind) c k 0 (alternativesOf (L .sequences) c)) (rank-is m m (hasMark L Q f) ranks steps)
+            ∙ ap₂ (λ (a b : Entry → Bool). linkFrom m (entryRank m (hasMark L Q f) T) a b c k 0 (alternativesOf (L .sequences) c)) (fun-ext (described .by-ahead)) (fun-ext (described .by-behind))
+            ∙ sym (link-from (L .sequences) (unranked L) (hasMark L Q f) (aheadOf L Q f (Q .side)) (behindOf L Q f (Q .side)) T k low c)
 
-      links-are : (k c : ℕ) → T c ≡ k → k < unranked L → linksIn q masks table ranks part places k c ≡ linksFrom L Q f T k c
-      unfolding linksIn linksFrom
-      links-are zero c e lt = refl
-      links-are (suc k) c e lt =
-          let i = chosenAt L Q f (unranked L) T c k in
-          let p = positionAt L Q f (unranked L) T c k in
-          let listed = ranked-listed L Q f (unranked L) touch T reached closed c (omega arith) in
-          let link = link-is k c (omega arith) listed in
-          let rank =
-          chosen-rank L Q f (unranked L) touch T reached closed c k i p e lt (chosen L Q f (unranked L) touch T reached closed c k e lt) in
-          ap (λ (l : Link). l ∷ linksIn q masks table ranks part places k (linkEntry (alternativesAt part places c) l)) link
-          ∙ ap (λ (alts : List Alternative). touchLink c i p ∷ linksIn q masks table ranks part places k (entryNumber (entryAt (getD alts i []) p))) (described .placed c listed)
-          ∙ ap (λ (ls : Chain). touchLink c i p ∷ ls)
-          (after-is k (omega arith) (entryAt (entriesOf L c i) p) rank (λ d same. links-are k d same (omega arith)))
+        -- the links after the one that is chosen
+        after-is : (k : ℕ) → k < unranked L → (e : Entry) → entryRank (unranked L) (hasMark L Q f) T e ≡ k
+            → ((d : ℕ) → T d ≡ k → linksIn q ahead behind ranks part places k d ≡ linksFrom L Q f T k d)
+            → linksIn q ahead behind ranks part places k (entryNumber e) ≡ followed e (λ d. linksFrom L Q f T k d)
+        unfolding linksIn linksFrom
+        after-is zero low (step a) e rest = refl
+        after-is (suc k) low (step a) e rest =
+            let z = step-rank (unranked L) (hasMark L Q f a) (step-passes (unranked L) (hasMark L Q f a) (omega arith)) in
+            absurd (omega arith)
+        after-is k low (call d) e rest = rest d e
 
-      pub touch-answer : (c : ℕ) → answerIn q masks table ranks part places c ≡ touchAnswer L Q f T c
-      unfolding answerIn touchAnswer
-      touch-answer c =
-          ap (λ (b : Bool). cond (ltb (inRanks q ranks c) (q .none)) (shown (cond b (quietLink q masks table ranks part places c ∷ []) (linksIn q masks table ranks part places (inRanks q ranks c) c))) none)
-          (two-is false (touch-number (Q .mark) touch))
-          ∙ ap (λ (n : ℕ). cond (ltb (getD ranks c n) n) (shown (linksIn q masks table ranks part places (getD ranks c n) c)) none) (asks .none)
-          ∙ go (ltb (T c) (unranked L)) refl
-        where
-          go : (b : Bool) → ltb (T c) (unranked L) ≡ b
-              → cond b (shown (linksIn q masks table ranks part places (T c) c)) none ≡ elim b [ true ↦ shown (linksFrom L Q f T (T c) c) | false ↦ none ]
-          go true e = ap shown (links-are (T c) c refl (ltb-true (T c) (unranked L) e))
-          go false e = refl
+        links-are : (k c : ℕ) → T c ≡ k → k < unranked L → linksIn q ahead behind ranks part places k c ≡ linksFrom L Q f T k c
+        unfolding linksIn linksFrom
+        links-are zero c e lt = refl
+        links-are (suc k) c e lt =
+            let i = chosenAt L Q f (unranked L) T c k in
+            let p = positionAt L Q f (unranked L) T c k in
+            let listed = ranked-listed L Q f (unranked L) touch T reached closed c (omega arith) in
+            let link = link-is k c (omega arith) listed in
+            let rank =
+            chosen-rank L Q f (unranked L) touch T reached closed c k i p e lt (chosen L Q f (unranked L) touch T reached closed c k e lt) in
+            ap (λ (l : Link). l ∷ linksIn q ahead behind ranks part places k (linkEntry (alternativesAt part places c) l)) link
+            ∙ ap (λ (alts : List Alternative). touchLink c i p ∷ linksIn q ahead behind ranks part places k (entryNumber (entryAt (getD alts i []) p))) (placed c listed)
+            ∙ ap (λ (ls : Chain). touchLink c i p ∷ ls)
+            (after-is k (omega arith) (entryAt (entriesOf L c i) p) rank (λ d same. links-are k d same (omega arith)))
+
+        pub touch-answer : (c : ℕ) → c < length (L .sequences) → answerIn q ahead behind ranks part places c ≡ touchAnswer L Q f T c
+        unfolding answerIn touchAnswer
+        touch-answer c lt =
+            ap (λ (b : Bool). cond (ltb (getD ranks c (q .none)) (q .none)) (shown (cond b (quietLink q ahead behind ranks part places c ∷ []) (linksIn q ahead behind ranks part places (getD ranks c (q .none)) c))) none)
+            (two-is false (touch-number (Q .mark) touch))
+            ∙ ap₂ (λ (r n : ℕ). cond (ltb r n) (shown (linksIn q ahead behind ranks part places r c)) none) (own c lt) (asks .none)
+            ∙ go (ltb (T c) (unranked L)) refl
+          where
+            go : (b : Bool) → ltb (T c) (unranked L) ≡ b
+                → cond b (shown (linksIn q ahead behind ranks part places (T c) c)) none ≡ elim b [ true ↦ shown (linksFrom L Q f T (T c) c) | false ↦ none ]
+            go true e = ap shown (links-are (T c) c refl (ltb-true (T c) (unranked L) e))
+            go false e = refl
+
+-- what the two tables of depths say of the entries ahead of a position and of those behind it, by the side
+pub described-by : (L : Library) (Q : Question) (f : ℕ) (stays runs : List ℕ) → ((e : Entry) → passIn (unranked L) stays e ≡ canStay L Q f e)
+    → ((e : Entry) → passIn (unranked L) runs e ≡ canRun L Q f e) → (b : Bool) → Q .side ≡ sideBy b
+    → Described L Q f (cond b stays runs) (cond b runs stays)
+described-by L Q f stays runs stay run false side =
+    record {
+      by-ahead = λ e. run e ∙ ap (λ (s : Side). aheadOf L Q f s e) (sym side);
+      by-behind = λ e. stay e ∙ ap (λ (s : Side). behindOf L Q f s e) (sym side);
+    }
+described-by L Q f stays runs stay run true side =
+    record {
+      by-ahead = λ e. stay e ∙ ap (λ (s : Side). aheadOf L Q f s e) (sym side);
+      by-behind = λ e. run e ∙ ap (λ (s : Side). behindOf L Q f s e) (sym side);
+    }

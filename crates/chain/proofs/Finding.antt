@@ -1,52 +1,49 @@
 -- The tables that are made of an accepted image describe its library, and the answer by settled ranks is the library's.
 -- Assumes nothing.
 use Prim.Native.Nat.{ℕ, zero, suc, _+_, _*_, _≤_, _<_}
-use native.Mathlib.Nat.{add-zero, add-suc, suc-add, zero-add}
 use native.Mathlib.Decide.{decLt}
 use native.Mathlib.Numerals.{add-one}
 use native.Mathlib.Omega.{arith}
 use mathlib.Core.Path.{_≡_, refl, sym, ap, ap₂, _∙_, subst}
-use mathlib.Core.Logic.{_≢_, _⊎_, inl, inr, ⊎-elim}
-use mathlib.Core.Bool.{Bool, true, false, false≢true, _||_}
+use mathlib.Core.Logic.{_≢_, _↔_}
+use mathlib.Core.Bool.{Bool, true, false, cond}
 use mathlib.Core.List.{List, [], _∷_, _++_}
-use lib.ListN.{length, getD, take, drop, replicate, List·getD-append, List·getD-eq-default, length-append}
-use lib.Seq.{getD-append-add, getD-drop}
-use lib.Dec.{eqb}
-use Rattle.column.specs.Sets.{inColumn}
-use Rattle.column.proofs.Bits.{bit-none, column-none}
-use Rattle.column.proofs.Operations.{in-column}
+use lib.ListN.{length, getD, take, drop, replicate, length-replicate, List·getD-append, List·getD-eq-default}
+use lib.Seq.{getD-drop, getD-take, ext-getD, length-take-le}
+use Rattle.column.proofs.Bits.{column-none}
 use Rattle.image.specs.Checked.{checked}
 use Rattle.image.specs.Rules.{opened}
-use Rattle.image.specs.Library.{Library, Step, Sequence, alternativesFrom, stepsFrom, sequencesFrom, stepsPart, sequencesPart, libraryOf}
+use Rattle.image.specs.Library.{Library, Step, Entry, alternativesFrom, stepsFrom, stepsPart, sequencesPart, libraryOf}
 use Rattle.image.specs.Accepted.{All, SequenceWord, Counted}
-use Rattle.image.specs.Tables.{maskOf, masks, placesFrom}
+use Rattle.image.specs.Tables.{StepsAsked, SequencesAsked, maskOf, masks, placesFrom}
 use Rattle.image.specs.declared.answer.Head.{Head}
 use Rattle.image.specs.declared.answer.Checked.the-variants.{Accepted}
 use Rattle.image.proofs.Accepted.{faultless, parts, counted, library-is}
-use Rattle.image.proofs.Lookup.{masks-length, row-at, places-length, Placed, place-at}
+use Rattle.image.proofs.Lookup as lookup
+use Rattle.image.proofs.Lookup.{masks-length, row-at, places-length, place-at}
 use Rattle.image.proofs.Rows.{all-at}
-use Rattle.outcome.specs.Area.{outcomeWord, outcomeRows, outcomes, Blank, TableAsked, FillAsked, libraryIn}
+use Rattle.outcome.specs.Area.{Blank, TableAsked, Prepared, libraryIn}
 use Rattle.outcome.specs.Execution.{noStep, stepOf}
-use Rattle.outcome.specs.Possible.{columnOf, columnPossible, hasRun}
-use Rattle.outcome.specs.Run.{alternativesOf}
-use Rattle.outcome.proofs.Columns.{column-iff}
-use Rattle.outcome.proofs.Fill.{fill-asked}
+use Rattle.outcome.specs.Possible.{hasRun, possibleOutcome}
+use Rattle.outcome.specs.Run.{Item, RunOf, alternativesOf}
+use Rattle.outcome.proofs.Fill.{blank-zeros, fill-asked, prepare-asked}
 use Rattle.outcome.proofs.Outcome.{present≢untouched, absent≢untouched}
-use Rattle.outcome.proofs.Tests.{passes-or-not}
-use Rattle.outcome.specs.Touch.{Mark, present, absent, untouched, Question}
-use Rattle.outcome.specs.Passes.{Pass}
-use Rattle.chain.specs.Scan.{total}
-use Rattle.chain.specs.Ranks.{Look, unranked, touchLook, untouchedLook}
-use Rattle.chain.specs.Answer.{answer, none}
+use Rattle.outcome.specs.Touch.{Mark, present, absent, untouched, Question, untouchedOn, lastSet}
+use Rattle.outcome.specs.Algebra.{sameMark}
+use Rattle.chain.specs.Scan.{every}
+use Rattle.chain.specs.Ranks.{Look, passLook, unranked, entryPasses, hasMark, canStay, canRun, touchLook, untouchedLook}
+use Rattle.chain.specs.Answer.{answer, ranksIn}
 use Rattle.chain.specs.Visits.{Visits, Settled}
-use Rattle.chain.specs.Tables.{possibleIn, lookIn, Readable, Visitable, alternativesAt, visitedRanks}
+use Rattle.chain.specs.Tables.{inRanks, passIn, lookIn, Rankable, Readable, Visitable, Steppable, Ranked, alternativesAt}
 use Rattle.chain.specs.Choice.{Choosable, answerIn}
-use Rattle.chain.specs.Described.{Asks, Described, TablesMade, isFirst, markNumber, sideBy, markBy, questionBy}
+use Rattle.chain.specs.Described.{Asks, Masked, Placed, StepsBy, Described, FindAsked, Made, Unranked, isFirst, markNumber, sideBy, markBy, questionBy}
 use Rattle.chain.specs.declared.entry.Asked.{Asked}
-use Rattle.chain.proofs.Answers.{answer-possible}
-use Rattle.chain.proofs.Visits.{touch-good, settled-touch, settled-untouched}
-use Rattle.chain.proofs.Settling.{pass-visits, pass-settled}
-use Rattle.chain.proofs.Describes.{possible-is, touch-look, quiet-look, touch-answer, quiet-answer}
+use Rattle.chain.proofs.Passes.{quiet-run, any-run}
+use Rattle.chain.proofs.Whether.{Passable, pass-reached, pass-exact}
+use Rattle.chain.proofs.Ranks.{start-unranked}
+use Rattle.chain.proofs.Visits.{settled-good, touch-good, settled-touch, settled-untouched}
+use Rattle.chain.proofs.Settling.{pass-kept, pass-visits, pass-settled}
+use Rattle.chain.proofs.Describes.{described-by, steps-marked, steps-any, pass-is, pass-look, depth-look, touch-look, touch-answer, quiet-answer}
 
 -- past the words of a list there is nothing
 blank-after : (xs rest : List ℕ) (k : ℕ) → Blank rest → length xs ≤ k → getD (xs ++ rest) k 0 ≡ 0
@@ -86,73 +83,6 @@ step-words ss rest blank a =
           )
     ]
 
--- ---- the rows of the outcome table
-
-rows-length : (L : Library) (c n : ℕ) → length (outcomeRows L c n) ≡ 8 * n
-unfolding outcomeRows
-rows-length L c zero = refl
-rows-length L c (suc n) = omega (arith, rows-length L (suc c) n)
-
-first-row : (L : Library) (c n j : ℕ) → j < 8 → getD (outcomeRows L c (suc n)) j 0 ≡ outcomeWord L j c
-unfolding outcomeRows
-first-row L c n zero l = refl
-first-row L c n (suc zero) l = refl
-first-row L c n (suc (suc zero)) l = refl
-first-row L c n (suc (suc (suc zero))) l = refl
-first-row L c n (suc (suc (suc (suc zero)))) l = refl
-first-row L c n (suc (suc (suc (suc (suc zero))))) l = refl
-first-row L c n (suc (suc (suc (suc (suc (suc zero)))))) l = refl
-first-row L c n (suc (suc (suc (suc (suc (suc (suc zero))))))) l = refl
-first-row L c n (suc (suc (suc (suc (suc (suc (suc (suc j)))))))) l = absurd (omega arith)
-
-other-rows : (L : Library) (c n : ℕ) → drop 8 (outcomeRows L c (suc n)) ≡ outcomeRows L (suc c) n
-unfolding outcomeRows
-other-rows L c n = refl
-
-row-word : (L : Library) (c n d j : ℕ) → d < n → j < 8 → getD (outcomeRows L c n) (8 * d + j) 0 ≡ outcomeWord L j (c + d)
-row-word L c zero d j l k = absurd (omega arith)
-row-word L c (suc n) zero j l k =
-    let here : 8 * 0 + j ≡ j = omega arith in
-    ap (λ (i : ℕ). getD (outcomeRows L c (suc n)) i 0) here ∙ first-row L c n j k ∙ ap (outcomeWord L j) (sym (add-zero c))
-row-word L c (suc n) (suc d) j l k =
-    let later : 8 * suc d + j ≡ 8 + (8 * d + j) = omega arith in
-    ap (λ (i : ℕ). getD (outcomeRows L c (suc n)) i 0) later
-    ∙ sym (getD-drop 8 (outcomeRows L c (suc n)) (8 * d + j) 0)
-    ∙ ap (λ (t : List ℕ). getD t (8 * d + j) 0) (other-rows L c n)
-    ∙ row-word L (suc c) n d j (omega arith) k
-    ∙ ap (outcomeWord L j) (suc-add c d ∙ sym (add-suc c d))
-
--- a number past the sequences has no run
-past-none : (L : Library) (j d f : ℕ) → length (L .sequences) ≤ d → columnPossible L j d f ≡ false
-past-none L j d f le =
-    ⊎-elim
-    (λ e.
-    let run = column-iff (columnOf j) L d f .0 e .1 in
-    let none = List·getD-eq-default (L .sequences) [] {n = d} le in
-    absurd (omega (arith, run .listed, ap (λ (alts : Sequence). length alts) none)))
-    (λ e. e)
-    (passes-or-not (columnPossible L j d f))
-
-in-none : (f : ℕ) → inColumn 0 f ≡ false
-unfolding inColumn
-in-none f = rw (bit-none f)
-
-row-bits : (L : Library) (rest : List ℕ) → Blank rest → (d j f : ℕ) → j < 8 → f < L .facts
-    → inColumn (getD (outcomes L ++ rest) (8 * d + j) 0) f ≡ columnPossible L j d f
-unfolding outcomes outcomeWord
-row-bits L rest blank d j f k below =
-    let n = length (L .sequences) in
-    elim (decLt d (length (L .sequences))) [
-      | yes l ↦
-          ap (λ (w : ℕ). inColumn w f)
-          (List·getD-append (outcomeRows L 0 n) rest 0 (8 * d + j) (omega (arith, rows-length L 0 n))
-          ∙ row-word L 0 n d j l k ∙ ap (outcomeWord L j) (zero-add d))
-          ∙ in-column (L .facts) (λ (g : ℕ). columnPossible L j d g) f below
-      | no l ↦
-          ap (λ (w : ℕ). inColumn w f) (blank-after (outcomeRows L 0 n) rest (8 * d + j) blank (omega (arith, rows-length L 0 n)))
-          ∙ in-none f ∙ sym (past-none L j d f (omega arith))
-    ]
-
 -- ---- an accepted image
 
 -- what the makers of the tables ask
@@ -160,143 +90,159 @@ module _ (image : List ℕ) (h : Head) (accepted : checked image ≡ Accepted h)
   pub image-long : 2 ≤ length image
   image-long = faultless image h accepted .low
 
-  pub facts-high : h .facts ≤ 64
-  facts-high = faultless image h accepted .facts-high
-
-  pub tables-asked : (first part area : List ℕ) → first ≡ stepsPart image → part ≡ sequencesPart image → length area ≡ 2048
-      → FillAsked h first part (take (8 * h .sequences) area) × (8 * h .sequences ≤ length area)
-  tables-asked first part area p q long =
-      let asked : TableAsked h image area = record { accepted = accepted; room = omega (arith, faultless image h accepted .sequences-high) } in
-      (fill-asked h image area asked first part p q, asked .room)
-
   pub few-sequences : h .sequences ≤ 256
   few-sequences = faultless image h accepted .sequences-high
 
--- the two parts of the image, and the tables made of it: masks, places, and outcomes where the question asks for a touch
-pub record Made (image : List ℕ) (h : Head) (Q : Question) (first part ms table ps : List ℕ) : Type 0 where
-  pub accepted : checked image ≡ Accepted h
-  pub steps : first ≡ stepsPart image
-  pub sequences : part ≡ sequencesPart image
-  pub past-masks : List ℕ
-  pub blank-masks : Blank past-masks
-  pub masked : ms ≡ masks (stepsFrom first) ++ past-masks
-  pub past-table : List ℕ
-  pub blank-table : Blank past-table
-  pub filled : Q .mark ≢ untouched → table ≡ outcomes (libraryIn h first part) ++ past-table
-  pub past-places : List ℕ
-  pub blank-places : Blank past-places
-  pub placed : ps ≡ placesFrom 0 part ++ past-places
-  pub wide : length ms ≡ 3072
-  pub tall : length table ≡ 2048
-  pub narrow : length ps ≡ 256
+  pub few-steps : h .steps ≤ 1024
+  few-steps = faultless image h accepted .steps-high
+
+  pub few-words : (q : Asked) → q .none ≡ h .sequences + 2 → q .none + h .steps ≤ 1282
+  few-words q e = omega (arith, few-sequences, few-steps)
+
+  -- the areas for the masks and the places are what their makers ask
+  pub tables-asked : (first part ms : List ℕ) → first ≡ stepsPart image → part ≡ sequencesPart image → Blank ms → 3 * h .steps ≤ length ms
+      → StepsAsked h first ms × SequencesAsked h part (replicate 256 0) × (h .sequences ≤ 256)
+  tables-asked first part ms p q blank wide =
+      let area = replicate {A = ℕ} 2048 0 in
+      let zeros = replicate {A = ℕ} 256 0 in
+      let asked : TableAsked h image area = record { accepted = accepted; room = omega (arith, few-sequences, length-replicate {A = ℕ} 2048 0) } in
+      prepare-asked h first part (take (8 * h .sequences) area) ms zeros zeros (fill-asked h image area asked first part p q)
+      (record { blank = blank; wide = wide; narrow = refl; long = refl })
+
+-- the same question for "untouched", and where only a rank counts
+abbrev pub quietly : Asked → Asked
+quietly q = record { first = q .first; mark = 2; fact = q .fact; none = q .none }
+
+abbrev pub whether : Asked → Asked
+whether q = record { first = q .first; mark = 3; fact = q .fact; none = q .none }
+
+touch-asked : (k : ℕ) → k ≤ 2 → k ≢ 2 → markBy k ≢ untouched
+touch-asked zero l t = present≢untouched
+touch-asked (suc zero) l t = absent≢untouched
+touch-asked (suc (suc zero)) l t = absurd (t refl)
+touch-asked (suc (suc (suc k))) l t = absurd (omega arith)
 
 -- from blank areas
-pub made-of : (image : List ℕ) (h : Head) (q : Asked) (first part ms table ps zeros₁ zeros₂ zeros₃ : List ℕ) → checked image ≡ Accepted h
-    → first ≡ stepsPart image → part ≡ sequencesPart image → Blank zeros₁ → Blank zeros₂ → Blank zeros₃
-    → TablesMade h q first part zeros₁ zeros₃ zeros₂ ms ps table → length ms ≡ 3072 → length table ≡ 2048 → length ps ≡ 256
-    → Made image h (questionBy q) first part ms table ps
-made-of image h q first part ms table ps zeros₁ zeros₂ zeros₃ accepted steps sequences b₁ b₂ b₃ made wide tall narrow =
+pub made-of : (image : List ℕ) (h : Head) (first part ms₀ ms ps : List ℕ) → first ≡ stepsPart image → part ≡ sequencesPart image → Blank ms₀
+    → 3 * h .steps ≤ length ms₀ → Prepared h first part ms₀ (replicate 256 0) ms ps → length ms ≡ length ms₀ → length ps ≡ 256 → Made image h ms ps
+made-of image h first part ms₀ ms ps steps sequences blank wide made same narrow =
     record {
-      accepted = accepted;
-      steps = steps;
-      sequences = sequences;
-      past-masks = drop (3 * h .steps) zeros₁;
-      blank-masks = blank-drop (3 * h .steps) zeros₁ b₁;
-      masked = made .prepared .masked;
-      past-table = drop (8 * h .sequences) zeros₂;
-      blank-table = blank-drop (8 * h .sequences) zeros₂ b₂;
-      filled = made .filled;
-      past-places = drop (h .sequences) zeros₃;
-      blank-places = blank-drop (h .sequences) zeros₃ b₃;
-      placed = made .prepared .placed;
-      wide = wide;
-      tall = tall;
+      past-masks = drop (3 * h .steps) ms₀;
+      blank-masks = blank-drop (3 * h .steps) ms₀ blank;
+      masked = made .masked ∙ ap (λ (x : List ℕ). masks (stepsFrom x) ++ drop (3 * h .steps) ms₀) steps;
+      past-places = drop (h .sequences) (replicate 256 0);
+      blank-places = blank-drop (h .sequences) (replicate 256 0) (blank-zeros 256);
+      placed = made .placed ∙ ap (λ (x : List ℕ). placesFrom 0 x ++ drop (h .sequences) (replicate 256 0)) sequences;
+      wide = omega arith;
       narrow = narrow;
     }
 
-module _ (image : List ℕ) (h : Head) (Q : Question) (first part ms table ps : List ℕ) (made : Made image h Q first part ms table ps) where
+-- a part of an area whose words are all `none`
+pub prefix-long : (n m x : ℕ) → n ≤ m → n ≡ length (take n (replicate m x))
+prefix-long n m x l = sym (length-take-le n (replicate m x) (omega (arith, length-replicate m x)))
+
+pub prefix-unranked : (h : Head) (q : Asked) (m : ℕ) → q .none + h .steps ≤ m → Unranked h q (take (q .none + h .steps) (replicate m (q .none)))
+prefix-unranked h q m l =
+    record {
+      long = sym (prefix-long (q .none + h .steps) m (q .none) l);
+      empty = λ k.
+          elim (decLt k (q .none + h .steps)) [
+            | yes below ↦ getD-take (q .none + h .steps) (replicate m (q .none)) k (q .none) below ∙ start-unranked [] (λ T es. 0) (q .none) m k
+            | no above ↦
+                List·getD-eq-default (take (q .none + h .steps) (replicate m (q .none))) (q .none) {n = k}
+                (omega (arith, prefix-long (q .none + h .steps) m (q .none) l))
+          ];
+    }
+
+module _ (image : List ℕ) (h : Head) (accepted : checked image ≡ Accepted h) (ms ps : List ℕ) (made : Made image h ms ps) (part : List ℕ)
+    (sequences : part ≡ sequencesPart image) where
   abbrev L : Library
   L = libraryOf image
 
-  library-made : L ≡ libraryIn h first part
-  library-made =
-      library-is image h (made .accepted)
-      ∙ ap₂ (λ (x y : List ℕ). record { facts = h .facts; steps = stepsFrom x; sequences = sequencesFrom y }) (sym (made .steps)) (sym (made .sequences))
+  library-made : L ≡ libraryIn h (stepsPart image) part
+  library-made = library-is image h accepted ∙ ap (libraryIn h (stepsPart image)) (sym sequences)
+
+  places-are : ps ≡ placesFrom 0 part ++ made .past-places
+  places-are = made .placed ∙ ap (λ (x : List ℕ). placesFrom 0 x ++ made .past-places) (sym sequences)
 
   opened-is : opened 6 part ≡ h .sequences
-  opened-is = ap (opened 6) (made .sequences) ∙ parts image h (made .accepted) .sequences-opened
+  opened-is = ap (opened 6) sequences ∙ parts image h accepted .sequences-opened
 
-  place-is : (c : ℕ) → c < h .sequences → Placed part c (getD ps c 0)
+  place-is : (c : ℕ) → c < h .sequences → lookup.Placed part c (getD ps c 0)
   place-is c l =
       let count = opened-is in
       let word : getD ps c 0 ≡ getD (placesFrom 0 part) c 0 =
-      ap (λ (x : List ℕ). getD x c 0) (made .placed)
+      ap (λ (x : List ℕ). getD x c 0) places-are
       ∙ List·getD-append (placesFrom 0 part) (made .past-places) 0 c (omega (arith, places-length 0 part)) in
-      subst (Placed part c) (sym word) (place-at part c (omega arith))
+      subst (lookup.Placed part c) (sym word) (place-at part c (omega arith))
 
-  pub tables-describe : Described L Q ms table part ps
-  tables-describe =
-      let same = library-made in
-      let has = counted image h (made .accepted) in
-      let steps : (a : ℕ) → getD (stepsFrom first) a noStep ≡ stepOf L a = λ a. ap (λ (M : Library). stepOf M a) (sym same) in
-      let words = step-words (stepsFrom first) (made .past-masks) (made .blank-masks) in
+  masks-made : Masked L ms
+  masks-made =
+      let has = counted image h accepted in
+      let steps : (a : ℕ) → getD (stepsFrom (stepsPart image)) a noStep ≡ stepOf L a = λ a. ap (λ (M : Library). stepOf M a) (sym library-made) in
+      let words = step-words (stepsFrom (stepsPart image)) (made .past-masks) (made .blank-masks) in
       record {
-        narrow = omega (arith, has .facts, faultless image h (made .accepted) .facts-high);
+        narrow = omega (arith, has .facts, faultless image h accepted .facts-high);
         needs = λ a. ap (λ (x : List ℕ). getD x (3 * a) 0) (made .masked) ∙ words a .0 ∙ ap (λ (s : Step). maskOf (s .needs)) (steps a);
         sets = λ a. ap (λ (x : List ℕ). getD x (3 * a + 1) 0) (made .masked) ∙ words a .1 ∙ ap (λ (s : Step). maskOf (s .sets)) (steps a);
         clears = λ a. ap (λ (x : List ℕ). getD x (3 * a + 2) 0) (made .masked) ∙ words a .2 ∙ ap (λ (s : Step). maskOf (s .clears)) (steps a);
-        rows = λ touch d j f k below.
-            ap (λ (x : List ℕ). inColumn (getD x (8 * d + j) 0) f) (made .filled touch ∙ ap (λ (M : Library). outcomes M ++ made .past-table) (sym same))
-            ∙ row-bits L (made .past-table) (made .blank-table) d j f k below;
-        placed = λ c l.
-            ap (λ (n : ℕ). alternativesFrom (drop n part)) (add-one (getD ps c 0))
-            ∙ place-is c (omega (arith, has .sequences)) .reads ∙ ap (λ (M : Library). alternativesOf (M .sequences) c) (sym same);
       }
+
+  places-made : Placed L part ps
+  places-made c l =
+      ap (λ (n : ℕ). alternativesFrom (drop n part)) (add-one (getD ps c 0))
+      ∙ place-is c (omega (arith, counted image h accepted .sequences)) .reads ∙ ap (λ (M : Library). alternativesOf (M .sequences) c) (sym library-made)
 
   -- ---- the areas are what the readers ask
 
-  module _ (q : Asked) (ranks : List ℕ) (fact : q .fact < h .facts) (ranked : length ranks ≡ 256) where
-    tables-readable : Readable q ms table ranks part
-    tables-readable =
-        let f = faultless image h (made .accepted) in
+  module _ (q : Asked) (fact : q .fact < h .facts) (no-rank : q .none ≡ h .sequences + 2) where
+    tables-rankable : (T : List ℕ) → length T ≡ q .none + h .steps → Rankable (q .none) T part
+    tables-rankable T long =
         record {
-          fact = omega (arith, f .facts-high);
           within = λ i l.
-              let w = all-at (SequenceWord h) part (subst (All (SequenceWord h)) (sym (made .sequences)) (parts image h (made .accepted) .sequences)) 0 i l in
-              ((λ k. omega (arith, w .step k, f .steps-high, made .wide)), λ k. (omega (arith, w .sequence k, f .sequences-high, made .tall), omega (arith, w .sequence k, f .sequences-high)));
+              let w = all-at (SequenceWord h) part (subst (All (SequenceWord h)) (sym sequences) (parts image h accepted .sequences)) 0 i l in
+              record { step = λ k. omega (arith, w .step k); sequence = λ k. (omega (arith, w .sequence k), omega (arith, w .sequence k)) };
         }
 
-    pub tables-visitable : Visitable q (h .sequences) ms table ranks part ps
-    tables-visitable =
-        let f = faultless image h (made .accepted) in
+    pub tables-steppable : (T : List ℕ) → length T ≡ q .none + h .steps → Steppable q ms T
+    tables-steppable T long =
         record {
-          readable = tables-readable;
-          ranked = omega (arith, f .sequences-high);
-          placed = omega (arith, f .sequences-high, made .narrow);
-          within = λ c l. place-is c l .within;
+          fact = omega (arith, faultless image h accepted .facts-high);
+          sequences = omega arith;
+          masked = omega (arith, made .wide);
         }
 
-    pub tables-choosable : 0 < h .sequences → Choosable q ms table ranks part ps
-    tables-choosable some =
-        let count = opened-is in
-        record {
-          readable = tables-readable;
-          within = λ c.
-              elim (decLt c (h .sequences)) [
-                | yes l ↦ place-is c l .within
-                | no l ↦
-                    let first = place-is 0 some .within in
-                    omega (arith, ap (λ (x : List ℕ). getD x c 0) (made .placed), blank-after (placesFrom 0 part) (made .past-places) c (made .blank-places) (omega (arith, places-length 0 part)))
-              ];
-          short = omega (arith, ap length (made .sequences), parts image h (made .accepted) .sequences-short);
-        }
+    module _ (ahead behind ranks : List ℕ) (a-long : length ahead ≡ q .none + h .steps) (b-long : length behind ≡ q .none + h .steps)
+        (r-long : length ranks ≡ q .none + h .steps) where
+      tables-readable : Readable (q .none) ahead behind ranks part
+      tables-readable =
+          record { by-ahead = tables-rankable ahead a-long; by-behind = tables-rankable behind b-long; by-ranks = tables-rankable ranks r-long }
+
+      pub tables-visitable : Visitable q (h .sequences) ahead behind ranks part ps
+      tables-visitable =
+          record {
+            readable = tables-readable;
+            ranked = omega arith;
+            placed = omega (arith, faultless image h accepted .sequences-high, made .narrow);
+            within = λ c l. place-is c l .within;
+          }
+
+      pub tables-choosable : 0 < h .sequences → Choosable q ahead behind ranks part ps
+      tables-choosable some =
+          let count = opened-is in
+          record {
+            readable = tables-readable;
+            within = λ c.
+                elim (decLt c (h .sequences)) [
+                  | yes l ↦ place-is c l .within
+                  | no l ↦
+                      let first = place-is 0 some .within in
+                      omega (arith, ap (λ (x : List ℕ). getD x c 0) places-are, blank-after (placesFrom 0 part) (made .past-places) c (made .blank-places) (omega (arith, places-length 0 part)))
+                ];
+            short = omega (arith, ap length sequences, parts image h accepted .sequences-short);
+          }
 
   -- ---- the answer
-
-  touch-or-not : (m : Mark) → (m ≢ untouched) ⊎ (m ≡ untouched)
-  touch-or-not present = inl present≢untouched
-  touch-or-not absent = inl absent≢untouched
-  touch-or-not untouched = inr refl
 
   -- the question that the code is asked
   mark-number : (m : ℕ) → m ≤ 2 → m ≡ markNumber (markBy m)
@@ -311,7 +257,7 @@ module _ (image : List ℕ) (h : Head) (Q : Question) (first part ms table ps : 
 
   pub asks-by : (q : Asked) → q .mark ≤ 2 → q .fact < h .facts → q .none ≡ h .sequences + 2 → Asks L q (questionBy q)
   asks-by q low fact no-rank =
-      let has = counted image h (made .accepted) in
+      let has = counted image h accepted in
       record {
         first = first-is (q .first);
         mark = mark-number (q .mark) low;
@@ -319,51 +265,156 @@ module _ (image : List ℕ) (h : Head) (Q : Question) (first part ms table ps : 
         fact = omega (arith, has .facts);
       }
 
-  or-false : (a b : Bool) → (a || b) ≡ false → (a ≡ false) × (b ≡ false)
-  or-false false b e = (refl, e)
-  or-false true b e = absurd (false≢true (sym e))
+  -- a table from one without a rank, whose steps are ranked by the question p and whose sequences by q
+  module _ (any : Bool) (p q : Asked) (p-none : p .none ≡ unranked L) (q-none : q .none ≡ unranked L) (ahead behind before ranks : List ℕ)
+      (yet : Unranked h p before) (ranked : Ranked any p q (h .sequences) ms ahead behind part ps before ranks) where
+    abbrev m : ℕ
+    m = unranked L
 
-  -- a question that the outcome table rules out asks for a touch, and has no chain
-  pub none-found : (q : Asked) → Asks L q Q → (c : ℕ) → (eqb (q .mark) 2 || possibleIn q table c (q .mark)) ≡ false → answer L Q c (q .fact) ≡ none
-  none-found q asks c e =
-      let tests = or-false (eqb (q .mark) 2) (possibleIn q table c (q .mark)) e in
-      let touch : Q .mark ≢ untouched =
-      λ quiet. false≢true (sym (tests .0) ∙ ap (λ (n : ℕ). eqb n 2) (asks .mark ∙ ap markNumber quiet)) in
-      answer-possible L Q c (q .fact) .1
-      (sym (possible-is L q Q ms table part ps asks tables-describe touch c (Q .mark)) ∙ ap (possibleIn q table c) (sym (asks .mark)) ∙ tests .1)
+    has : Counted L h
+    has = counted image h accepted
 
-  pub answer-found : (q : Asked) → Asks L q Q → (n m : ℕ) (before ranks : List ℕ) → n ≡ h .sequences → h .sequences ≤ m
-      → before ≡ replicate m (q .none) → Pass (visitedRanks q ms table part ps) total n before ranks false → (c : ℕ) → c < h .sequences
-      → answerIn q ms table ranks part ps c ≡ answer L Q c (q .fact)
-  answer-found q asks n m before ranks count room start pass c lt =
-      ⊎-elim
-      (λ touch.
-      let look = touch-look L q Q ms table part ps asks tables-describe touch in
-      let good = touch-good L Q (q .fact) m ranks long touch (visits (touchLook L Q (q .fact)) look) (settled (touchLook L Q (q .fact)) look) in
-      touch-answer L q Q ms table part ps asks tables-describe ranks touch (good .reached) (good .closed) c
-      ∙ settled-touch L Q (q .fact) m ranks long touch good c)
-      (λ quiet.
-      let look = quiet-look L q Q ms table part ps asks tables-describe quiet in
-      quiet-answer L q Q ms table part ps asks tables-describe ranks quiet c (omega (arith, has .sequences))
-      ∙ settled-untouched L Q (q .fact) m ranks long quiet (visits (untouchedLook L Q (q .fact)) look) (settled (untouchedLook L Q (q .fact)) look) c)
-      (touch-or-not (Q .mark))
-    where
-      has : Counted L h
-      has = counted image h (made .accepted)
+    -- the ranks of the sequences from none on
+    start-none : take m (ranked .start) ≡ replicate m m
+    start-none =
+        ext-getD m (take m (ranked .start)) (replicate m m)
+        (length-take-le m (ranked .start) (omega (arith, ranked .steps .long, yet .long)) ∙ sym (length-replicate m m))
+        (λ i l.
+        let below : i < m = omega (arith, length-take-le m (ranked .start) (omega (arith, ranked .steps .long, yet .long))) in
+        getD-take m (ranked .start) i m below
+        ∙ ap (getD (ranked .start) i) (sym p-none) ∙ ranked .steps .stays i (omega arith) ∙ yet .empty i ∙ p-none
+        ∙ sym (start-unranked (L .sequences) (λ T es. 0) m m i))
 
-      long : length (L .sequences) ≤ m
-      long = omega (arith, has .sequences)
+    -- the ranks of the steps
+    steps-size : length before ≡ p .none + length (L .steps)
+    steps-size = omega (arith, has .steps, yet .long)
 
-      all : n ≡ length (L .sequences)
-      all = count ∙ sym (has .sequences)
+    steps-stay : (past : ℕ) (test : Item → Bool) (T : List ℕ) → drop m T ≡ drop m (ranked .start) → StepsBy (p .none) past test (ranked .start) → StepsBy m past test T
+    steps-stay past test T same steps a =
+        ap (λ (l : List ℕ). getD l a past) (same ∙ ap (λ (n : ℕ). drop n (ranked .start)) (sym p-none)) ∙ steps a ∙ ap (cond (test a) 0) p-none
 
-      reads : (d : ℕ) → d < n → alternativesAt part ps d ≡ alternativesOf (L .sequences) d
-      reads d l = tables-describe .placed d (omega (arith, has .sequences))
+    -- by a look that the tables have, where the ranks of the steps are those that are written
+    module _ (look : Look) (looks : (T : List ℕ) → drop m T ≡ drop m (ranked .start) → lookIn q ahead behind T ≡ look (inRanks m T)) where
+      reads : (d : ℕ) → d < h .sequences → alternativesAt part ps d ≡ alternativesOf (L .sequences) d
+      reads d l = places-made d (omega (arith, has .sequences))
 
-      visits : (look : Look) → lookIn q ms table ≡ look → Visits (L .sequences) look (unranked L) (replicate m (unranked L)) ranks
-      visits look same =
-          subst (λ (b : List ℕ). Visits (L .sequences) look (unranked L) b ranks) (start ∙ ap (replicate m) (asks .none))
-          (pass-visits q ms table part ps (L .sequences) look (unranked L) n all (asks .none) same reads pass)
+      made-kept : drop m ranks ≡ drop m (ranked .start)
+      made-kept =
+          pass-kept q ahead behind part ps (drop m (ranked .start)) (L .sequences) look m (h .sequences) (sym (has .sequences)) (omega (arith, has .sequences)) q-none looks
+          reads refl (ranked .settled)
 
-      settled : (look : Look) → lookIn q ms table ≡ look → Settled (L .sequences) look (unranked L) ranks
-      settled look same = pass-settled q ms table part ps (L .sequences) look (unranked L) n all (asks .none) same reads pass
+      made-visits : Visits (L .sequences) look m (replicate m m) (take m ranks)
+      made-visits =
+          subst (λ (b : List ℕ). Visits (L .sequences) look m b (take m ranks)) start-none
+          (pass-visits q ahead behind part ps (drop m (ranked .start)) (L .sequences) look m (h .sequences) (sym (has .sequences)) (omega (arith, has .sequences)) q-none looks
+          reads refl (ranked .settled))
+
+      made-settled : Settled (L .sequences) look m (take m ranks)
+      made-settled =
+          pass-settled q ahead behind part ps (drop m (ranked .start)) (L .sequences) look m (h .sequences) (sym (has .sequences)) (omega (arith, has .sequences)) q-none looks
+          reads refl (ranked .settled)
+
+    -- where it is only asked whether all entries pass: an entry has a rank exactly where it passes, a sequence where it has a run whose steps do
+    module _ (three : q .mark ≡ 3) (test : Item → Bool) (steps : StepsBy (p .none) 0 test (ranked .start)) where
+      abbrev look : Look
+      look = passLook m test
+
+      looks : (T : List ℕ) → drop m T ≡ drop m (ranked .start) → lookIn q ahead behind T ≡ look (inRanks m T)
+      looks T same = pass-look m (omega arith) q ahead behind q-none three test T (steps-stay 0 test T same steps)
+
+      entries-pass : (run : ℕ → Bool) → ((d : ℕ) → (run d ≡ true) ↔ ((w : List Item) × RunOf (L .sequences) d w × (every test w ≡ true)))
+          → (e : Entry) → passIn m ranks e ≡ entryPasses test run e
+      entries-pass run right =
+          let good =
+          settled-good L lastSet 0 m (take m ranks) (omega arith) (Passable (L .sequences) m test) look (pass-reached (L .sequences) m test)
+          (made-visits look looks) (made-settled look looks) in
+          pass-is m (omega arith) test run ranks (steps-stay 0 test ranks (made-kept look looks) steps)
+          (λ d. pass-exact (L .sequences) m test (ranksIn L (take m ranks)) (good .closed) (omega arith) (good .reached) d (run d) (right d))
+
+  -- ---- the answer by the three tables
+
+  module _ (q : Asked) (c : ℕ) (asked : FindAsked h image q c) where
+    abbrev Q : Question
+    Q = questionBy q
+
+    no-rank : q .none ≡ unranked L
+    no-rank = omega (arith, asked .none, counted image h accepted .sequences)
+
+    quiet-asks : Asks L (quietly q) (questionBy (quietly q))
+    quiet-asks = asks-by (quietly q) (omega arith) (asked .fact) (asked .none)
+
+    again : {T : List ℕ} → Unranked h q T → Unranked h (quietly q) T
+    again u = record { long = u .long; empty = u .empty }
+
+    quiet-steps : (r : Asked) (ahead behind before ranks : List ℕ) → Unranked h q before
+        → (ranked : Ranked false (quietly q) r (h .sequences) ms ahead behind part ps before ranks)
+        → StepsBy (q .none) 0 (hasMark L (questionBy (quietly q)) (q .fact)) (ranked .start)
+    quiet-steps r ahead behind before ranks yet ranked =
+        steps-marked L (quietly q) (questionBy (quietly q)) ms quiet-asks masks-made before (ranked .start) (omega (arith, counted image h accepted .steps, yet .long)) (ranked .steps) 0 refl
+
+    -- a question that asks for no touch
+    pub quiet-done : (links₀ stays₀ stays : List ℕ) → Unranked h q stays₀
+        → Ranked false (quietly q) (quietly q) (h .sequences) ms links₀ links₀ part ps stays₀ stays → q .mark ≡ 2
+        → answerIn (quietly q) links₀ links₀ stays part ps c ≡ answer L Q c (q .fact)
+    quiet-done links₀ stays₀ stays yet ranked two =
+        let R = questionBy (quietly q) in
+        let test = hasMark L R (q .fact) in
+        let look = untouchedLook L R (q .fact) in
+        let steps = quiet-steps (quietly q) links₀ links₀ stays₀ stays yet ranked in
+        let looks : (T : List ℕ) → drop (unranked L) T ≡ drop (unranked L) (ranked .start) → lookIn (quietly q) links₀ links₀ T ≡ look (inRanks (unranked L) T) =
+        λ T same. depth-look L (quietly q) R quiet-asks links₀ links₀ refl test T (steps-stay false (quietly q) (quietly q) no-rank no-rank links₀ links₀ stays₀ stays (again yet) ranked 0 test T same steps) in
+        let kept = made-kept false (quietly q) (quietly q) no-rank no-rank links₀ links₀ stays₀ stays (again yet) ranked look looks in
+        quiet-answer L (quietly q) R quiet-asks links₀ links₀ part ps places-made stays refl
+        (steps-stay false (quietly q) (quietly q) no-rank no-rank links₀ links₀ stays₀ stays (again yet) ranked 0 test stays kept steps) c (omega (arith, asked .sequence, counted image h accepted .sequences))
+        ∙ settled-untouched L R (q .fact) (unranked L) (take (unranked L) stays) (omega arith) refl
+        (made-visits false (quietly q) (quietly q) no-rank no-rank links₀ links₀ stays₀ stays (again yet) ranked look looks)
+        (made-settled false (quietly q) (quietly q) no-rank no-rank links₀ links₀ stays₀ stays (again yet) ranked look looks) c
+        ∙ ap (λ (k : ℕ). answer L (record { side = sideBy (q .first); mark = markBy k }) c (q .fact)) (sym two)
+
+    -- the entries that can stay untouched, and those that have a run
+    stays-done : (links₀ stays₀ stays : List ℕ) → Unranked h q stays₀ → Ranked false (quietly q) (whether q) (h .sequences) ms links₀ links₀ part ps stays₀ stays
+        → (e : Entry) → passIn (unranked L) stays e ≡ canStay L Q (q .fact) e
+    stays-done links₀ stays₀ stays yet ranked =
+        entries-pass false (quietly q) (whether q) no-rank no-rank links₀ links₀ stays₀ stays (again yet) ranked refl (hasMark L (questionBy (quietly q)) (q .fact))
+        (quiet-steps (whether q) links₀ links₀ stays₀ stays yet ranked) (λ d. possibleOutcome L (untouchedOn Q) d (q .fact)) (quiet-run L Q (q .fact))
+
+    runs-done : (links₀ runs₀ runs : List ℕ) → Unranked h q runs₀ → Ranked true (quietly q) (whether q) (h .sequences) ms links₀ links₀ part ps runs₀ runs
+        → (e : Entry) → passIn (unranked L) runs e ≡ canRun L Q (q .fact) e
+    runs-done links₀ runs₀ runs yet ranked =
+        entries-pass true (quietly q) (whether q) no-rank no-rank links₀ links₀ runs₀ runs (again yet) ranked refl (λ (a : Item). true)
+        (steps-any L (quietly q) (questionBy (quietly q)) ms quiet-asks masks-made runs₀ (ranked .start) (omega (arith, counted image h accepted .steps, yet .long)) (ranked .steps))
+        (λ d. hasRun L d) (any-run L)
+
+    -- a question that asks for a touch
+    pub link-done : (links₀ stays₀ stays : List ℕ) → Unranked h q stays₀
+        → Ranked false (quietly q) (whether q) (h .sequences) ms links₀ links₀ part ps stays₀ stays → q .mark ≢ 2 → (runs₀ runs : List ℕ) → Unranked h q runs₀
+        → Ranked true (quietly q) (whether q) (h .sequences) ms links₀ links₀ part ps runs₀ runs → (b : Bool) → q .first ≡ b → (links : List ℕ)
+        → Unranked h q links₀ → Ranked false q q (h .sequences) ms (cond b stays runs) (cond b runs stays) part ps links₀ links
+        → answerIn q (cond b stays runs) (cond b runs stays) links part ps c ≡ answer L Q c (q .fact)
+    link-done links₀ stays₀ stays stays-yet quiet two runs₀ runs runs-yet any b side links yet ranked =
+        let asks = asks-by q (asked .mark) (asked .fact) (asked .none) in
+        let touch = touch-asked (q .mark) (asked .mark) two in
+        let ahead = cond b stays runs in
+        let behind = cond b runs stays in
+        let described =
+        described-by L Q (q .fact) stays runs (stays-done links₀ stays₀ stays stays-yet quiet) (runs-done links₀ runs₀ runs runs-yet any) b (ap sideBy side) in
+        let test = hasMark L Q (q .fact) in
+        let look = touchLook L Q (q .fact) in
+        let steps : StepsBy (q .none) (unranked L) test (ranked .start) =
+        subst (λ (n : ℕ). StepsBy (q .none) n test (ranked .start)) no-rank
+        (steps-marked L q Q ms asks masks-made links₀ (ranked .start) (omega (arith, counted image h accepted .steps, yet .long)) (ranked .steps) (q .none) (past (Q .mark) touch)) in
+        let looks : (T : List ℕ) → drop (unranked L) T ≡ drop (unranked L) (ranked .start) → lookIn q ahead behind T ≡ look (inRanks (unranked L) T) =
+        λ T same. touch-look L q Q asks ahead behind touch described T (steps-stay false q q no-rank no-rank ahead behind links₀ links yet ranked (unranked L) test T same steps) in
+        let kept = made-kept false q q no-rank no-rank ahead behind links₀ links yet ranked look looks in
+        let good =
+        touch-good L Q (q .fact) (unranked L) (take (unranked L) links) (omega arith) touch
+        (made-visits false q q no-rank no-rank ahead behind links₀ links yet ranked look looks)
+        (made-settled false q q no-rank no-rank ahead behind links₀ links yet ranked look looks) in
+        touch-answer L q Q asks ahead behind part ps places-made links touch described
+        (steps-stay false q q no-rank no-rank ahead behind links₀ links yet ranked (unranked L) test links kept steps) (good .reached) (good .closed) c (omega (arith, asked .sequence, counted image h accepted .sequences))
+        ∙ settled-touch L Q (q .fact) (unranked L) (take (unranked L) links) (omega arith) touch good c
+      where
+        past : (k : Mark) → k ≢ untouched → q .none ≡ cond (sameMark untouched k) 0 (q .none)
+        past present t = refl
+        past absent t = refl
+        past untouched t = absurd (t refl)

@@ -2,6 +2,7 @@ pub mod Scan
 pub mod Ranks
 pub mod Depth
 pub mod Passes
+pub mod Whether
 pub mod Stands
 pub mod Links
 pub mod Answers
@@ -14,6 +15,7 @@ pub mod Walk
 pub mod Folds
 pub mod Looks
 pub mod Choices
+pub mod Slots
 pub mod Settling
 pub mod Writing
 pub mod Describes

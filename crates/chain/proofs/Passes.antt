@@ -42,9 +42,8 @@ passes-untouched s t w = (
 )
 
 -- Entries pass exactly when they give a list all of whose items pass, where a sequence passes if it has such a run.
-module _ (S : List Sequence) (test : Item → Bool) (run : ℕ → Bool)
-    (right : (d : ℕ) → (run d ≡ true) ↔ ((w : List Item) × RunOf S d w × (every test w ≡ true))) where
-  passes-given : (es : List Entry) → every (entryPasses test run) es ≡ true → (w : List Item) × Gives S es w × (every test w ≡ true)
+module _ (S : List Sequence) (test : Item → Bool) (run : ℕ → Bool) (sound : (d : ℕ) → run d ≡ true → (w : List Item) × RunOf S d w × (every test w ≡ true)) where
+  pub passes-given : (es : List Entry) → every (entryPasses test run) es ≡ true → (w : List Item) × Gives S es w × (every test w ≡ true)
   unfolding every
   passes-given [] h = ([], nothing, refl)
   passes-given (step a ∷ es) h =
@@ -54,12 +53,14 @@ module _ (S : List Sequence) (test : Item → Bool) (run : ℕ → Bool)
   passes-given (call d ∷ es) h =
       let p = and-parts (run d) (every (entryPasses test run) es) h in
       let r = passes-given es (p .1) in
-      let o = right d .0 (p .0) in (
+      let o = sound d (p .0) in (
         o .0 ++ r .0,
         by-call (o .1 .alternative) (o .1 .listed) (o .1 .given) (r .1) refl,
         passes-append test (o .0) (r .0) (o .2) (r .2),
       )
 
+module _ (S : List Sequence) (test : Item → Bool) (run : ℕ → Bool)
+    (right : (d : ℕ) → (run d ≡ true) ↔ ((w : List Item) × RunOf S d w × (every test w ≡ true))) where
   given-passes : {es : List Entry} {w : List Item} → Gives S es w → every test w ≡ true → every (entryPasses test run) es ≡ true
   unfolding every
   given-passes nothing h = refl
@@ -72,9 +73,24 @@ module _ (S : List Sequence) (test : Item → Bool) (run : ℕ → Bool)
       (given-passes g′ (p .1))
 
   pub passes-iff : (es : List Entry) → (every (entryPasses test run) es ≡ true) ↔ ((w : List Item) × Gives S es w × (every test w ≡ true))
-  passes-iff es = (passes-given es, λ r. given-passes (r .1) (r .2))
+  passes-iff es = (passes-given S test run (λ d. right d .0) es, λ r. given-passes (r .1) (r .2))
+
+-- a sequence has a run exactly where it has one whose items pass a test that all do
+pub any-run : (L : Library) (d : ℕ) → (hasRun L d ≡ true) ↔ ((w : List Item) × RunOf (L .sequences) d w × (every (λ (a : Item). true) w ≡ true))
+any-run L d = (
+  (λ h. let r = hasRun-iff L d .0 h in (r .0, r .1, every-true (r .0))),
+  λ r. hasRun-iff L d .1 (r .0, r .1),
+)
 
 module _ (L : Library) (q : Question) (f : ℕ) where
+  -- and can stay untouched exactly where it has one whose items all leave the fact untouched
+  pub quiet-run : (d : ℕ) → (possibleOutcome L (untouchedOn q) d f ≡ true)
+      ↔ ((w : List Item) × RunOf (L .sequences) d w × (every (λ a. sameMark (itemTouch L (q .side) f a) untouched) w ≡ true))
+  quiet-run d = (
+    (λ h. let r = question-iff L (untouchedOn q) d f .0 h in (r .0, r .1, passes-untouched (q .side) (itemTouch L (q .side) f) (r .0) .1 (r .2))),
+    λ r. question-iff L (untouchedOn q) d f .1 (r .0, r .1, passes-untouched (q .side) (itemTouch L (q .side) f) (r .0) .0 (r .2)),
+  )
+
   -- "can stay untouched"
   pub canStay-iff : (es : List Entry) → (every (canStay L q f) es ≡ true) ↔ ((w : List Item) × Gives (L .sequences) es w × HasOutcome L (untouchedOn q) f w)
   canStay-iff es = (
@@ -85,15 +101,8 @@ module _ (L : Library) (q : Question) (f : ℕ) where
       t : Item → Mark
       t a = itemTouch L (q .side) f a
 
-      right : (d : ℕ) → (possibleOutcome L (untouchedOn q) d f ≡ true)
-          ↔ ((w : List Item) × RunOf (L .sequences) d w × (every (λ a. sameMark (t a) untouched) w ≡ true))
-      right d = (
-        (λ h. let r = question-iff L (untouchedOn q) d f .0 h in (r .0, r .1, passes-untouched (q .side) t (r .0) .1 (r .2))),
-        λ r. question-iff L (untouchedOn q) d f .1 (r .0, r .1, passes-untouched (q .side) t (r .0) .0 (r .2)),
-      )
-
       each : (every (canStay L q f) es ≡ true) ↔ ((w : List Item) × Gives (L .sequences) es w × (every (λ a. sameMark (t a) untouched) w ≡ true))
-      each = passes-iff (L .sequences) (λ a. sameMark (t a) untouched) (λ d. possibleOutcome L (untouchedOn q) d f) right es
+      each = passes-iff (L .sequences) (λ a. sameMark (t a) untouched) (λ d. possibleOutcome L (untouchedOn q) d f) quiet-run es
 
   -- "has a run"
   pub canRun-iff : (es : List Entry) → (every (canRun L q f) es ≡ true) ↔ ((w : List Item) × Gives (L .sequences) es w)
@@ -102,14 +111,8 @@ module _ (L : Library) (q : Question) (f : ℕ) where
     λ r. each .1 (r .0, r .1, every-true (r .0)),
   )
     where
-      right : (d : ℕ) → (hasRun L d ≡ true) ↔ ((w : List Item) × RunOf (L .sequences) d w × (every (λ (a : Item). true) w ≡ true))
-      right d = (
-        (λ h. let r = hasRun-iff L d .0 h in (r .0, r .1, every-true (r .0))),
-        λ r. hasRun-iff L d .1 (r .0, r .1),
-      )
-
       each : (every (canRun L q f) es ≡ true) ↔ ((w : List Item) × Gives (L .sequences) es w × (every (λ (a : Item). true) w ≡ true))
-      each = passes-iff (L .sequences) (λ a. true) (λ d. hasRun L d) right es
+      each = passes-iff (L .sequences) (λ a. true) (λ d. hasRun L d) (any-run L) es
 
   -- what is asked of the entries before a position and of those after it, on either side
   pub beside-given : (s : Side) (xs ys : List Entry) → every (aheadOf L q f s) xs ≡ true → every (behindOf L q f s) ys ≡ true

@@ -56,7 +56,7 @@ pub record Good (P : ℕ → ℕ → Type 0) (L : Library) (look : Look) (T : Li
 
 -- visits from a table of n words without a rank, until none changes it
 module _ (L : Library) (q : Question) (f n : ℕ) (T : List ℕ) (long : length (L .sequences) ≤ n) where
-  settled-good : (P : ℕ → ℕ → Type 0) (look : Look)
+  pub settled-good : (P : ℕ → ℕ → Type 0) (look : Look)
       → ((T : Ranks) → Reached P (unranked L) T → (c i : ℕ) → i < length (alternativesOf (L .sequences) c)
       → suc (look T (alternativeOf (L .sequences) c i)) < unranked L → P c (suc (look T (alternativeOf (L .sequences) c i))))
       → Visits (L .sequences) look (unranked L) (replicate n (unranked L)) T → Settled (L .sequences) look (unranked L) T → Good P L look T

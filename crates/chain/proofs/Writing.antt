@@ -4,7 +4,7 @@ use Prim.Native.Nat.{ℕ, zero, suc, pred, _+_, _*_, _^_, _≤_, _<_}
 use native.Mathlib.Omega.{arith}
 use native.Mathlib.Numerals.{add-one}
 use mathlib.Core.Logic.{_≢_}
-use mathlib.Core.Path.{_≡_, refl, sym, ap, ap₂, _∙_}
+use mathlib.Core.Path.{_≡_, refl, sym, ap, ap₂, _∙_, subst}
 use mathlib.Core.Bool.{Bool, true, false, cond}
 use mathlib.Core.List.{List, [], _∷_, _++_, append-assoc, append-nil}
 use lib.ListN.{length, getD, set, drop, length-append, length-drop}
@@ -15,7 +15,7 @@ use Rattle.image.specs.Word.{payload, isKind, isEntry}
 use Rattle.image.specs.Library.{Alternative, Entry, step, call, entriesFrom, alternativesFrom}
 use Rattle.chain.specs.Link.{Link, touchLink, choiceWord, linkWords, chainWords}
 use Rattle.chain.specs.Stands.{entryAt}
-use Rattle.chain.specs.Tables.{entryNumber, inRanks, lookIn, alternativesAt}
+use Rattle.chain.specs.Tables.{entryNumber, lookIn, alternativesAt}
 use Rattle.chain.specs.Walk.{alternativeFrom}
 use Rattle.chain.specs.Choice.{linkIn, Chosen, linkEntry, linkAt, linksIn, quietLink, answerIn}
 use Rattle.chain.specs.declared.link.Choice.{Choice}
@@ -80,9 +80,9 @@ put-first area x y room = put-two [] area 0 x y refl (omega arith)
 
 -- ---- the loop over links
 
-module _ (q : Asked) (masks table ranks part places : List ℕ) (before : List ℕ) (count first : ℕ) where
+module _ (q : Asked) (ahead behind ranks part places : List ℕ) (before : List ℕ) (count first : ℕ) where
   abbrev links : ℕ → ℕ → List Link
-  links k c = linksIn q masks table ranks part places k c
+  links k c = linksIn q ahead behind ranks part places k c
 
   pub record Writing (area : List ℕ) (k c at : ℕ) : Type 0 where
     pub sequence : c < 2 ^ 28
@@ -113,7 +113,7 @@ module _ (q : Asked) (masks table ranks part places : List ℕ) (before : List �
         ∙ ap₂ (λ (p : List ℕ) (n : ℕ). p ++ drop n before) (sym (append-nil (here .done)) ∙ ap (λ (r : List ℕ). here .done ++ r) (sym last) ∙ here .rest) all
 
     -- one more link
-    pub writing-turn : (j : ℕ) → k ≡ suc j → (i p : ℕ) → touchLink c i p ≡ linkAt q masks table ranks part places j c
+    pub writing-turn : (j : ℕ) → k ≡ suc j → (i p : ℕ) → touchLink c i p ≡ linkAt q ahead behind ranks part places j c
         → Writing (set (set area at (choiceWord c i)) (at + 1) (11 * 2 ^ 28 + p)) j (entryNumber (entryAt (getD (alternativesAt part places c) i []) p)) (at + 2)
     unfolding linksIn chainWords
     writing-turn j next i p link =
@@ -135,47 +135,51 @@ module _ (q : Asked) (masks table ranks part places : List ℕ) (before : List �
         }
 
     -- the same by what the functions promise that choose a link and write its words
-    pub writing-next : (j from : ℕ) (r : Choice) (x : ℕ) (after : List ℕ) → k ≡ suc j → from ≡ getD places c 0 + 1 → Chosen q masks table ranks part from j r
+    pub writing-next : (j from : ℕ) (r : Choice) (x : ℕ) (after : List ℕ) → k ≡ suc j → from ≡ getD places c 0 + 1 → Chosen q ahead behind ranks part from j r
         → x ≡ choiceWord c (r .alternative) → after ≡ set (set area at x) (at + 1) (11 * 2 ^ 28 + r .position) → Writing after j (r .entry) (at + 2)
     writing-next j from r x after next opener chosen word put =
         rw (put, word, chosen .entry, opener)
-        (writing-turn j next (r .alternative) (r .position) (chosen .link c ∙ ap (λ (n : ℕ). linkIn q masks table ranks c j (alternativesFrom (drop n part))) opener))
+        (writing-turn j next (r .alternative) (r .position) (chosen .link c ∙ ap (λ (n : ℕ). linkIn q ahead behind ranks c j (alternativesFrom (drop n part))) opener))
 
 -- ---- the answer by the ranks
 
-module _ (q : Asked) (masks table ranks part places : List ℕ) where
-  pub links-count : (k c : ℕ) → length (linksIn q masks table ranks part places k c) ≡ k
+module _ (q : Asked) (ahead behind ranks part places : List ℕ) where
+  pub links-count : (k c : ℕ) → length (linksIn q ahead behind ranks part places k c) ≡ k
   unfolding linksIn
   links-count zero c = refl
-  links-count (suc k) c = ap suc (links-count k (linkEntry (alternativesAt part places c) (linkAt q masks table ranks part places k c)))
+  links-count (suc k) c = ap suc (links-count k (linkEntry (alternativesAt part places c) (linkAt q ahead behind ranks part places k c)))
 
   module _ (c rank : ℕ) (listed : c < length ranks) (own : rank ≡ getD ranks c 0) where
-    own-rank : inRanks q ranks c ≡ rank
+    own-rank : getD ranks c (q .none) ≡ rank
     own-rank = getD-inside ranks c (q .none) 0 listed ∙ sym own
 
-    pub answer-unranked : q .none ≤ rank → answerIn q masks table ranks part places c ≡ none
+    pub answer-unranked : q .none ≤ rank → answerIn q ahead behind ranks part places c ≡ none
     unfolding answerIn
     answer-unranked le = rw (own-rank, le-ltb rank (q .none) le)
 
-    pub answer-quiet : rank < q .none → q .mark ≡ 2 → answerIn q masks table ranks part places c ≡ shown (quietLink q masks table ranks part places c ∷ [])
+    pub answer-quiet : rank < q .none → q .mark ≡ 2 → answerIn q ahead behind ranks part places c ≡ shown (quietLink q ahead behind ranks part places c ∷ [])
     unfolding answerIn
     answer-quiet lt two = rw (own-rank, lt-ltb rank (q .none) lt, eq-eqb (q .mark) 2 two)
 
-    pub answer-links : rank < q .none → q .mark ≢ 2 → answerIn q masks table ranks part places c ≡ shown (linksIn q masks table ranks part places rank c)
+    pub answer-links : rank < q .none → q .mark ≢ 2 → answerIn q ahead behind ranks part places c ≡ shown (linksIn q ahead behind ranks part places rank c)
     unfolding answerIn
     answer-links lt other = rw (own-rank, lt-ltb rank (q .none) lt, ne-eqb (q .mark) 2 other)
 
   -- the one link by what the functions promise that choose its alternative and write its words
   pub quiet-written : (c k from i x : ℕ) (area after : List ℕ) → c < length ranks → k ≡ pred (getD ranks c 0) → from ≡ getD places c 0 + 1
-      → i ≡ alternativeFrom (lookIn q masks table (inRanks q ranks)) k 0 (alternativesFrom (drop from part)) → x ≡ choiceWord c i → 2 ≤ length area
-      → after ≡ set (set area 0 x) (0 + 1) (12 * 2 ^ 28) → after ≡ chainWords (quietLink q masks table ranks part places c ∷ []) ++ drop 2 area
+      → i ≡ alternativeFrom (lookIn q ahead behind ranks) k 0 (alternativesFrom (drop from part)) → x ≡ choiceWord c i → 2 ≤ length area
+      → after ≡ set (set area 0 x) (0 + 1) (12 * 2 ^ 28) → after ≡ chainWords (quietLink q ahead behind ranks part places c ∷ []) ++ drop 2 area
   unfolding quietLink chainWords
   quiet-written c k from i x area after listed before opener choice word room put =
-      let least : k ≡ pred (inRanks q ranks c) = before ∙ ap pred (getD-inside ranks c 0 (q .none) listed) in
+      let least : k ≡ pred (getD ranks c (q .none)) = before ∙ ap pred (getD-inside ranks c 0 (q .none) listed) in
       put ∙ put-first area x (12 * 2 ^ 28) room
       ∙ ap (λ (y : ℕ). (y ∷ 12 * 2 ^ 28 ∷ []) ++ drop 2 area)
       (word ∙ ap (choiceWord c)
-      (choice ∙ ap₂ (λ (m n : ℕ). alternativeFrom (lookIn q masks table (inRanks q ranks)) m 0 (alternativesFrom (drop n part))) least opener))
+      (choice ∙ ap₂ (λ (m n : ℕ). alternativeFrom (lookIn q ahead behind ranks) m 0 (alternativesFrom (drop n part))) least opener))
+
+-- the same answer
+pub answered-same : {a b : Answer} {before after : List ℕ} {found : Chained} → a ≡ b → Answered a before found after → Answered b before found after
+answered-same {before = before} {after = after} {found = found} e answered = subst (λ (x : Answer). Answered x before found after) e answered
 
 -- an answer in an area that is too short, or has room
 pub none-answered : (a : Answer) (area : List ℕ) → a ≡ none → Answered a area Chained.None area

@@ -2,23 +2,20 @@
 -- library's.
 use Prim.Native.Nat.{ℕ, _+_, _*_, _≤_, _<_}
 use mathlib.Core.Path.{_≡_}
-use mathlib.Core.Bool.{Bool, true, false}
-use mathlib.Core.Logic.{_≢_}
+use mathlib.Core.Bool.{Bool, true, false, cond}
 use mathlib.Core.List.{List, [], _∷_, _++_}
 use lib.ListN.{length, getD, drop}
-use Rattle.column.specs.Sets.{inColumn}
 use Rattle.image.specs.Checked.{checked}
-use Rattle.image.specs.Library.{Library}
+use Rattle.image.specs.Library.{Library, Entry, stepsFrom, stepsPart, sequencesPart}
 use Rattle.image.specs.declared.answer.Head.{Head}
 use Rattle.image.specs.declared.answer.Checked.the-variants.{Accepted}
-use Rattle.image.specs.Tables.{maskOf}
-use Rattle.outcome.specs.Area.{outcomes, Prepared, libraryIn}
-use Rattle.outcome.specs.Run.{alternativesOf}
+use Rattle.image.specs.Tables.{maskOf, masks, placesFrom}
+use Rattle.outcome.specs.Area.{Blank}
+use Rattle.outcome.specs.Run.{Item, alternativesOf}
 use Rattle.outcome.specs.Execution.{stepOf}
 use Rattle.outcome.specs.Touch.{Side, last, first, Mark, present, absent, untouched, Question}
-use Rattle.outcome.specs.Possible.{columnPossible}
-use Rattle.chain.specs.Ranks.{unranked}
-use Rattle.chain.specs.Tables.{alternativesAt}
+use Rattle.chain.specs.Ranks.{unranked, aheadOf, behindOf}
+use Rattle.chain.specs.Tables.{passIn, alternativesAt}
 use Rattle.chain.specs.declared.entry.Asked.{Asked}
 
 -- a side and a mark as the code has them
@@ -38,15 +35,26 @@ pub record Asks (L : Library) (q : Asked) (Q : Question) : Type 0 where
   pub none : q .none ≡ unranked L
   pub fact : q .fact < L .facts
 
--- the tables are the library's: the words of each step, what the bits of each row say (which is read only where a question asks for a
--- touch), and where each sequence's alternatives stand
-pub record Described (L : Library) (Q : Question) (masks table part places : List ℕ) : Type 0 where
+-- the masks are those of the library's steps
+pub record Masked (L : Library) (masks : List ℕ) : Type 0 where
   pub narrow : L .facts ≤ 64
   pub needs : (a : ℕ) → getD masks (3 * a) 0 ≡ maskOf (stepOf L a .needs)
   pub sets : (a : ℕ) → getD masks (3 * a + 1) 0 ≡ maskOf (stepOf L a .sets)
   pub clears : (a : ℕ) → getD masks (3 * a + 2) 0 ≡ maskOf (stepOf L a .clears)
-  pub rows : Q .mark ≢ untouched → (d j f : ℕ) → j < 8 → f < L .facts → inColumn (getD table (8 * d + j) 0) f ≡ columnPossible L j d f
-  pub placed : (c : ℕ) → c < length (L .sequences) → alternativesAt part places c ≡ alternativesOf (L .sequences) c
+
+-- the words hold each sequence's alternatives where its place says
+abbrev pub Placed : Library → List ℕ → List ℕ → Type 0
+Placed L part places = (c : ℕ) → c < length (L .sequences) → alternativesAt part places c ≡ alternativesOf (L .sequences) c
+
+-- the ranks of the steps in a table are by a test of them, with `past` for a step past the table
+abbrev pub StepsBy : ℕ → ℕ → (Item → Bool) → List ℕ → Type 0
+StepsBy none past test T = (a : ℕ) → getD (drop none T) a past ≡ cond (test a) 0 none
+
+-- the tables are the library's, where the question asks for a touch: what they say of the entries ahead of the position and of those
+-- behind it
+pub record Described (L : Library) (Q : Question) (f : ℕ) (ahead behind : List ℕ) : Type 0 where
+  pub by-ahead : (e : Entry) → passIn (unranked L) ahead e ≡ aheadOf L Q f (Q .side) e
+  pub by-behind : (e : Entry) → passIn (unranked L) behind e ≡ behindOf L Q f (Q .side) e
 
 -- the question that the code is asked
 abbrev pub sideBy : Bool → Side
@@ -59,11 +67,6 @@ markBy m = getD (present ∷ absent ∷ untouched ∷ []) m untouched
 abbrev pub questionBy : Asked → Question
 questionBy q = record { side = sideBy (q .first); mark = markBy (q .mark) }
 
--- the tables that a question reads are made of the two parts of an accepted image: the outcome table where it asks for a touch
-pub record TablesMade (h : Head) (q : Asked) (first part masks-before places-before table-before ms ps table : List ℕ) : Type 0 where
-  pub prepared : Prepared h first part masks-before places-before ms ps
-  pub filled : questionBy q .mark ≢ untouched → table ≡ outcomes (libraryIn h first part) ++ drop (8 * h .sequences) table-before
-
 -- what the search for an answer asks: an accepted image, and a sequence, a mark and a fact that there are
 pub record FindAsked (h : Head) (image : List ℕ) (q : Asked) (c : ℕ) : Type 0 where
   pub accepted : checked image ≡ Accepted h
@@ -71,3 +74,23 @@ pub record FindAsked (h : Head) (image : List ℕ) (q : Asked) (c : ℕ) : Type 
   pub mark : q .mark ≤ 2
   pub fact : q .fact < h .facts
   pub none : q .none ≡ h .sequences + 2
+
+-- what is made of an accepted image on the way: its masks and places. Words past them are 0.
+pub record Made (image : List ℕ) (h : Head) (ms ps : List ℕ) : Type 0 where
+  pub past-masks : List ℕ
+  pub blank-masks : Blank past-masks
+  pub masked : ms ≡ masks (stepsFrom (stepsPart image)) ++ past-masks
+  pub past-places : List ℕ
+  pub blank-places : Blank past-places
+  pub placed : ps ≡ placesFrom 0 (sequencesPart image) ++ past-places
+  pub wide : 3 * h .steps ≤ length ms
+  pub narrow : length ps ≡ 256
+
+-- a table without a rank, which has a word for each sequence and each step
+pub record Unranked (h : Head) (q : Asked) (T : List ℕ) : Type 0 where
+  pub long : length T ≡ q .none + h .steps
+  pub empty : (k : ℕ) → getD T k (q .none) ≡ q .none
+
+-- the three tables that the answer is found in
+abbrev pub TablesAsked : Head → Asked → List ℕ → List ℕ → List ℕ → Type 0
+TablesAsked h q stays runs links = Unranked h q stays × Unranked h q runs × Unranked h q links

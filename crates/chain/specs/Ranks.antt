@@ -72,6 +72,11 @@ unfoldable pub depthLook : ℕ → (Item → Bool) → Look
 unfolding greatest
 depthLook none test T es = greatest (entryRank none test T) es
 
+-- whether all entries of an alternative pass, a step by the test and a sequence where it has a rank: 0 where they do
+unfoldable pub passLook : ℕ → (Item → Bool) → Look
+unfolding every
+passLook none test T es = cond (every (entryPasses test (λ d. ltb (T d) none)) es) 0 none
+
 -- the number of links after this one, for position p of an alternative: 0 for a step with the touch and the sequence's rank for a call,
 -- where the entries before the position and those after it pass their tests
 abbrev pub candidate : ℕ → (Item → Bool) → (Entry → Bool) → (Entry → Bool) → Ranks → Alternative → ℕ → ℕ

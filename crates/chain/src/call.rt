@@ -1,7 +1,7 @@
 // The chain call: refusals 1 to 7 and 9 to 12, a chain, or none.
 use crate::answer::Chained;
 use crate::entry::Asked;
-use crate::entry::is_open;
+use crate::entry::write_step_ranks;
 use crate::pass::settle;
 use crate::write::write_chain;
 use image::answer::Checked;
@@ -10,67 +10,256 @@ use image::answer::Refusal;
 use image::check::check;
 use image::parts::sequences_part;
 use image::parts::steps_part;
-use outcome::table::fill;
 use outcome::table::prepare;
 ghost use mathlib.Core.Path.{_≡_};
-ghost use Prim.Native.Nat.{_*_, _≤_};
-ghost use lib.ListN.{length, take};
-ghost use Rattle.image.specs.Checked.{checked};
+ghost use mathlib.Core.Bool.{false};
+ghost use Prim.Native.Nat.{_*_, _^_, _≤_, _<_};
+ghost use lib.ListN.{length};
 ghost use Rattle.image.specs.Library.{libraryOf};
-ghost use Rattle.outcome.specs.Area.{FillAsked, Areas};
+ghost use Rattle.outcome.specs.Area.{Blank};
 ghost use Rattle.chain.specs.Answer.{answer};
-ghost use Rattle.chain.specs.Described.{FindAsked, TablesMade, questionBy};
+ghost use Rattle.chain.specs.Tables.{Steppable, Visitable, Ranked};
+ghost use Rattle.chain.specs.Choice.{Choosable, answerIn};
+ghost use Rattle.chain.specs.Described.{FindAsked, Made, TablesAsked, questionBy};
 ghost use Rattle.chain.specs.Reply.{accepts, Answered, Called};
 
-// Makes the tables that the question reads, from the two parts of an accepted image: the outcome table only where it asks for a touch.
-fn make_tables(
-    h: Head,
+// Ranks the steps by one question and the sequences by another, in a table that has no rank yet.
+fn rank(
+    any: bool,
+    p: Asked,
     q: Asked,
-    steps: &[u32],
+    masks: &[u64],
+    ahead: &[u32],
+    behind: &[u32],
     part: &[u32],
-    masks: &mut [u64],
-    places: &mut [u32],
-    order: &mut [usize],
-    table: &mut [u64],
+    places: &[u32],
+    order: &[usize],
+    ranks: &mut [u32],
+    n: usize,
 )
-    requires { ⌜ FillAsked h (now steps) (now part) (take (8 * h .sequences) (now table)) × Areas h (now masks) (now places) (now order) × (8 * h .sequences ≤ length (now table)) ⌝ }
-    ensures { λ _. ⌜ TablesMade h q (now (steps .entry)) (now (part .entry)) (now (masks .entry)) (now (places .entry)) (now (table .entry)) (now (masks .exit)) (now (places .exit)) (now (table .exit)) ⌝ }
+    requires { ⌜ Steppable p (now masks) (now ranks) × Visitable q n (now ahead) (now behind) (now ranks) (now part) (now places) ⌝ }
+    ensures { λ _. ⌜ Ranked any p q n (now (masks .entry)) (now (ahead .entry)) (now (behind .entry)) (now (part .entry)) (now (places .entry)) (now (ranks .entry)) (now (ranks .exit)) ⌝ }
 {
-    if q.mark == 2 {
-        prepare(h, steps, part, masks, places, order);
-        return;
-    }
-    let words = 8 * h.sequences as usize;
-    fill(h, steps, part, masks, places, order, &mut table[..words]);
+    write_step_ranks(any, p, masks, ranks);
+    settle(q, ahead, behind, part, places, order, ranks, n);
 }
 
-// Finds the answer to a question of sequence `c` of an accepted image.
+// The answer to a question that asks for a touch, by the tables of the entries that pass ahead of the position and behind it.
+fn link(
+    q: Asked,
+    masks: &[u64],
+    ahead: &[u32],
+    behind: &[u32],
+    part: &[u32],
+    places: &[u32],
+    order: &[usize],
+    links: &mut [u32],
+    area: &mut [u32],
+    n: usize,
+    c: u32,
+) -> Chained
+    requires { ⌜ Steppable q (now masks) (now links) × Visitable q n (now ahead) (now behind) (now links) (now part) (now places) × Choosable q (now ahead) (now behind) (now links) (now part) (now places) × (c < 2 ^ 28) × (c < length (now links)) ⌝ }
+    ensures { λ r. ⌜ Ranked false q q n (now (masks .entry)) (now (ahead .entry)) (now (behind .entry)) (now (part .entry)) (now (places .entry)) (now (links .entry)) (now (links .exit)) × Answered (answerIn q (now (ahead .entry)) (now (behind .entry)) (now (links .exit)) (now (part .entry)) (now (places .entry)) c) (now (area .entry)) r (now (area .exit)) ⌝ }
+{
+    rank(
+        false,
+        q,
+        q,
+        masks,
+        ahead,
+        behind,
+        part,
+        places,
+        order,
+        links,
+        n,
+    );
+    write_chain(q, ahead, behind, links, part, places, area, c)
+}
+
+// Finds the answer to a question of sequence `c` of an accepted image, by its masks and places. A question that asks for no touch is
+// answered by the depths of the sequences that can stay untouched; one that asks for a touch by which can, which have a run, and the links.
+fn find_by(
+    h: Head,
+    image: &[u32],
+    q: Asked,
+    c: u32,
+    masks: &[u64],
+    places: &[u32],
+    order: &[usize],
+    stays: &mut [u32],
+    runs: &mut [u32],
+    links: &mut [u32],
+    area: &mut [u32],
+) -> Chained
+    requires { ⌜ FindAsked h (now image) q c × Made (now image) h (now masks) (now places) × TablesAsked h q (now stays) (now runs) (now links) ⌝ }
+    ensures { λ r. ⌜ Answered (answer (libraryOf (now (image .entry))) (questionBy q) c (q .fact)) (now (area .entry)) r (now (area .exit)) ⌝ }
+{
+    let n = h.sequences as usize;
+    let quiet = Asked {
+        first: q.first,
+        mark: 2,
+        fact: q.fact,
+        none: q.none,
+    };
+    let ranked = Asked {
+        first: q.first,
+        mark: 3,
+        fact: q.fact,
+        none: q.none,
+    };
+    let part = sequences_part(image);
+    if q.mark == 2 {
+        rank(
+            false,
+            quiet,
+            quiet,
+            masks,
+            links,
+            links,
+            part,
+            places,
+            order,
+            stays,
+            n,
+        );
+        return write_chain(quiet, links, links, stays, part, places, area, c);
+    }
+    rank(
+        false,
+        quiet,
+        ranked,
+        masks,
+        links,
+        links,
+        part,
+        places,
+        order,
+        stays,
+        n,
+    );
+    rank(
+        true,
+        quiet,
+        ranked,
+        masks,
+        links,
+        links,
+        part,
+        places,
+        order,
+        runs,
+        n,
+    );
+    if q.first {
+        return link(
+            q,
+            masks,
+            stays,
+            runs,
+            part,
+            places,
+            order,
+            links,
+            area,
+            n,
+            c,
+        );
+    }
+    link(
+        q,
+        masks,
+        runs,
+        stays,
+        part,
+        places,
+        order,
+        links,
+        area,
+        n,
+        c,
+    )
+}
+
+// So in lent areas, in which the masks, the places and the finishing order are made first.
+fn find_in(
+    h: Head,
+    image: &[u32],
+    q: Asked,
+    c: u32,
+    masks: &mut [u64],
+    stays: &mut [u32],
+    runs: &mut [u32],
+    links: &mut [u32],
+    area: &mut [u32],
+) -> Chained
+    requires { ⌜ FindAsked h (now image) q c × Blank (now masks) × (3 * h .steps ≤ length (now masks)) × TablesAsked h q (now stays) (now runs) (now links) ⌝ }
+    ensures { λ r. ⌜ Answered (answer (libraryOf (now (image .entry))) (questionBy q) c (q .fact)) (now (area .entry)) r (now (area .exit)) ⌝ }
+{
+    let mut places = [0u32; 256];
+    let mut order = [0usize; 256];
+    let n = h.sequences as usize;
+    prepare(
+        h,
+        steps_part(image),
+        sequences_part(image),
+        masks,
+        &mut places,
+        &mut order,
+    );
+    find_by(
+        h,
+        image,
+        q,
+        c,
+        masks,
+        &places,
+        &order[..n],
+        stays,
+        runs,
+        links,
+        area,
+    )
+}
+
+// So in areas of its own: small ones where there are few steps and sequences, since it takes time to make them.
 fn find(h: Head, image: &[u32], q: Asked, c: u32, area: &mut [u32]) -> Chained
     requires { ⌜ FindAsked h (now image) q c ⌝ }
     ensures { λ r. ⌜ Answered (answer (libraryOf (now (image .entry))) (questionBy q) c (q .fact)) (now (area .entry)) r (now (area .exit)) ⌝ }
 {
-    let mut masks = [0u64; 3072];
-    let mut places = [0u32; 256];
-    let mut order = [0usize; 256];
-    let mut table = [0u64; 2048];
-    let mut ranks = [q.none; 256];
-    let n = h.sequences as usize;
-    let part = sequences_part(image);
-    make_tables(
-        h,
-        q,
-        steps_part(image),
-        part,
-        &mut masks,
-        &mut places,
-        &mut order,
-        &mut table,
-    );
-    if !is_open(q, &table, c as usize) {
-        return Chained::None;
+    let words = q.none as usize + h.steps as usize;
+    if words <= 98 {
+        let mut masks = [0u64; 288];
+        let mut stays = [q.none; 98];
+        let mut runs = [q.none; 98];
+        let mut links = [q.none; 98];
+        return find_in(
+            h,
+            image,
+            q,
+            c,
+            &mut masks,
+            &mut stays[..words],
+            &mut runs[..words],
+            &mut links[..words],
+            area,
+        );
     }
-    settle(q, &masks, &table, part, &places, &order[..n], &mut ranks, n);
-    write_chain(q, &masks, &table, &ranks, part, &places, area, c)
+    let mut masks = [0u64; 3072];
+    let mut stays = [q.none; 1282];
+    let mut runs = [q.none; 1282];
+    let mut links = [q.none; 1282];
+    find_in(
+        h,
+        image,
+        q,
+        c,
+        &mut masks,
+        &mut stays[..words],
+        &mut runs[..words],
+        &mut links[..words],
+        area,
+    )
 }
 
 // Asks an accepted image: the sequence, the question and the fact are tested in this order.

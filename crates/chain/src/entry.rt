@@ -3,17 +3,13 @@ use column::sets::holds;
 use image::word::is_kind;
 use image::word::payload_of;
 ghost use mathlib.Core.Path.{_≡_};
-ghost use mathlib.Core.Bool.{true, cond, _||_};
-ghost use mathlib.Core.List.{List};
+ghost use mathlib.Core.Bool.{true, cond};
 ghost use Prim.Native.Nat.{ℕ, _+_, _*_, _≤_, _<_};
 ghost use lib.ListN.{length};
-ghost use lib.Dec.{eqb};
 ghost use Rattle.image.specs.Word.{isEntry};
-ghost use Rattle.image.specs.Library.{call};
-ghost use Rattle.chain.specs.Ranks.{entryRank};
-ghost use Rattle.chain.specs.Tables.{markOf, stepMark, markIn, inRanks, entryOf, possibleIn, traitsIn, Within, Ranked};
+ghost use Rattle.chain.specs.Tables.{markOf, stepMark, stepRank, Steppable, Stepped, slotOf, entryOf, rankIn, passIn, traitsIn, Within};
 
-// The question: its side, the mark asked for there (0 and 1 for the two touches, 2 for untouched), the fact, and what stands for "no rank".
+// The question: its side, the mark asked for there (0 and 1 for the two touches, 2 for untouched, 3 where only a rank counts), the fact, and what stands for "no rank".
 pub struct Asked {
     pub first: bool,
     pub mark: u32,
@@ -47,92 +43,70 @@ fn mark_of(f: u32, one: u64, other: u64) -> u32
 }
 
 // The mark of step `a` on the question's side.
-fn step_mark(q: Asked, masks: &[u64], a: u32) -> u32
+fn step_mark(q: Asked, masks: &[u64], a: usize) -> u32
     requires { ⌜ (q .fact < 64) × (3 * a + 3 ≤ length (now masks)) ⌝ }
     ensures { λ r. ⌜ r ≡ stepMark q (now (masks .entry)) a ⌝ }
 {
-    let at = 3 * a as usize;
+    let at = 3 * a;
     if q.first {
         return mark_of(q.fact, masks[at], masks[at + 1]);
     }
     mark_of(q.fact, masks[at + 1], masks[at + 2])
 }
 
-// On the last side an entry ahead has a run and one behind stays untouched; on the first side the other way round.
-fn sided(first: bool, rank: u32, stays: bool, runs: bool) -> Traits
-    ensures { λ r. ⌜ r ≡ record { rank = rank; ahead = cond first stays runs; behind = cond first runs stays } ⌝ }
+// The rank of step `a`: 0 where it has the mark asked for, or where any will do.
+fn step_rank(any: bool, q: Asked, masks: &[u64], a: usize) -> u32
+    requires { ⌜ (q .fact < 64) × (3 * a + 3 ≤ length (now masks)) ⌝ }
+    ensures { λ r. ⌜ r ≡ stepRank any q (now (masks .entry)) a ⌝ }
 {
-    if first {
-        return Traits {
-            rank: rank,
-            ahead: stays,
-            behind: runs,
-        };
+    kept(any | (step_mark(q, masks, a) == q.mark), 0, q.none)
+}
+
+// Writes the ranks of the steps into a table: they stand from word `none` on.
+pub fn write_step_ranks(any: bool, q: Asked, masks: &[u64], ranks: &mut [u32])
+    requires { ⌜ Steppable q (now masks) (now ranks) ⌝ }
+    ensures { λ _. ⌜ Stepped any q (now (masks .entry)) (now (ranks .entry)) (now (ranks .exit)) ⌝ }
+{
+    let base = q.none as usize;
+    let mut a = 0;
+    while base + a < ranks.len() {
+        ranks[base + a] = step_rank(any, q, masks, a);
+        a += 1;
     }
-    Traits {
-        rank: rank,
-        ahead: runs,
-        behind: stays,
-    }
 }
 
-// The column of a side's first mark in the outcome table.
-fn first_column(first: bool) -> usize
-    ensures { λ r. ⌜ (r ≡ cond first 5 2) × (r ≤ 5) ⌝ }
+// Where the rank of an entry stands in a table: the sequences come first, then the steps. There is no branch here, since processors would
+// guess it badly.
+fn slot_of(none: u32, w: u32) -> usize
+    ensures { λ r. ⌜ r ≡ slotOf none w ⌝ }
 {
-    if first {
-        return 5;
-    }
-    2
-}
-
-// Whether the outcome table has the mark, on the question's side, for sequence `d`.
-fn has_mark(q: Asked, table: &[u64], d: usize, mark: u32) -> bool
-    requires { ⌜ (q .fact < 64) × (8 * d + 8 ≤ length (now table)) × (mark ≤ 2) ⌝ }
-    ensures { λ r. ⌜ r ≡ possibleIn q (now (table .entry)) d mark ⌝ }
-{
-    holds(
-        table[8 * d + (first_column(q.first) + mark as usize)],
-        q.fact,
-    )
-}
-
-// Whether a run with the outcome asked for is not ruled out: the outcome table is read where the question asks for a touch.
-pub fn is_open(q: Asked, table: &[u64], c: usize) -> bool
-    requires { ⌜ (q .fact < 64) × (8 * c + 8 ≤ length (now table)) × (q .mark ≤ 2) ⌝ }
-    ensures { λ r. ⌜ r ≡ (eqb (q .mark) 2 || possibleIn q (now (table .entry)) c (q .mark)) ⌝ }
-{
-    (q.mark == 2) | has_mark(q, table, c, q.mark)
-}
-
-// The traits of sequence `d`, by its row of the outcome table and its rank.
-fn sequence_traits(q: Asked, table: &[u64], ranks: &[u32], d: usize) -> Traits
-    requires { ⌜ (q .fact < 64) × (8 * d + 8 ≤ length (now table)) × (d < length (now ranks)) ⌝ }
-    ensures { λ r. ⌜ ((masks : List ℕ) → r ≡ traitsIn q masks (now (table .entry)) (now (ranks .entry)) (call d)) ⌝ }
-{
-    let runs = holds(table[8 * d], q.fact);
-    sided(q.first, ranks[d], has_mark(q, table, d, 2), runs)
+    payload_of(w) as usize + kept(is_kind(8, w), none, 0) as usize
 }
 
 // The rank of an entry.
-pub fn rank_of(q: Asked, masks: &[u64], ranks: &[u32], w: u32) -> u32
-    requires { ⌜ (q .fact < 64) × Ranked (now masks) (now ranks) w × (isEntry w ≡ true) ⌝ }
-    ensures { λ r. ⌜ r ≡ entryRank (q .none) (markIn q (now (masks .entry))) (inRanks q (now (ranks .entry))) (entryOf w) ⌝ }
+pub fn rank_of(none: u32, ranks: &[u32], w: u32) -> u32
+    requires { ⌜ Within none (now ranks) w × (isEntry w ≡ true) ⌝ }
+    ensures { λ r. ⌜ ((past : ℕ) → r ≡ rankIn none past (now (ranks .entry)) (entryOf w)) ⌝ }
 {
-    if is_kind(8, w) {
-        return kept(step_mark(q, masks, payload_of(w)) == q.mark, 0, q.none);
-    }
-    ranks[payload_of(w) as usize]
+    ranks[slot_of(none, w)]
+}
+
+// Whether an entry has a rank.
+pub fn passes(none: u32, ranks: &[u32], w: u32) -> bool
+    requires { ⌜ Within none (now ranks) w × (isEntry w ≡ true) ⌝ }
+    ensures { λ r. ⌜ r ≡ passIn none (now (ranks .entry)) (entryOf w) ⌝ }
+{
+    rank_of(none, ranks, w) < none
 }
 
 // The traits of an entry.
-pub fn traits_of(q: Asked, masks: &[u64], table: &[u64], ranks: &[u32], w: u32) -> Traits
-    requires { ⌜ (q .fact < 64) × Within (now masks) (now table) (now ranks) w × (isEntry w ≡ true) ⌝ }
-    ensures { λ r. ⌜ r ≡ traitsIn q (now (masks .entry)) (now (table .entry)) (now (ranks .entry)) (entryOf w) ⌝ }
+pub fn traits_of(none: u32, ahead: &[u32], behind: &[u32], ranks: &[u32], w: u32) -> Traits
+    requires { ⌜ Within none (now ahead) w × Within none (now behind) w × Within none (now ranks) w × (isEntry w ≡ true) ⌝ }
+    ensures { λ r. ⌜ r ≡ traitsIn none (now (ahead .entry)) (now (behind .entry)) (now (ranks .entry)) (entryOf w) ⌝ }
 {
-    if is_kind(8, w) {
-        let mark = step_mark(q, masks, payload_of(w));
-        return sided(q.first, kept(mark == q.mark, 0, q.none), mark == 2, true);
+    Traits {
+        rank: rank_of(none, ranks, w),
+        ahead: passes(none, ahead, w),
+        behind: passes(none, behind, w),
     }
-    sequence_traits(q, table, ranks, payload_of(w) as usize)
 }

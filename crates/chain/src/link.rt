@@ -1,16 +1,18 @@
 // The choice of a link: "the lowest alternative, then the lowest position, that keeps it fewest".
 use crate::entry::Asked;
+use crate::entry::passes;
 use crate::entry::traits_of;
 use crate::read::read_alternative;
 use image::word::is_entry;
 use image::word::is_kind;
 use image::word::payload_of;
 ghost use mathlib.Core.Path.{_≡_};
+ghost use mathlib.Core.Bool.{cond};
 ghost use Prim.Native.Nat.{_+_, _*_, _≤_, _<_};
 ghost use lib.ListN.{length, drop};
 ghost use Rattle.image.specs.Library.{entriesFrom, alternativesFrom};
 ghost use Rattle.chain.specs.Walk.{tailFrom, alternativeFrom};
-ghost use Rattle.chain.specs.Tables.{inRanks, behindIn, lookIn, Readable};
+ghost use Rattle.chain.specs.Tables.{passIn, lookIn, Rankable, Readable};
 ghost use Rattle.chain.specs.Choice.{Chosen};
 
 // An alternative, the position of an entry there, and the number that the entry names.
@@ -20,17 +22,20 @@ pub struct Choice {
     pub entry: u32,
 }
 
+// The index where the test holds, otherwise the other one.
+fn kept_index(test: bool, x: usize, other: usize) -> usize
+    ensures { λ r. ⌜ r ≡ cond test x other ⌝ }
+{
+    if test {
+        return x;
+    }
+    other
+}
+
 // The index from which on all entries pass as those behind a position, for the entries that stand from index `at` on.
-fn quiet_from(
-    q: Asked,
-    masks: &[u64],
-    table: &[u64],
-    ranks: &[u32],
-    part: &[u32],
-    at: usize,
-) -> usize
-    requires { ⌜ Readable q (now masks) (now table) (now ranks) (now part) × (at ≤ length (now part)) ⌝ }
-    ensures { λ r. ⌜ r ≡ tailFrom (behindIn q (now (masks .entry)) (now (table .entry))) at at (entriesFrom (drop at (now (part .entry)))) ⌝ }
+fn quiet_from(none: u32, behind: &[u32], part: &[u32], at: usize) -> usize
+    requires { ⌜ Rankable none (now behind) (now part) × (at ≤ length (now part)) ⌝ }
+    ensures { λ r. ⌜ r ≡ tailFrom (passIn none (now (behind .entry))) at at (entriesFrom (drop at (now (part .entry)))) ⌝ }
 {
     let mut start = at;
     let mut i = at;
@@ -40,10 +45,7 @@ fn quiet_from(
             return start;
         }
         i += 1;
-        let t = traits_of(q, masks, table, ranks, w);
-        if !t.behind {
-            start = i;
-        }
+        start = kept_index(passes(none, behind, w), start, i);
     }
     start
 }
@@ -51,15 +53,15 @@ fn quiet_from(
 // The first alternative, then the first position, that comes to no more than `k`, among the alternatives that stand from index `at` on.
 pub fn chosen_link(
     q: Asked,
-    masks: &[u64],
-    table: &[u64],
+    ahead: &[u32],
+    behind: &[u32],
     ranks: &[u32],
     part: &[u32],
     at: usize,
     k: u32,
 ) -> Choice
-    requires { ⌜ Readable q (now masks) (now table) (now ranks) (now part) × (at ≤ length (now part)) × (length (now part) ≤ 8192) ⌝ }
-    ensures { λ r. ⌜ Chosen q (now (masks .entry)) (now (table .entry)) (now (ranks .entry)) (now (part .entry)) at k r ⌝ }
+    requires { ⌜ Readable (q .none) (now ahead) (now behind) (now ranks) (now part) × (at ≤ length (now part)) × (length (now part) ≤ 8192) ⌝ }
+    ensures { λ r. ⌜ Chosen q (now (ahead .entry)) (now (behind .entry)) (now (ranks .entry)) (now (part .entry)) at k r ⌝ }
 {
     let mut alternative = 0;
     let mut i = at;
@@ -75,14 +77,14 @@ pub fn chosen_link(
         i += 1;
         if is_kind(7, w) {
             let start = i;
-            let quiet = quiet_from(q, masks, table, ranks, part, start);
+            let quiet = quiet_from(q.none, behind, part, start);
             let mut ok = true;
             while i < part.len() {
                 let e = part[i];
                 if !is_entry(e) {
                     break;
                 }
-                let t = traits_of(q, masks, table, ranks, e);
+                let t = traits_of(q.none, ahead, behind, ranks, e);
                 let next = i + 1;
                 if ok & (quiet <= next) & (t.rank <= k) {
                     break 'found Choice {
@@ -108,15 +110,15 @@ pub fn chosen_link(
 // The first alternative that comes to no more than `k`, among those that stand from index `at` on.
 pub fn chosen_alternative(
     q: Asked,
-    masks: &[u64],
-    table: &[u64],
+    ahead: &[u32],
+    behind: &[u32],
     ranks: &[u32],
     part: &[u32],
     at: usize,
     k: u32,
 ) -> u32
-    requires { ⌜ Readable q (now masks) (now table) (now ranks) (now part) × (at ≤ length (now part)) × (length (now part) ≤ 8192) ⌝ }
-    ensures { λ r. ⌜ (r ≡ alternativeFrom (lookIn q (now (masks .entry)) (now (table .entry)) (inRanks q (now (ranks .entry)))) k 0 (alternativesFrom (drop at (now (part .entry))))) × (r ≤ 8192) ⌝ }
+    requires { ⌜ Readable (q .none) (now ahead) (now behind) (now ranks) (now part) × (at ≤ length (now part)) × (length (now part) ≤ 8192) ⌝ }
+    ensures { λ r. ⌜ (r ≡ alternativeFrom (lookIn q (now (ahead .entry)) (now (behind .entry)) (now (ranks .entry))) k 0 (alternativesFrom (drop at (now (part .entry))))) × (r ≤ 8192) ⌝ }
 {
     let mut alternative = 0;
     let mut i = at;
@@ -124,7 +126,7 @@ pub fn chosen_alternative(
         let w = part[i];
         i += 1;
         if is_kind(7, w) {
-            let found = read_alternative(q, masks, table, ranks, part, i);
+            let found = read_alternative(q, ahead, behind, ranks, part, i);
             if found.value <= k {
                 return alternative;
             }

@@ -12,20 +12,20 @@ ghost use Rattle.chain.specs.Tables.{Visitable, visitedRanks};
 // Lowers the rank of sequence `c` by its alternatives. Answers whether it fell.
 fn visit(
     q: Asked,
-    masks: &[u64],
-    table: &[u64],
+    ahead: &[u32],
+    behind: &[u32],
     part: &[u32],
     places: &[u32],
     ranks: &mut [u32],
     n: usize,
     c: usize,
 ) -> bool
-    requires { ⌜ Visitable q n (now masks) (now table) (now ranks) (now part) (now places) × (c < n) ⌝ }
-    ensures { λ r. ⌜ Visit (visitedRanks q (now (masks .entry)) (now (table .entry)) (now (part .entry)) (now (places .entry))) total (now (ranks .entry)) c (now (ranks .exit)) r ⌝ }
+    requires { ⌜ Visitable q n (now ahead) (now behind) (now ranks) (now part) (now places) × (c < n) ⌝ }
+    ensures { λ r. ⌜ Visit (visitedRanks q (now (ahead .entry)) (now (behind .entry)) (now (part .entry)) (now (places .entry))) total (now (ranks .entry)) c (now (ranks .exit)) r ⌝ }
 {
     let old = ranks[c];
     let at = places[c] as usize + 1;
-    let new = lowered_rank(q, masks, table, ranks, part, at, old);
+    let new = lowered_rank(q, ahead, behind, ranks, part, at, old);
     ranks[c] = new;
     new < old
 }
@@ -33,20 +33,20 @@ fn visit(
 // Visits every sequence once, in the order of their numbers. Answers whether a rank fell.
 fn plain_pass(
     q: Asked,
-    masks: &[u64],
-    table: &[u64],
+    ahead: &[u32],
+    behind: &[u32],
     part: &[u32],
     places: &[u32],
     ranks: &mut [u32],
     n: usize,
 ) -> bool
-    requires { ⌜ Visitable q n (now masks) (now table) (now ranks) (now part) (now places) ⌝ }
-    ensures { λ r. ⌜ Pass (visitedRanks q (now (masks .entry)) (now (table .entry)) (now (part .entry)) (now (places .entry))) total n (now (ranks .entry)) (now (ranks .exit)) r ⌝ }
+    requires { ⌜ Visitable q n (now ahead) (now behind) (now ranks) (now part) (now places) ⌝ }
+    ensures { λ r. ⌜ Pass (visitedRanks q (now (ahead .entry)) (now (behind .entry)) (now (part .entry)) (now (places .entry))) total n (now (ranks .entry)) (now (ranks .exit)) r ⌝ }
 {
     let mut changed = false;
     let mut c = 0;
     while c < n {
-        changed = visit(q, masks, table, part, places, ranks, n, c) | changed;
+        changed = visit(q, ahead, behind, part, places, ranks, n, c) | changed;
         c += 1;
     }
     changed
@@ -55,8 +55,8 @@ fn plain_pass(
 // Visits the sequences that `order` names, first to last or last to first; other numbers are passed over. Answers whether anything changed.
 fn pass(
     q: Asked,
-    masks: &[u64],
-    table: &[u64],
+    ahead: &[u32],
+    behind: &[u32],
     part: &[u32],
     places: &[u32],
     order: &[usize],
@@ -64,8 +64,8 @@ fn pass(
     ranks: &mut [u32],
     n: usize,
 ) -> bool
-    requires { ⌜ Visitable q n (now masks) (now table) (now ranks) (now part) (now places) ⌝ }
-    ensures { λ r. ⌜ Swept (visitedRanks q (now (masks .entry)) (now (table .entry)) (now (part .entry)) (now (places .entry))) total n (now (order .entry)) (now (ranks .entry)) (now (ranks .exit)) r ⌝ }
+    requires { ⌜ Visitable q n (now ahead) (now behind) (now ranks) (now part) (now places) ⌝ }
+    ensures { λ r. ⌜ Swept (visitedRanks q (now (ahead .entry)) (now (behind .entry)) (now (part .entry)) (now (places .entry))) total n (now (order .entry)) (now (ranks .entry)) (now (ranks .exit)) r ⌝ }
 {
     let mut changed = false;
     let mut i = 0;
@@ -73,7 +73,7 @@ fn pass(
         let c = order[place_of(forward, order.len(), i)];
         i += 1;
         if c < n {
-            changed = visit(q, masks, table, part, places, ranks, n, c) | changed;
+            changed = visit(q, ahead, behind, part, places, ranks, n, c) | changed;
         }
     }
     changed
@@ -82,19 +82,19 @@ fn pass(
 // Passes in the order and against it, in turn, until one changes nothing.
 fn settle_in_order(
     q: Asked,
-    masks: &[u64],
-    table: &[u64],
+    ahead: &[u32],
+    behind: &[u32],
     part: &[u32],
     places: &[u32],
     order: &[usize],
     ranks: &mut [u32],
     n: usize,
 )
-    requires { ⌜ Visitable q n (now masks) (now table) (now ranks) (now part) (now places) × Complete (now order) n ⌝ }
-    ensures { λ _. ⌜ Pass (visitedRanks q (now (masks .entry)) (now (table .entry)) (now (part .entry)) (now (places .entry))) total n (now (ranks .entry)) (now (ranks .exit)) false ⌝ }
+    requires { ⌜ Visitable q n (now ahead) (now behind) (now ranks) (now part) (now places) × Complete (now order) n ⌝ }
+    ensures { λ _. ⌜ Pass (visitedRanks q (now (ahead .entry)) (now (behind .entry)) (now (part .entry)) (now (places .entry))) total n (now (ranks .entry)) (now (ranks .exit)) false ⌝ }
 {
     let mut forward = true;
-    while pass(q, masks, table, part, places, order, forward, ranks, n) {
+    while pass(q, ahead, behind, part, places, order, forward, ranks, n) {
         forward = !forward;
     }
 }
@@ -102,36 +102,36 @@ fn settle_in_order(
 // Passes in the order of the numbers until one changes nothing.
 fn settle_plainly(
     q: Asked,
-    masks: &[u64],
-    table: &[u64],
+    ahead: &[u32],
+    behind: &[u32],
     part: &[u32],
     places: &[u32],
     ranks: &mut [u32],
     n: usize,
 )
-    requires { ⌜ Visitable q n (now masks) (now table) (now ranks) (now part) (now places) ⌝ }
-    ensures { λ _. ⌜ Pass (visitedRanks q (now (masks .entry)) (now (table .entry)) (now (part .entry)) (now (places .entry))) total n (now (ranks .entry)) (now (ranks .exit)) false ⌝ }
+    requires { ⌜ Visitable q n (now ahead) (now behind) (now ranks) (now part) (now places) ⌝ }
+    ensures { λ _. ⌜ Pass (visitedRanks q (now (ahead .entry)) (now (behind .entry)) (now (part .entry)) (now (places .entry))) total n (now (ranks .entry)) (now (ranks .exit)) false ⌝ }
 {
-    while plain_pass(q, masks, table, part, places, ranks, n) {}
+    while plain_pass(q, ahead, behind, part, places, ranks, n) {}
 }
 
 // Passes until nothing changes.
 pub fn settle(
     q: Asked,
-    masks: &[u64],
-    table: &[u64],
+    ahead: &[u32],
+    behind: &[u32],
     part: &[u32],
     places: &[u32],
     order: &[usize],
     ranks: &mut [u32],
     n: usize,
 )
-    requires { ⌜ Visitable q n (now masks) (now table) (now ranks) (now part) (now places) ⌝ }
-    ensures { λ _. ⌜ Pass (visitedRanks q (now (masks .entry)) (now (table .entry)) (now (part .entry)) (now (places .entry))) total n (now (ranks .entry)) (now (ranks .exit)) false ⌝ }
+    requires { ⌜ Visitable q n (now ahead) (now behind) (now ranks) (now part) (now places) ⌝ }
+    ensures { λ _. ⌜ Pass (visitedRanks q (now (ahead .entry)) (now (behind .entry)) (now (part .entry)) (now (places .entry))) total n (now (ranks .entry)) (now (ranks .exit)) false ⌝ }
 {
     if complete(order, n) {
-        settle_in_order(q, masks, table, part, places, order, ranks, n);
+        settle_in_order(q, ahead, behind, part, places, order, ranks, n);
     } else {
-        settle_plainly(q, masks, table, part, places, ranks, n);
+        settle_plainly(q, ahead, behind, part, places, ranks, n);
     }
 }

@@ -1,6 +1,7 @@
 // What an alternative comes to by the ranks as they stand, and the rank of a sequence lowered by its alternatives.
 use crate::entry::Asked;
 use crate::entry::kept;
+use crate::entry::passes;
 use crate::entry::rank_of;
 use crate::entry::traits_of;
 use image::word::is_entry;
@@ -9,9 +10,8 @@ ghost use mathlib.Core.Path.{_≡_};
 ghost use Prim.Native.Nat.{_+_, _≤_, min, max};
 ghost use lib.ListN.{length, drop};
 ghost use Rattle.image.specs.Library.{alternativesFrom};
-ghost use Rattle.chain.specs.Ranks.{depthLook, linkLook};
 ghost use Rattle.chain.specs.Walk.{loweredFrom};
-ghost use Rattle.chain.specs.Tables.{inRanks, markIn, aheadIn, behindIn, lookIn, Readable, Rankable, AlternativeRead};
+ghost use Rattle.chain.specs.Tables.{depthIn, everyIn, fewestIn, lookIn, Readable, Rankable, AlternativeRead};
 
 // What an alternative comes to, and the index of the word after its entries.
 pub struct Read {
@@ -38,9 +38,9 @@ fn greatest(a: u32, b: u32) -> u32
 }
 
 // The greatest depth among the entries that stand from index `at` on.
-fn greatest_depth(q: Asked, masks: &[u64], ranks: &[u32], part: &[u32], at: usize) -> Read
-    requires { ⌜ Rankable q (now masks) (now ranks) (now part) × (at ≤ length (now part)) ⌝ }
-    ensures { λ r. ⌜ AlternativeRead (depthLook (q .none) (markIn q (now (masks .entry))) (inRanks q (now (ranks .entry)))) (now (part .entry)) at r ⌝ }
+fn greatest_depth(none: u32, ranks: &[u32], part: &[u32], at: usize) -> Read
+    requires { ⌜ Rankable none (now ranks) (now part) × (at ≤ length (now part)) ⌝ }
+    ensures { λ r. ⌜ AlternativeRead (depthIn none (now (ranks .entry))) (now (part .entry)) at r ⌝ }
 {
     let mut depth = 0;
     let mut i = at;
@@ -52,7 +52,7 @@ fn greatest_depth(q: Asked, masks: &[u64], ranks: &[u32], part: &[u32], at: usiz
                 next: i,
             };
         }
-        depth = greatest(depth, rank_of(q, masks, ranks, w));
+        depth = greatest(depth, rank_of(none, ranks, w));
         i += 1;
     }
     Read {
@@ -64,18 +64,18 @@ fn greatest_depth(q: Asked, masks: &[u64], ranks: &[u32], part: &[u32], at: usiz
 // The fewest links after this one, among the positions of the entries that stand from index `at` on: an entry that fails as one behind rules
 // out the positions so far.
 fn fewest_links(
-    q: Asked,
-    masks: &[u64],
-    table: &[u64],
+    none: u32,
+    ahead: &[u32],
+    behind: &[u32],
     ranks: &[u32],
     part: &[u32],
     at: usize,
 ) -> Read
-    requires { ⌜ Readable q (now masks) (now table) (now ranks) (now part) × (at ≤ length (now part)) ⌝ }
-    ensures { λ r. ⌜ AlternativeRead (linkLook (q .none) (markIn q (now (masks .entry))) (aheadIn q (now (masks .entry)) (now (table .entry))) (behindIn q (now (masks .entry)) (now (table .entry))) (inRanks q (now (ranks .entry)))) (now (part .entry)) at r ⌝ }
+    requires { ⌜ Readable none (now ahead) (now behind) (now ranks) (now part) × (at ≤ length (now part)) ⌝ }
+    ensures { λ r. ⌜ AlternativeRead (fewestIn none (now (ahead .entry)) (now (behind .entry)) (now (ranks .entry))) (now (part .entry)) at r ⌝ }
 {
     let mut ok = true;
-    let mut best = q.none;
+    let mut best = none;
     let mut i = at;
     while i < part.len() {
         let w = part[i];
@@ -85,8 +85,8 @@ fn fewest_links(
                 next: i,
             };
         }
-        let t = traits_of(q, masks, table, ranks, w);
-        best = least(kept(t.behind, best, q.none), kept(ok, t.rank, q.none));
+        let t = traits_of(none, ahead, behind, ranks, w);
+        best = least(kept(t.behind, best, none), kept(ok, t.rank, none));
         ok = ok & t.ahead;
         i += 1;
     }
@@ -96,22 +96,62 @@ fn fewest_links(
     }
 }
 
+// The index of the first word from index `at` on that is no entry.
+fn after_entries(part: &[u32], at: usize) -> usize
+    requires { ⌜ at ≤ length (now part) ⌝ }
+    ensures { λ r. ⌜ (at ≤ r) × (r ≤ length (now (part .entry))) × (alternativesFrom (drop at (now (part .entry))) ≡ alternativesFrom (drop r (now (part .entry)))) ⌝ }
+{
+    let mut i = at;
+    while i < part.len() {
+        if !is_entry(part[i]) {
+            return i;
+        }
+        i += 1;
+    }
+    i
+}
+
+// Whether all entries that stand from index `at` on have a rank: 0 where they do. After the first without one the others are passed over.
+fn all_ranked(none: u32, ranks: &[u32], part: &[u32], at: usize) -> Read
+    requires { ⌜ Rankable none (now ranks) (now part) × (at ≤ length (now part)) ⌝ }
+    ensures { λ r. ⌜ AlternativeRead (everyIn none (now (ranks .entry))) (now (part .entry)) at r ⌝ }
+{
+    let mut i = at;
+    while i < part.len() {
+        let w = part[i];
+        if !is_entry(w) {
+            return Read { value: 0, next: i };
+        }
+        i += 1;
+        if !passes(none, ranks, w) {
+            return Read {
+                value: none,
+                next: after_entries(part, i),
+            };
+        }
+    }
+    Read { value: 0, next: i }
+}
+
 // What the alternative comes to whose entries stand from index `at` on.
 pub fn read_alternative(
     q: Asked,
-    masks: &[u64],
-    table: &[u64],
+    ahead: &[u32],
+    behind: &[u32],
     ranks: &[u32],
     part: &[u32],
     at: usize,
 ) -> Read
-    requires { ⌜ Readable q (now masks) (now table) (now ranks) (now part) × (at ≤ length (now part)) ⌝ }
-    ensures { λ r. ⌜ AlternativeRead (lookIn q (now (masks .entry)) (now (table .entry)) (inRanks q (now (ranks .entry)))) (now (part .entry)) at r ⌝ }
+    requires { ⌜ Readable (q .none) (now ahead) (now behind) (now ranks) (now part) × (at ≤ length (now part)) ⌝ }
+    ensures { λ r. ⌜ AlternativeRead (lookIn q (now (ahead .entry)) (now (behind .entry)) (now (ranks .entry))) (now (part .entry)) at r ⌝ }
 {
     if q.mark == 2 {
-        return greatest_depth(q, masks, ranks, part, at);
+        return greatest_depth(q.none, ranks, part, at);
     }
-    fewest_links(q, masks, table, ranks, part, at)
+    if q.mark == 3 {
+        return all_ranked(q.none, ranks, part, at);
+    }
+    fewest_links(q.none, ahead, behind, ranks, part, at)
 }
 
 // A rank lowered by an alternative: a sequence is one above the least of its alternatives.
@@ -127,15 +167,15 @@ fn lower(r: u32, value: u32) -> u32
 // The rank lowered by the alternatives that stand from index `at` on, up to the next sequence. A sequence has no rank below 1.
 pub fn lowered_rank(
     q: Asked,
-    masks: &[u64],
-    table: &[u64],
+    ahead: &[u32],
+    behind: &[u32],
     ranks: &[u32],
     part: &[u32],
     at: usize,
     rank: u32,
 ) -> u32
-    requires { ⌜ Readable q (now masks) (now table) (now ranks) (now part) × (at ≤ length (now part)) ⌝ }
-    ensures { λ r. ⌜ r ≡ loweredFrom (lookIn q (now (masks .entry)) (now (table .entry)) (inRanks q (now (ranks .entry)))) rank (alternativesFrom (drop at (now (part .entry)))) ⌝ }
+    requires { ⌜ Readable (q .none) (now ahead) (now behind) (now ranks) (now part) × (at ≤ length (now part)) ⌝ }
+    ensures { λ r. ⌜ r ≡ loweredFrom (lookIn q (now (ahead .entry)) (now (behind .entry)) (now (ranks .entry))) rank (alternativesFrom (drop at (now (part .entry)))) ⌝ }
 {
     let mut r = rank;
     let mut i = at;
@@ -146,7 +186,7 @@ pub fn lowered_rank(
         let w = part[i];
         i += 1;
         if is_kind(7, w) {
-            let found = read_alternative(q, masks, table, ranks, part, i);
+            let found = read_alternative(q, ahead, behind, ranks, part, i);
             r = lower(r, found.value);
             i = found.next;
         } else if !is_entry(w) {

@@ -44,8 +44,8 @@ fn after_opener(places: &[u32], c: u32) -> usize
 // Writes the words of `count` links, the first about sequence `c`. Words past them stay.
 fn write_links(
     q: Asked,
-    masks: &[u64],
-    table: &[u64],
+    ahead: &[u32],
+    behind: &[u32],
     ranks: &[u32],
     part: &[u32],
     places: &[u32],
@@ -53,15 +53,15 @@ fn write_links(
     count: u32,
     c: u32,
 )
-    requires { ⌜ Choosable q (now masks) (now table) (now ranks) (now part) (now places) × (2 * count ≤ length (now area)) × (c < 2 ^ 28) ⌝ }
-    ensures { λ _. ⌜ now (area .exit) ≡ chainWords (linksIn q (now (masks .entry)) (now (table .entry)) (now (ranks .entry)) (now (part .entry)) (now (places .entry)) count c) ++ drop (2 * count) (now (area .entry)) ⌝ }
+    requires { ⌜ Choosable q (now ahead) (now behind) (now ranks) (now part) (now places) × (2 * count ≤ length (now area)) × (c < 2 ^ 28) ⌝ }
+    ensures { λ _. ⌜ now (area .exit) ≡ chainWords (linksIn q (now (ahead .entry)) (now (behind .entry)) (now (ranks .entry)) (now (part .entry)) (now (places .entry)) count c) ++ drop (2 * count) (now (area .entry)) ⌝ }
 {
     let mut d = c;
     let mut k = count;
     let mut at = 0;
     while 0 < k {
         k -= 1;
-        let link = chosen_link(q, masks, table, ranks, part, after_opener(places, d), k);
+        let link = chosen_link(q, ahead, behind, ranks, part, after_opener(places, d), k);
         put_link(
             area,
             at,
@@ -85,35 +85,35 @@ fn before(rank: u32) -> u32
 // Writes the one link of a question that asks for no touch.
 fn write_quiet(
     q: Asked,
-    masks: &[u64],
-    table: &[u64],
+    ahead: &[u32],
+    behind: &[u32],
     ranks: &[u32],
     part: &[u32],
     places: &[u32],
     area: &mut [u32],
     c: u32,
 )
-    requires { ⌜ Choosable q (now masks) (now table) (now ranks) (now part) (now places) × (2 ≤ length (now area)) × (c < 2 ^ 28) × (c < length (now ranks)) ⌝ }
-    ensures { λ _. ⌜ now (area .exit) ≡ chainWords (quietLink q (now (masks .entry)) (now (table .entry)) (now (ranks .entry)) (now (part .entry)) (now (places .entry)) c ∷ []) ++ drop 2 (now (area .entry)) ⌝ }
+    requires { ⌜ Choosable q (now ahead) (now behind) (now ranks) (now part) (now places) × (2 ≤ length (now area)) × (c < 2 ^ 28) × (c < length (now ranks)) ⌝ }
+    ensures { λ _. ⌜ now (area .exit) ≡ chainWords (quietLink q (now (ahead .entry)) (now (behind .entry)) (now (ranks .entry)) (now (part .entry)) (now (places .entry)) c ∷ []) ++ drop 2 (now (area .entry)) ⌝ }
 {
     let k = before(ranks[c as usize]);
-    let alternative = chosen_alternative(q, masks, table, ranks, part, after_opener(places, c), k);
+    let alternative = chosen_alternative(q, ahead, behind, ranks, part, after_opener(places, c), k);
     put_link(area, 0, choice_word(c, alternative), 3221225472);
 }
 
 // The answer by the ranks: the chain of sequence `c` where it has one and the area has room for it.
 pub fn write_chain(
     q: Asked,
-    masks: &[u64],
-    table: &[u64],
+    ahead: &[u32],
+    behind: &[u32],
     ranks: &[u32],
     part: &[u32],
     places: &[u32],
     area: &mut [u32],
     c: u32,
 ) -> Chained
-    requires { ⌜ Choosable q (now masks) (now table) (now ranks) (now part) (now places) × (c < 2 ^ 28) × (c < length (now ranks)) ⌝ }
-    ensures { λ r. ⌜ Answered (answerIn q (now (masks .entry)) (now (table .entry)) (now (ranks .entry)) (now (part .entry)) (now (places .entry)) c) (now (area .entry)) r (now (area .exit)) ⌝ }
+    requires { ⌜ Choosable q (now ahead) (now behind) (now ranks) (now part) (now places) × (c < 2 ^ 28) × (c < length (now ranks)) ⌝ }
+    ensures { λ r. ⌜ Answered (answerIn q (now (ahead .entry)) (now (behind .entry)) (now (ranks .entry)) (now (part .entry)) (now (places .entry)) c) (now (area .entry)) r (now (area .exit)) ⌝ }
 {
     let rank = ranks[c as usize];
     if q.none <= rank {
@@ -123,12 +123,12 @@ pub fn write_chain(
         if area.len() < 2 {
             return Chained::Refused(Refusal::ChainArea);
         }
-        write_quiet(q, masks, table, ranks, part, places, area, c);
+        write_quiet(q, ahead, behind, ranks, part, places, area, c);
         return Chained::Shown(Links { count: 1 });
     }
     if area.len() < 2 * rank as usize {
         return Chained::Refused(Refusal::ChainArea);
     }
-    write_links(q, masks, table, ranks, part, places, area, rank, c);
+    write_links(q, ahead, behind, ranks, part, places, area, rank, c);
     Chained::Shown(Links { count: rank })
 }

@@ -6,7 +6,7 @@ use native.Mathlib.Omega.{arith}
 use mathlib.Core.Path.{sym, _∙_}
 use Prim.Native.Nat.{_-_}
 use lib.ListN.{length}
-use Rattle.chain.specs.Tables.{inRanks, lookIn}
+use Rattle.chain.specs.Tables.{lookIn}
 use Rattle.chain.proofs.Choices.{Picking, picking-start, picking-skip, picking-turn, picking-found, picking-out, picking-end}
 use Rattle.chain.proofs.link.chosen_alternative.Statement.{statement}
 use Rattle.chain.proofs.link.chosen_alternative.Tie as tie
@@ -17,10 +17,10 @@ use Rattle.image.proofs.word.is_entry.Reads as is-entry-reads
 use Rattle.image.proofs.word.is_kind.Reads as is-kind-reads
 
 abbrev Inv-loop : tie.InvT-loop
-Inv-loop q masks table ranks part at k alternative₀ i₀ alternative i = Picking (lookIn q masks table (inRanks q ranks)) part k at alternative i
+Inv-loop q ahead behind ranks part at k alternative₀ i₀ alternative i = Picking (lookIn q ahead behind ranks) part k at alternative i
 
 abbrev μ-loop : tie.MeasureT-loop
-μ-loop q masks table ranks part at k alternative₀ i₀ alternative i = length part - i
+μ-loop q ahead behind ranks part at k alternative₀ i₀ alternative i = length part - i
 
 loop-holds : tie.Need-loop-holds Inv-loop μ-loop
 loop-holds c = search needs
@@ -47,7 +47,7 @@ returns c =
     let at-loop = kinds .before .before .before in
     let start = at-loop .before .before .before .before .before in
     let a = start .args in (
-      picking-found (lookIn (a .q) (a .masks .now) (a .table .now) (inRanks (a .q) (a .ranks .now))) (a .part .now) (a .k) (a .at) (at-loop .loop .alternative) (at-loop .loop .i) (at-loop .loop .inv) (omega arith) (sym (kinds .is-kind .ensures) ∙ read .before .if1 .taken) (read .read-alternative .result) (read .read-alternative .ensures) (c .if2 .taken),
+      picking-found (lookIn (a .q) (a .ahead .now) (a .behind .now) (a .ranks .now)) (a .part .now) (a .k) (a .at) (at-loop .loop .alternative) (at-loop .loop .i) (at-loop .loop .inv) (omega arith) (sym (kinds .is-kind .ensures) ∙ read .before .if1 .taken) (read .read-alternative .result) (read .read-alternative .ensures) (c .if2 .taken),
       omega (arith, at-loop .loop .inv .low, at-loop .loop .inv .walk .within, start .pre .2),
     )
 
@@ -64,7 +64,7 @@ loop-again c =
     let at-loop = kinds .before .before .before in
     let start = at-loop .before .before .before .before .before in
     let a = start .args in
-    picking-turn (lookIn (a .q) (a .masks .now) (a .table .now) (inRanks (a .q) (a .ranks .now))) (a .part .now) (a .k) (a .at) (at-loop .loop .alternative) (at-loop .loop .i) (at-loop .loop .inv) (omega arith) (sym (kinds .is-kind .ensures) ∙ read .before .if1 .taken) (read .read-alternative .result) (read .read-alternative .ensures) (c .if2 .left)
+    picking-turn (lookIn (a .q) (a .ahead .now) (a .behind .now) (a .ranks .now)) (a .part .now) (a .k) (a .at) (at-loop .loop .alternative) (at-loop .loop .i) (at-loop .loop .inv) (omega arith) (sym (kinds .is-kind .ensures) ∙ read .before .if1 .taken) (read .read-alternative .result) (read .read-alternative .ensures) (c .if2 .left)
 
 is-entry-requires : tie.Need-is-entry-requires Inv-loop μ-loop
 is-entry-requires c κs = search needs
@@ -76,7 +76,7 @@ returns-2 c =
     let at-loop = kinds .before .before .before in
     let start = at-loop .before .before .before .before .before in
     let a = start .args in (
-      picking-out (lookIn (a .q) (a .masks .now) (a .table .now) (inRanks (a .q) (a .ranks .now))) (a .part .now) (a .k) (a .at) (at-loop .loop .alternative) (at-loop .loop .i) (at-loop .loop .inv) (omega arith) (sym (kinds .is-kind .ensures) ∙ entry .before .if1 .left) (sym (entry .is-entry .ensures) ∙ not-true _ (c .if3 .taken)),
+      picking-out (lookIn (a .q) (a .ahead .now) (a .behind .now) (a .ranks .now)) (a .part .now) (a .k) (a .at) (at-loop .loop .alternative) (at-loop .loop .i) (at-loop .loop .inv) (omega arith) (sym (kinds .is-kind .ensures) ∙ entry .before .if1 .left) (sym (entry .is-entry .ensures) ∙ not-true _ (c .if3 .taken)),
       omega (arith, at-loop .loop .inv .low, at-loop .loop .inv .walk .within, start .pre .2),
     )
 
@@ -90,14 +90,14 @@ loop-again-2 c =
     let at-loop = kinds .before .before .before in
     let start = at-loop .before .before .before .before .before in
     let a = start .args in
-    picking-skip (lookIn (a .q) (a .masks .now) (a .table .now) (inRanks (a .q) (a .ranks .now))) (a .part .now) (a .k) (a .at) (at-loop .loop .alternative) (at-loop .loop .i) (at-loop .loop .inv) (omega arith) (sym (kinds .is-kind .ensures) ∙ entry .before .if1 .left) (sym (entry .is-entry .ensures) ∙ not-false _ (c .if3 .left))
+    picking-skip (lookIn (a .q) (a .ahead .now) (a .behind .now) (a .ranks .now)) (a .part .now) (a .k) (a .at) (at-loop .loop .alternative) (at-loop .loop .i) (at-loop .loop .inv) (omega arith) (sym (kinds .is-kind .ensures) ∙ entry .before .if1 .left) (sym (entry .is-entry .ensures) ∙ not-false _ (c .if3 .left))
 
 returns-3 : tie.Need-returns-3 Inv-loop μ-loop
 returns-3 c =
     let at-loop = c .before in
     let start = at-loop .before .before .before .before .before in
     let a = start .args in (
-      picking-end (lookIn (a .q) (a .masks .now) (a .table .now) (inRanks (a .q) (a .ranks .now))) (a .part .now) (a .k) (a .at) (at-loop .loop .alternative) (at-loop .loop .i) (at-loop .loop .inv) (omega (arith, c .loop-test .left, at-loop .loop .inv .walk .within)),
+      picking-end (lookIn (a .q) (a .ahead .now) (a .behind .now) (a .ranks .now)) (a .part .now) (a .k) (a .at) (at-loop .loop .alternative) (at-loop .loop .i) (at-loop .loop .inv) (omega (arith, c .loop-test .left, at-loop .loop .inv .walk .within)),
       omega (arith, at-loop .loop .inv .low, at-loop .loop .inv .walk .within, start .pre .2),
     )
 

@@ -20,22 +20,22 @@ use Rattle.image.proofs.word.is_kind.Reads as is-kind-reads
 use Rattle.image.proofs.word.payload_of.Reads as payload-of-reads
 
 abbrev Inv-loop : tie.InvT-loop
-Inv-loop q masks table ranks part at k alternative i₀ w start quiet ok₀ i ok = Placing q masks table ranks part k start ok i
+Inv-loop q ahead behind ranks part at k alternative i₀ w start quiet ok₀ i ok = Placing q ahead behind ranks part k start ok i
 
 abbrev μ-loop : tie.MeasureT-loop
-μ-loop q masks table ranks part at k alternative i₀ w start quiet ok₀ i ok = length part - i
+μ-loop q ahead behind ranks part at k alternative i₀ w start quiet ok₀ i ok = length part - i
 
 abbrev Inv-found : tie.InvT-found
-Inv-found q masks table ranks part at k alternative₀ i₀ alternative i = Choosing q masks table ranks part k at alternative i
+Inv-found q ahead behind ranks part at k alternative₀ i₀ alternative i = Choosing q ahead behind ranks part k at alternative i
 
 abbrev μ-found : tie.MeasureT-found
-μ-found q masks table ranks part at k alternative₀ i₀ alternative i = length part - i
+μ-found q ahead behind ranks part at k alternative₀ i₀ alternative i = length part - i
 
 found-holds : tie.Need-found-holds Inv-loop μ-loop Inv-found μ-found
 found-holds c =
     let start = c .before .before .before .before in
     let a = start .args in
-    choosing-start (a .q) (a .masks .now) (a .table .now) (a .ranks .now) (a .part .now) (a .k) (a .at) (start .pre .1)
+    choosing-start (a .q) (a .ahead .now) (a .behind .now) (a .ranks .now) (a .part .now) (a .k) (a .at) (start .pre .1)
 
 mul-w : tie.Need-mul-w Inv-loop μ-loop Inv-found μ-found
 mul-w c = search needs
@@ -56,7 +56,7 @@ loop-holds : tie.Need-loop-holds Inv-loop μ-loop Inv-found μ-found
 loop-holds c =
     let at-found = c .before .before .before .before .before in
     let a = at-found .before .before .before .before .before .args in
-    placing-start (a .q) (a .masks .now) (a .table .now) (a .ranks .now) (a .part .now) (a .k) (at-found .found .i + 1) (omega arith)
+    placing-start (a .q) (a .ahead .now) (a .behind .now) (a .ranks .now) (a .part .now) (a .k) (at-found .found .i + 1) (omega arith)
 
 mul-e : tie.Need-mul-e Inv-loop μ-loop Inv-found μ-found
 mul-e c = search needs
@@ -71,7 +71,7 @@ traits-of-requires : tie.Need-traits-of-requires Inv-loop μ-loop Inv-found μ-f
 traits-of-requires c κs =
     let at-loop = c .before .before .before .before in
     let start = at-loop .before .before .before .before .before .before .before .before .before .before .before in
-    (start .pre .0 .fact, start .pre .0 .within (at-loop .loop .i) (omega arith), sym (c .before .is-entry .ensures) ∙ not-false _ (c .if3 .left))
+    (start .pre .0 .by-ahead .within (at-loop .loop .i) (omega arith), start .pre .0 .by-behind .within (at-loop .loop .i) (omega arith), start .pre .0 .by-ranks .within (at-loop .loop .i) (omega arith), sym (c .before .is-entry .ensures) ∙ not-false _ (c .if3 .left))
 
 add-next : tie.Need-add-next Inv-loop μ-loop Inv-found μ-found
 add-next c = search needs
@@ -96,7 +96,7 @@ loop-again c =
     let quiet = at-loop .before in
     let at-found = quiet .before .before .before .before .before in
     let a = at-found .before .before .before .before .before .args in
-    placing-turn (a .q) (a .masks .now) (a .table .now) (a .ranks .now) (a .part .now) (a .k) (at-found .found .i + 1) (quiet .quiet-from .result) (quiet .quiet-from .ensures) (at-loop .loop .ok) (at-loop .loop .i)
+    placing-turn (a .q) (a .ahead .now) (a .behind .now) (a .ranks .now) (a .part .now) (a .k) (at-found .found .i + 1) (quiet .quiet-from .result) (quiet .quiet-from .ensures) (at-loop .loop .ok) (at-loop .loop .i)
     (at-loop .loop .inv) (omega arith) (sym (entry .is-entry .ensures) ∙ not-false _ (traits .before .if3 .left))
     (traits .traits-of .result) (traits .traits-of .ensures) (c .before .if4 .left)
 
@@ -112,11 +112,11 @@ found-again c =
     let kinds = at-loop .before .before .before in
     let at-found = kinds .before .before .before in
     let a = at-found .before .before .before .before .before .args in
-    choosing-turn (a .q) (a .masks .now) (a .table .now) (a .ranks .now) (a .part .now) (a .k) (a .at) (at-found .found .alternative) (at-found .found .i) (at-found .found .inv) (omega arith)
+    choosing-turn (a .q) (a .ahead .now) (a .behind .now) (a .ranks .now) (a .part .now) (a .k) (a .at) (at-found .found .alternative) (at-found .found .i) (at-found .found .inv) (omega arith)
     (sym (kinds .is-kind .ensures) ∙ at-loop .before .before .if2 .taken) (at-loop .loop .ok) (at-loop .loop .i) (at-loop .loop .inv)
     (⊎-elim
-    (λ o. placing-end (a .q) (a .masks .now) (a .table .now) (a .ranks .now) (a .part .now) (a .k) (at-found .found .i + 1) (at-loop .loop .ok) (at-loop .loop .i) (at-loop .loop .inv) (omega (arith, o .left, at-loop .loop .inv .within)))
-    (λ o. placing-out (a .q) (a .masks .now) (a .table .now) (a .ranks .now) (a .part .now) (a .k) (at-found .found .i + 1) (at-loop .loop .ok) (at-loop .loop .i) (at-loop .loop .inv) (o .0 .taken)
+    (λ o. placing-end (a .q) (a .ahead .now) (a .behind .now) (a .ranks .now) (a .part .now) (a .k) (at-found .found .i + 1) (at-loop .loop .ok) (at-loop .loop .i) (at-loop .loop .inv) (omega (arith, o .left, at-loop .loop .inv .within)))
+    (λ o. placing-out (a .q) (a .ahead .now) (a .behind .now) (a .ranks .now) (a .part .now) (a .k) (at-found .found .i + 1) (at-loop .loop .ok) (at-loop .loop .i) (at-loop .loop .inv) (o .0 .taken)
     (sym (o .2 .ensures) ∙ not-true _ (o .3 .taken)))
     (c .loop-test .came))
 
@@ -132,14 +132,14 @@ found-again-2 c =
     let kinds = entry .before .before in
     let at-found = kinds .before .before .before in
     let a = at-found .before .before .before .before .before .args in
-    choosing-skip (a .q) (a .masks .now) (a .table .now) (a .ranks .now) (a .part .now) (a .k) (a .at) (at-found .found .alternative) (at-found .found .i) (at-found .found .inv) (omega arith)
+    choosing-skip (a .q) (a .ahead .now) (a .behind .now) (a .ranks .now) (a .part .now) (a .k) (a .at) (at-found .found .alternative) (at-found .found .i) (at-found .found .inv) (omega arith)
     (sym (kinds .is-kind .ensures) ∙ entry .before .if2 .left) (sym (entry .is-entry2 .ensures) ∙ not-false _ (c .if5 .left))
 
 returns : tie.Need-returns Inv-loop μ-loop Inv-found μ-found
 returns c =
     let at-found = c .before in
     let a = at-found .before .before .before .before .before .args in
-    choosing-end (a .q) (a .masks .now) (a .table .now) (a .ranks .now) (a .part .now) (a .k) (a .at) (at-found .found .alternative) (at-found .found .i) (at-found .found .inv) (omega (arith, c .if1 .taken, at-found .found .inv .walk 0 .within))
+    choosing-end (a .q) (a .ahead .now) (a .behind .now) (a .ranks .now) (a .part .now) (a .k) (a .at) (at-found .found .alternative) (at-found .found .i) (at-found .found .inv) (omega (arith, c .if1 .taken, at-found .found .inv .walk 0 .within))
 
 returns-2 : tie.Need-returns-2 Inv-loop μ-loop Inv-found μ-found
 returns-2 c =
@@ -151,7 +151,7 @@ returns-2 c =
     let at-found = kinds .before .before .before in
     let a = at-found .before .before .before .before .before .args in
     rw (c .payload-of .ensures)
-    (choosing-found (a .q) (a .masks .now) (a .table .now) (a .ranks .now) (a .part .now) (a .k) (a .at) (at-found .found .alternative) (at-found .found .i) (at-found .found .inv) (omega arith)
+    (choosing-found (a .q) (a .ahead .now) (a .behind .now) (a .ranks .now) (a .part .now) (a .k) (a .at) (at-found .found .alternative) (at-found .found .i) (at-found .found .inv) (omega arith)
     (sym (kinds .is-kind .ensures) ∙ quiet .before .if2 .taken) (quiet .quiet-from .result) (quiet .quiet-from .ensures) (at-loop .loop .ok) (at-loop .loop .i)
     (at-loop .loop .inv) (omega arith) (sym (entry .is-entry .ensures) ∙ not-false _ (traits .before .if3 .left))
     (traits .traits-of .result) (traits .traits-of .ensures) (c .before .if4 .taken))
@@ -162,7 +162,7 @@ returns-3 c =
     let kinds = entry .before .before in
     let at-found = kinds .before .before .before in
     let a = at-found .before .before .before .before .before .args in
-    choosing-out (a .q) (a .masks .now) (a .table .now) (a .ranks .now) (a .part .now) (a .k) (a .at) (at-found .found .alternative) (at-found .found .i) (at-found .found .inv) (omega arith)
+    choosing-out (a .q) (a .ahead .now) (a .behind .now) (a .ranks .now) (a .part .now) (a .k) (a .at) (at-found .found .alternative) (at-found .found .i) (at-found .found .inv) (omega arith)
     (sym (kinds .is-kind .ensures) ∙ entry .before .if2 .left) (sym (entry .is-entry2 .ensures) ∙ not-true _ (c .if5 .taken))
 
 pub chosen-link-spec : {M : Type 1} → statement M

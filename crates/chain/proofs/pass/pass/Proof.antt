@@ -17,11 +17,11 @@ use Rattle.chain.proofs.pass.visit.Reads as visit-reads
 use Rattle.outcome.proofs.pass.place_of.Reads as place-of-reads
 
 abbrev Inv-loop : tie.InvT-loop
-Inv-loop q masks table part places order forward ranks₀ n changed₀ i₀ ranks changed i =
-    Sweeping (visitedRanks q masks table part places) total n order forward ranks₀ ranks changed i
+Inv-loop q ahead behind part places order forward ranks₀ n changed₀ i₀ ranks changed i =
+    Sweeping (visitedRanks q ahead behind part places) total n order forward ranks₀ ranks changed i
 
 abbrev μ-loop : tie.MeasureT-loop
-μ-loop q masks table part places order forward ranks₀ n changed₀ i₀ ranks changed i = length order - i
+μ-loop q ahead behind part places order forward ranks₀ n changed₀ i₀ ranks changed i = length order - i
 
 loop-holds : tie.Need-loop-holds Inv-loop μ-loop
 loop-holds c =
@@ -47,7 +47,7 @@ visit-requires c κs =
     let at-loop = c .before .before .before .before .before in
     let start = at-loop .before .before .before .before .before .before .before in
     let a = start .args in
-    (visitable-at (at-loop .loop .ranks) (reached-length (visits-lower (a .q) (a .masks .now) (a .table .now) (a .part .now) (a .places .now) (a .n)) (at-loop .loop .inv .reached)) (start .pre), c .before .if1 .taken)
+    (visitable-at (at-loop .loop .ranks) (reached-length (visits-lower (a .q) (a .ahead .now) (a .behind .now) (a .part .now) (a .places .now) (a .n)) (at-loop .loop .inv .reached)) (start .pre), c .before .if1 .taken)
 
 loop-less : tie.Need-loop-less Inv-loop μ-loop
 loop-less c = search needs
@@ -59,7 +59,7 @@ loop-again c =
     let at-loop = place .before .before in
     let start = at-loop .before .before .before .before .before .before .before in
     let a = start .args in
-    sweeping-turn (visits-lower (a .q) (a .masks .now) (a .table .now) (a .part .now) (a .places .now) (a .n)) (a .order .now) (a .forward) (a .ranks .now) (at-loop .loop .ranks) (at-loop .loop .changed) (at-loop .loop .i) _ (visit .visit .last .1 .1 .1 .1 .1 .0) (visit .visit .result)
+    sweeping-turn (visits-lower (a .q) (a .ahead .now) (a .behind .now) (a .part .now) (a .places .now) (a .n)) (a .order .now) (a .forward) (a .ranks .now) (at-loop .loop .ranks) (at-loop .loop .changed) (at-loop .loop .i) _ (visit .visit .last .1 .1 .1 .1 .1 .0) (visit .visit .result)
     (start .pre .ranked) (place .before .loop-test .taken) (ap (λ (j : ℕ). getD (a .order .now) j 0) (place .place-of .ensures .0)) (visit .before .before .if1 .taken) (at-loop .loop .inv) (visit .visit .ensures)
 
 loop-less-2 : tie.Need-loop-less-2 Inv-loop μ-loop
@@ -76,7 +76,7 @@ loop-again-2 c =
 same-length : tie.Need-same-length Inv-loop μ-loop
 same-length c =
     let a = c .before .before .before .before .before .before .before .before .args in
-    reached-length (visits-lower (a .q) (a .masks .now) (a .table .now) (a .part .now) (a .places .now) (a .n)) (c .before .loop .inv .reached)
+    reached-length (visits-lower (a .q) (a .ahead .now) (a .behind .now) (a .part .now) (a .places .now) (a .n)) (c .before .loop .inv .reached)
 
 returns : tie.Need-returns Inv-loop μ-loop
 returns c =

@@ -14,10 +14,10 @@ use Rattle.chain.proofs.pass.plain_pass.Lts as lts
 use Rattle.chain.proofs.pass.visit.Reads as visit-reads
 
 abbrev Inv-loop : tie.InvT-loop
-Inv-loop q masks table part places ranks₀ n changed₀ c₀ ranks changed c = Passing (visitedRanks q masks table part places) total n ranks₀ ranks changed c
+Inv-loop q ahead behind part places ranks₀ n changed₀ c₀ ranks changed c = Passing (visitedRanks q ahead behind part places) total n ranks₀ ranks changed c
 
 abbrev μ-loop : tie.MeasureT-loop
-μ-loop q masks table part places ranks₀ n changed₀ c₀ ranks changed c = n - c
+μ-loop q ahead behind part places ranks₀ n changed₀ c₀ ranks changed c = n - c
 
 loop-holds : tie.Need-loop-holds Inv-loop μ-loop
 loop-holds c = let a = c .before .before .before .before .before .args in passing-start (a .ranks .now)
@@ -27,7 +27,7 @@ visit-requires c κs =
     let at-loop = c .before .before in
     let start = at-loop .before .before .before .before .before .before in
     let a = start .args in
-    (visitable-at (at-loop .loop .ranks) (reached-length (visits-lower (a .q) (a .masks .now) (a .table .now) (a .part .now) (a .places .now) (a .n)) (at-loop .loop .inv .reached)) (start .pre), c .before .loop-test .taken)
+    (visitable-at (at-loop .loop .ranks) (reached-length (visits-lower (a .q) (a .ahead .now) (a .behind .now) (a .part .now) (a .places .now) (a .n)) (at-loop .loop .inv .reached)) (start .pre), c .before .loop-test .taken)
 
 add-c : tie.Need-add-c Inv-loop μ-loop
 add-c c = search needs
@@ -41,11 +41,11 @@ loop-again c =
     let at-loop = visit .before .before .before in
     let start = at-loop .before .before .before .before .before .before in
     let a = start .args in
-    passing-turn (visits-lower (a .q) (a .masks .now) (a .table .now) (a .part .now) (a .places .now) (a .n)) (a .ranks .now) (at-loop .loop .ranks) (at-loop .loop .changed) (at-loop .loop .c) (visit .visit .last .1 .1 .1 .1 .1 .0) (visit .visit .result)
+    passing-turn (visits-lower (a .q) (a .ahead .now) (a .behind .now) (a .part .now) (a .places .now) (a .n)) (a .ranks .now) (at-loop .loop .ranks) (at-loop .loop .changed) (at-loop .loop .c) (visit .visit .last .1 .1 .1 .1 .1 .0) (visit .visit .result)
     (start .pre .ranked) (visit .before .before .loop-test .taken) (at-loop .loop .inv) (visit .visit .ensures)
 
 same-length : tie.Need-same-length Inv-loop μ-loop
-same-length c = let a = c .before .before .before .before .before .before .before .args in reached-length (visits-lower (a .q) (a .masks .now) (a .table .now) (a .part .now) (a .places .now) (a .n)) (c .before .loop .inv .reached)
+same-length c = let a = c .before .before .before .before .before .before .before .args in reached-length (visits-lower (a .q) (a .ahead .now) (a .behind .now) (a .part .now) (a .places .now) (a .n)) (c .before .loop .inv .reached)
 
 returns : tie.Need-returns Inv-loop μ-loop
 returns c =

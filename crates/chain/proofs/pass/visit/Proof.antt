@@ -46,7 +46,7 @@ returns : tie.Need-returns
 returns c =
     let start = c .before .before .before .before .before .before .before .before .before in
     let a = start .args in
-    visit-made (a .q) (a .masks .now) (a .table .now) (a .part .now) (a .places .now) (a .ranks .now) (a .c) _ (c .lowered-rank .result) _
+    visit-made (a .q) (a .ahead .now) (a .behind .now) (a .part .now) (a .places .now) (a .ranks .now) (a .c) _ (c .lowered-rank .result) _
     (omega (arith, start .pre .0 .ranked, start .pre .1)) refl (c .lowered-rank .ensures) refl
 
 pub visit-spec : {M : Type 1} → statement M

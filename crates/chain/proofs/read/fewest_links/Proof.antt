@@ -17,16 +17,16 @@ use Rattle.chain.proofs.read.least.Reads as least-reads
 use Rattle.image.proofs.word.is_entry.Reads as is-entry-reads
 
 abbrev Inv-loop : tie.InvT-loop
-Inv-loop q masks table ranks part at ok₀ best₀ i₀ ok best i = Fewest q masks table ranks part at ok best i
+Inv-loop none ahead behind ranks part at ok₀ best₀ i₀ ok best i = Fewest none ahead behind ranks part at ok best i
 
 abbrev μ-loop : tie.MeasureT-loop
-μ-loop q masks table ranks part at ok₀ best₀ i₀ ok best i = length part - i
+μ-loop none ahead behind ranks part at ok₀ best₀ i₀ ok best i = length part - i
 
 loop-holds : tie.Need-loop-holds Inv-loop μ-loop
 loop-holds c =
     let start = c .before .before .before .before in
     let a = start .args in
-    fewest-start (a .q) (a .masks .now) (a .table .now) (a .ranks .now) (a .part .now) (a .at) (start .pre .1)
+    fewest-start (a .none) (a .ahead .now) (a .behind .now) (a .ranks .now) (a .part .now) (a .at) (start .pre .1)
 
 mul-w : tie.Need-mul-w Inv-loop μ-loop
 mul-w c = search needs
@@ -42,14 +42,14 @@ returns c =
     let entry = c .before in
     let at-loop = entry .before .before .before in
     let a = at-loop .before .before .before .before .before .args in
-    fewest-out (a .q) (a .masks .now) (a .table .now) (a .ranks .now) (a .part .now) (a .at) (at-loop .loop .ok) (at-loop .loop .best) (at-loop .loop .i) (at-loop .loop .inv) (omega arith)
+    fewest-out (a .none) (a .ahead .now) (a .behind .now) (a .ranks .now) (a .part .now) (a .at) (at-loop .loop .ok) (at-loop .loop .best) (at-loop .loop .i) (at-loop .loop .inv) (omega arith)
     (sym (entry .is-entry .ensures) ∙ not-true _ (c .if1 .taken))
 
 traits-of-requires : tie.Need-traits-of-requires Inv-loop μ-loop
 traits-of-requires c κs =
     let at-loop = c .before .before .before .before in
     let start = at-loop .before .before .before .before .before in
-    (start .pre .0 .fact, start .pre .0 .within (at-loop .loop .i) (omega arith), sym (c .before .is-entry .ensures) ∙ not-false _ (c .if1 .left))
+    (start .pre .0 .by-ahead .within (at-loop .loop .i) (omega arith), start .pre .0 .by-behind .within (at-loop .loop .i) (omega arith), start .pre .0 .by-ranks .within (at-loop .loop .i) (omega arith), sym (c .before .is-entry .ensures) ∙ not-false _ (c .if1 .left))
 
 kept-requires : tie.Need-kept-requires Inv-loop μ-loop
 kept-requires c κs = search needs
@@ -75,14 +75,14 @@ loop-again c =
     let at-loop = entry .before .before .before in
     let a = at-loop .before .before .before .before .before .args in
     rw (c .before .least .ensures, c .before .before .kept2 .ensures, c .before .before .before .kept .ensures)
-    (fewest-turn (a .q) (a .masks .now) (a .table .now) (a .ranks .now) (a .part .now) (a .at) (at-loop .loop .ok) (at-loop .loop .best) (at-loop .loop .i) (at-loop .loop .inv) (omega arith)
+    (fewest-turn (a .none) (a .ahead .now) (a .behind .now) (a .ranks .now) (a .part .now) (a .at) (at-loop .loop .ok) (at-loop .loop .best) (at-loop .loop .i) (at-loop .loop .inv) (omega arith)
     (sym (entry .is-entry .ensures) ∙ not-false _ (traits .before .if1 .left)) (traits .traits-of .result) (traits .traits-of .ensures))
 
 returns-2 : tie.Need-returns-2 Inv-loop μ-loop
 returns-2 c =
     let at-loop = c .before in
     let a = at-loop .before .before .before .before .before .args in
-    fewest-end (a .q) (a .masks .now) (a .table .now) (a .ranks .now) (a .part .now) (a .at) (at-loop .loop .ok) (at-loop .loop .best) (at-loop .loop .i) (at-loop .loop .inv) (omega arith)
+    fewest-end (a .none) (a .ahead .now) (a .behind .now) (a .ranks .now) (a .part .now) (a .at) (at-loop .loop .ok) (at-loop .loop .best) (at-loop .loop .i) (at-loop .loop .inv) (omega arith)
 
 pub fewest-links-spec : {M : Type 1} → statement M
 fewest-links-spec =

@@ -8,7 +8,7 @@ use Prim.Native.Nat.{_-_}
 use lib.ListN.{length, drop}
 use Rattle.image.specs.Library.{alternativesFrom}
 use Rattle.chain.specs.Walk.{loweredFrom}
-use Rattle.chain.specs.Tables.{inRanks, lookIn}
+use Rattle.chain.specs.Tables.{lookIn}
 use Rattle.chain.proofs.Looks.{Lowering, lowering-low, lowering-turn, lowering-skip, lowering-out, lowering-end}
 use Rattle.chain.proofs.read.lowered_rank.Statement.{statement}
 use Rattle.chain.proofs.read.lowered_rank.Tie as tie
@@ -20,12 +20,12 @@ use Rattle.image.proofs.word.is_entry.Reads as is-entry-reads
 use Rattle.image.proofs.word.is_kind.Reads as is-kind-reads
 
 abbrev Inv-loop : tie.InvT-loop
-Inv-loop q masks table ranks part at rank r₀ i₀ r i =
-    Lowering (lookIn q masks table (inRanks q ranks)) part
-    (loweredFrom (lookIn q masks table (inRanks q ranks)) rank (alternativesFrom (drop at part))) r i
+Inv-loop q ahead behind ranks part at rank r₀ i₀ r i =
+    Lowering (lookIn q ahead behind ranks) part
+    (loweredFrom (lookIn q ahead behind ranks) rank (alternativesFrom (drop at part))) r i
 
 abbrev μ-loop : tie.MeasureT-loop
-μ-loop q masks table ranks part at rank r₀ i₀ r i = length part - i
+μ-loop q ahead behind ranks part at rank r₀ i₀ r i = length part - i
 
 loop-holds : tie.Need-loop-holds Inv-loop μ-loop
 loop-holds c =
@@ -36,8 +36,8 @@ returns : tie.Need-returns Inv-loop μ-loop
 returns c =
     let at-loop = c .before .before in
     let a = at-loop .before .before .before .before .before .args in
-    lowering-low (lookIn (a .q) (a .masks .now) (a .table .now) (inRanks (a .q) (a .ranks .now))) (a .part .now)
-    (loweredFrom (lookIn (a .q) (a .masks .now) (a .table .now) (inRanks (a .q) (a .ranks .now))) (a .rank) (alternativesFrom (drop (a .at) (a .part .now))))
+    lowering-low (lookIn (a .q) (a .ahead .now) (a .behind .now) (a .ranks .now)) (a .part .now)
+    (loweredFrom (lookIn (a .q) (a .ahead .now) (a .behind .now) (a .ranks .now)) (a .rank) (alternativesFrom (drop (a .at) (a .part .now))))
     (at-loop .loop .r) (at-loop .loop .i) (at-loop .loop .inv) (omega (arith, c .if1 .taken))
 
 mul-w : tie.Need-mul-w Inv-loop μ-loop
@@ -74,8 +74,8 @@ loop-again c =
     let at-loop = kinds .before .before .before .before in
     let a = at-loop .before .before .before .before .before .args in
     rw (c .lower .ensures)
-    (lowering-turn (lookIn (a .q) (a .masks .now) (a .table .now) (inRanks (a .q) (a .ranks .now))) (a .part .now)
-    (loweredFrom (lookIn (a .q) (a .masks .now) (a .table .now) (inRanks (a .q) (a .ranks .now))) (a .rank) (alternativesFrom (drop (a .at) (a .part .now))))
+    (lowering-turn (lookIn (a .q) (a .ahead .now) (a .behind .now) (a .ranks .now)) (a .part .now)
+    (loweredFrom (lookIn (a .q) (a .ahead .now) (a .behind .now) (a .ranks .now)) (a .rank) (alternativesFrom (drop (a .at) (a .part .now))))
     (at-loop .loop .r) (at-loop .loop .i) (at-loop .loop .inv) (omega arith)
     (sym (kinds .is-kind .ensures) ∙ read .before .if2 .taken) (read .read-alternative .result) (read .read-alternative .ensures))
 
@@ -88,8 +88,8 @@ returns-2 c =
     let kinds = entry .before .before in
     let at-loop = kinds .before .before .before .before in
     let a = at-loop .before .before .before .before .before .args in
-    lowering-out (lookIn (a .q) (a .masks .now) (a .table .now) (inRanks (a .q) (a .ranks .now))) (a .part .now)
-    (loweredFrom (lookIn (a .q) (a .masks .now) (a .table .now) (inRanks (a .q) (a .ranks .now))) (a .rank) (alternativesFrom (drop (a .at) (a .part .now))))
+    lowering-out (lookIn (a .q) (a .ahead .now) (a .behind .now) (a .ranks .now)) (a .part .now)
+    (loweredFrom (lookIn (a .q) (a .ahead .now) (a .behind .now) (a .ranks .now)) (a .rank) (alternativesFrom (drop (a .at) (a .part .now))))
     (at-loop .loop .r) (at-loop .loop .i) (at-loop .loop .inv) (omega arith)
     (sym (kinds .is-kind .ensures) ∙ entry .before .if2 .left) (sym (entry .is-entry .ensures) ∙ not-true _ (c .if3 .taken))
 
@@ -102,8 +102,8 @@ loop-again-2 c =
     let kinds = entry .before .before in
     let at-loop = kinds .before .before .before .before in
     let a = at-loop .before .before .before .before .before .args in
-    lowering-skip (lookIn (a .q) (a .masks .now) (a .table .now) (inRanks (a .q) (a .ranks .now))) (a .part .now)
-    (loweredFrom (lookIn (a .q) (a .masks .now) (a .table .now) (inRanks (a .q) (a .ranks .now))) (a .rank) (alternativesFrom (drop (a .at) (a .part .now))))
+    lowering-skip (lookIn (a .q) (a .ahead .now) (a .behind .now) (a .ranks .now)) (a .part .now)
+    (loweredFrom (lookIn (a .q) (a .ahead .now) (a .behind .now) (a .ranks .now)) (a .rank) (alternativesFrom (drop (a .at) (a .part .now))))
     (at-loop .loop .r) (at-loop .loop .i) (at-loop .loop .inv) (omega arith)
     (sym (kinds .is-kind .ensures) ∙ entry .before .if2 .left) (sym (entry .is-entry .ensures) ∙ not-false _ (c .if3 .left))
 
@@ -111,8 +111,8 @@ returns-3 : tie.Need-returns-3 Inv-loop μ-loop
 returns-3 c =
     let at-loop = c .before in
     let a = at-loop .before .before .before .before .before .args in
-    lowering-end (lookIn (a .q) (a .masks .now) (a .table .now) (inRanks (a .q) (a .ranks .now))) (a .part .now)
-    (loweredFrom (lookIn (a .q) (a .masks .now) (a .table .now) (inRanks (a .q) (a .ranks .now))) (a .rank) (alternativesFrom (drop (a .at) (a .part .now))))
+    lowering-end (lookIn (a .q) (a .ahead .now) (a .behind .now) (a .ranks .now)) (a .part .now)
+    (loweredFrom (lookIn (a .q) (a .ahead .now) (a .behind .now) (a .ranks .now)) (a .rank) (alternativesFrom (drop (a .at) (a .part .now))))
     (at-loop .loop .r) (at-loop .loop .i) (at-loop .loop .inv) (omega arith)
 
 pub lowered-rank-spec : {M : Type 1} → statement M

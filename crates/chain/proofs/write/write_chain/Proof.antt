@@ -22,13 +22,13 @@ returns : tie.Need-returns
 returns c =
     let start = c .before .before .before .before .before .before .before .before .before in
     let a = start .args in
-    none-answered _ (a .area .now) (answer-unranked (a .q) (a .masks .now) (a .table .now) (a .ranks .now) (a .part .now) (a .places .now) (a .c) _ (start .pre .2) refl (c .if1 .taken))
+    none-answered _ (a .area .now) (answer-unranked (a .q) (a .ahead .now) (a .behind .now) (a .ranks .now) (a .part .now) (a .places .now) (a .c) _ (start .pre .2) refl (c .if1 .taken))
 
 returns-2 : tie.Need-returns-2
 returns-2 c =
     let start = c .before .before .before .before .before .before .before .before .before .before .before .before in
     let a = start .args in
-    short-answered _ _ (a .area .now) (answer-quiet (a .q) (a .masks .now) (a .table .now) (a .ranks .now) (a .part .now) (a .places .now) (a .c) _ (start .pre .2) refl (omega (arith, c .before .before .before .if1 .left)) (c .before .if2 .taken)) (omega (arith, c .if3 .taken))
+    short-answered _ _ (a .area .now) (answer-quiet (a .q) (a .ahead .now) (a .behind .now) (a .ranks .now) (a .part .now) (a .places .now) (a .c) _ (start .pre .2) refl (omega (arith, c .before .before .before .if1 .left)) (c .before .if2 .taken)) (omega (arith, c .if3 .taken))
 
 write-quiet-requires : tie.Need-write-quiet-requires
 write-quiet-requires c κs = search needs
@@ -41,7 +41,7 @@ returns-3 c =
     let asked = c .before .before .before .before in
     let start = asked .before .before .before .before .before .before .before .before .before .before .before .before in
     let a = start .args in
-    shown-answered _ _ 1 (a .area .now) _ (answer-quiet (a .q) (a .masks .now) (a .table .now) (a .ranks .now) (a .part .now) (a .places .now) (a .c) _ (start .pre .2) refl (omega (arith, asked .before .before .before .if1 .left)) (asked .before .if2 .taken)) refl (omega (arith, asked .if3 .left))
+    shown-answered _ _ 1 (a .area .now) _ (answer-quiet (a .q) (a .ahead .now) (a .behind .now) (a .ranks .now) (a .part .now) (a .places .now) (a .c) _ (start .pre .2) refl (omega (arith, asked .before .before .before .if1 .left)) (asked .before .if2 .taken)) refl (omega (arith, asked .if3 .left))
     (c .before .before .write-quiet .ensures)
 
 cast-if4 : tie.Need-cast-if4
@@ -54,9 +54,9 @@ returns-4 : tie.Need-returns-4
 returns-4 c =
     let start = c .before .before .before .before .before .before .before .before .before .before .before .before in
     let a = start .args in
-    let ranked = answer-links (a .q) (a .masks .now) (a .table .now) (a .ranks .now) (a .part .now) (a .places .now) (a .c) _ (start .pre .2) refl (omega (arith, c .before .before .before .if1 .left)) (c .before .if2 .left) in
+    let ranked = answer-links (a .q) (a .ahead .now) (a .behind .now) (a .ranks .now) (a .part .now) (a .places .now) (a .c) _ (start .pre .2) refl (omega (arith, c .before .before .before .if1 .left)) (c .before .if2 .left) in
     short-answered _ _ (a .area .now) ranked
-    (omega (arith, c .if4 .taken, links-count (a .q) (a .masks .now) (a .table .now) (a .ranks .now) (a .part .now) (a .places .now) (getD (a .ranks .now) (a .c) 0) (a .c)))
+    (omega (arith, c .if4 .taken, links-count (a .q) (a .ahead .now) (a .behind .now) (a .ranks .now) (a .part .now) (a .places .now) (getD (a .ranks .now) (a .c) 0) (a .c)))
 
 write-links-requires : tie.Need-write-links-requires
 write-links-requires c κs = search needs
@@ -69,8 +69,8 @@ returns-5 c =
     let asked = c .before .before .before .before in
     let start = asked .before .before .before .before .before .before .before .before .before .before .before .before in
     let a = start .args in
-    shown-answered _ _ _ (a .area .now) _ (answer-links (a .q) (a .masks .now) (a .table .now) (a .ranks .now) (a .part .now) (a .places .now) (a .c) _ (start .pre .2) refl (omega (arith, asked .before .before .before .if1 .left)) (asked .before .if2 .left))
-    (links-count (a .q) (a .masks .now) (a .table .now) (a .ranks .now) (a .part .now) (a .places .now) _ (a .c)) (omega (arith, asked .if4 .left))
+    shown-answered _ _ _ (a .area .now) _ (answer-links (a .q) (a .ahead .now) (a .behind .now) (a .ranks .now) (a .part .now) (a .places .now) (a .c) _ (start .pre .2) refl (omega (arith, asked .before .before .before .if1 .left)) (asked .before .if2 .left))
+    (links-count (a .q) (a .ahead .now) (a .behind .now) (a .ranks .now) (a .part .now) (a .places .now) _ (a .c)) (omega (arith, asked .if4 .left))
     (c .before .before .write-links .ensures)
 
 pub write-chain-spec : {M : Type 1} → statement M

@@ -13,17 +13,17 @@ use Rattle.chain.proofs.write.choice_word.Reads as choice-word-reads
 use Rattle.chain.proofs.write.put_link.Reads as put-link-reads
 
 abbrev Inv-loop : tie.InvT-loop
-Inv-loop q masks table ranks part places area₀ count c d₀ k₀ at₀ area d k at =
-    Writing q masks table ranks part places area₀ count c area k d at
+Inv-loop q ahead behind ranks part places area₀ count c d₀ k₀ at₀ area d k at =
+    Writing q ahead behind ranks part places area₀ count c area k d at
 
 abbrev μ-loop : tie.MeasureT-loop
-μ-loop q masks table ranks part places area₀ count c d₀ k₀ at₀ area d k at = k
+μ-loop q ahead behind ranks part places area₀ count c d₀ k₀ at₀ area d k at = k
 
 loop-holds : tie.Need-loop-holds Inv-loop μ-loop
 loop-holds c =
     let start = c .before .before .before .before .before .before in
     let a = start .args in
-    writing-start (a .q) (a .masks .now) (a .table .now) (a .ranks .now) (a .part .now) (a .places .now) (a .area .now) (a .count) (a .c) (start .pre .2)
+    writing-start (a .q) (a .ahead .now) (a .behind .now) (a .ranks .now) (a .part .now) (a .places .now) (a .area .now) (a .count) (a .c) (start .pre .2)
 
 sub-k : tie.Need-sub-k Inv-loop μ-loop
 sub-k c = search needs
@@ -55,7 +55,7 @@ put-link-requires c κs =
     let at-loop = c .before .before .before .before .before .before in
     let start = at-loop .before .before .before .before .before .before .before in
     let a = start .args in
-    let long = writing-length (a .q) (a .masks .now) (a .table .now) (a .ranks .now) (a .part .now) (a .places .now) (a .area .now) (a .count) (a .c) (start .pre .1)
+    let long = writing-length (a .q) (a .ahead .now) (a .behind .now) (a .ranks .now) (a .part .now) (a .places .now) (a .area .now) (a .count) (a .c) (start .pre .1)
     (at-loop .loop .area) (at-loop .loop .k) (at-loop .loop .d) (at-loop .loop .at) (at-loop .loop .inv) in
     omega (arith, long, at-loop .loop .inv .left, start .pre .1, c .before .before .before .before .before .loop-test .taken)
 
@@ -73,7 +73,7 @@ loop-again c =
     let a = start .args in
     let chosen = c .before .before .before .before .before .before in
     let put = c .before .before in
-    writing-next (a .q) (a .masks .now) (a .table .now) (a .ranks .now) (a .part .now) (a .places .now) (a .area .now) (a .count) (a .c) (start .pre .1)
+    writing-next (a .q) (a .ahead .now) (a .behind .now) (a .ranks .now) (a .part .now) (a .places .now) (a .area .now) (a .count) (a .c) (start .pre .1)
     (at-loop .loop .area) (at-loop .loop .k) (at-loop .loop .d) (at-loop .loop .at) (at-loop .loop .inv) _ _ _ _ _ (omega (arith, turn .loop-test .taken))
     (chosen .before .after-opener .ensures) (chosen .chosen-link .ensures) (put .before .before .choice-word .ensures) (put .put-link .ensures)
 
@@ -82,7 +82,7 @@ same-length c =
     let at-loop = c .before in
     let start = at-loop .before .before .before .before .before .before .before in
     let a = start .args in
-    writing-length (a .q) (a .masks .now) (a .table .now) (a .ranks .now) (a .part .now) (a .places .now) (a .area .now) (a .count) (a .c) (start .pre .1)
+    writing-length (a .q) (a .ahead .now) (a .behind .now) (a .ranks .now) (a .part .now) (a .places .now) (a .area .now) (a .count) (a .c) (start .pre .1)
     (at-loop .loop .area) (at-loop .loop .k) (at-loop .loop .d) (at-loop .loop .at) (at-loop .loop .inv)
 
 returns : tie.Need-returns Inv-loop μ-loop
@@ -90,7 +90,7 @@ returns c =
     let at-loop = c .before in
     let start = at-loop .before .before .before .before .before .before .before in
     let a = start .args in
-    writing-end (a .q) (a .masks .now) (a .table .now) (a .ranks .now) (a .part .now) (a .places .now) (a .area .now) (a .count) (a .c) (start .pre .1)
+    writing-end (a .q) (a .ahead .now) (a .behind .now) (a .ranks .now) (a .part .now) (a .places .now) (a .area .now) (a .count) (a .c) (start .pre .1)
     (at-loop .loop .area) (at-loop .loop .k) (at-loop .loop .d) (at-loop .loop .at) (at-loop .loop .inv) (omega arith)
 
 pub write-links-spec : {M : Type 1} → statement M

@@ -49,7 +49,7 @@ returns c =
     let known = opener .before .before in
     let start = known .before .before .before .before .before .before .before in
     let a = start .args in
-    quiet-written (a .q) (a .masks .now) (a .table .now) (a .ranks .now) (a .part .now) (a .places .now) (a .c) _ _ _ _ (a .area .now) _ (start .pre .3)
+    quiet-written (a .q) (a .ahead .now) (a .behind .now) (a .ranks .now) (a .part .now) (a .places .now) (a .c) _ _ _ _ (a .area .now) _ (start .pre .3)
     (opener .before .before2 .ensures) (opener .after-opener .ensures) (choice .chosen-alternative .ensures .0) (word .choice-word .ensures) (start .pre .1)
     (c .before .before .put-link .ensures)
 

@@ -1,0 +1,26 @@
+-- `chain::call::rank` meets its contract, by those of its parts.
+-- Assumes nothing.
+use borrow.Author.Needs.{needs}
+use native.Mathlib.Omega.{arith}
+use Rattle.chain.proofs.Settling.{visitable-at}
+use Rattle.chain.proofs.call.rank.Statement.{statement}
+use Rattle.chain.proofs.call.rank.Tie as tie
+use Rattle.chain.proofs.call.rank.Reads as reads
+use Rattle.chain.proofs.call.rank.Lts as lts
+use Rattle.chain.proofs.entry.write_step_ranks.Reads as write-step-ranks-reads
+use Rattle.chain.proofs.pass.settle.Reads as settle-reads
+
+write-step-ranks-requires : tie.Need-write-step-ranks-requires
+write-step-ranks-requires c κs = search needs
+
+settle-requires : tie.Need-settle-requires
+settle-requires c κs = let start = c .before .before .before .before .before .before .before .before .before .before .before .before in visitable-at _ (omega (arith, c .before .before .before .write-step-ranks .kept)) (start .pre .1)
+
+same-length : tie.Need-same-length
+same-length c = search needs
+
+returns : tie.Need-returns
+returns c = search needs
+
+pub rank-spec : {M : Type 1} → statement M
+rank-spec = tie.close (tie.spec write-step-ranks-requires settle-requires same-length returns)
