@@ -10,13 +10,13 @@ use lib.ListN.{length, getD, drop, length-append, length-drop, List·getD-append
 use lib.Seq.{getD-append-add, getD-drop}
 use lib.Dec.{ltb}
 use borrow.Author.Tests.{ltb-false}
-use Rattle.image.specs.Library.{Library, libraryOf}
-use Rattle.image.specs.Checked.{checked}
-use Rattle.image.specs.Accepted.{Counted}
+use Rattle.library.specs.Library.{Library, libraryOf}
+use Rattle.reader.specs.Checked.{checked}
+use Rattle.library.specs.Accepted.{Counted}
 use Rattle.image.specs.declared.answer.Refusal.the-variants.{CardArea}
 use Rattle.image.specs.declared.answer.Head.{Head}
 use Rattle.image.specs.declared.answer.Checked.{Checked}
-use Rattle.image.proofs.Accepted.{faultless, counted}
+use Rattle.library.proofs.Accepted.{faultless, counted}
 use Rattle.card.specs.Card.{cardWords, card, cardsFrom, cards}
 use Rattle.card.specs.Answer.{answered, cardsOf, areaAfter, cardArea}
 use Rattle.card.specs.Meaning.{cardWord}

@@ -7,14 +7,14 @@ use mathlib.Core.Bool.{Bool, cond}
 use mathlib.Core.List.{List, _++_}
 use lib.ListN.{length, drop}
 use borrow.Author.Tests.{lt-ltb, le-ltb}
-use Rattle.image.specs.Library.{libraryOf}
-use Rattle.image.specs.Checked.{checked}
-use Rattle.image.specs.Accepted.{Counted, Faultless}
+use Rattle.library.specs.Library.{libraryOf}
+use Rattle.reader.specs.Checked.{checked}
+use Rattle.library.specs.Accepted.{Counted, Faultless}
 use Rattle.image.specs.declared.answer.Head.{Head}
 use Rattle.image.specs.declared.answer.Refusal.{Refusal}
 use Rattle.image.specs.declared.answer.Refusal.the-variants.{CardArea}
 use Rattle.image.specs.declared.answer.Checked.{Checked}
-use Rattle.image.proofs.Accepted.{faultless, counted}
+use Rattle.library.proofs.Accepted.{faultless, counted}
 use Rattle.outcome.specs.Area.{outcomes}
 use Rattle.card.specs.Card.{cards}
 use Rattle.card.specs.Row.{tableCards}

@@ -12,16 +12,16 @@ use Rattle.column.specs.Column.{bit}
 use Rattle.column.specs.Sets.{inColumn, countBelow}
 use Rattle.column.proofs.Bits.{bit-zero, bit-suc, bit-none, bit-high, column-same, column-none}
 use Rattle.column.proofs.Operations.{bit-one, bit-null, in-column, column-high, count-le, count-same, count-none}
-use Rattle.image.specs.Library.{Library}
-use Rattle.outcome.specs.Run.{Item, Run}
-use Rattle.outcome.specs.Execution.{Fact, State, Executes}
-use Rattle.outcome.specs.Touch.{Question, HasOutcome, untouched, lastSet, lastCleared, firstNeeded}
-use Rattle.outcome.specs.Possible.{possibleOutcome, alwaysOutcome, hasRun, hasEmptyRun, brokenRule, questionColumn, emptyColumn}
-use Rattle.outcome.proofs.Tests.{passes-or-not}
-use Rattle.outcome.proofs.Outcome.{present≢untouched, absent≢untouched}
-use Rattle.outcome.proofs.Columns.{question-iff, hasRun-iff, hasEmptyRun-iff, blank-columns, always-iff, missing-iff}
-use Rattle.outcome.proofs.Published.{published-columns}
-use Rattle.outcome.proofs.Execution.{kept}
+use Rattle.library.specs.Library.{Library}
+use Rattle.runs.specs.Run.{Item, Run}
+use Rattle.runs.specs.Execution.{Fact, State, Executes}
+use Rattle.runs.specs.Touch.{Question, HasOutcome, untouched, lastSet, lastCleared, firstNeeded}
+use Rattle.runs.specs.Possible.{possibleOutcome, alwaysOutcome, hasRun, hasEmptyRun, brokenRule, questionColumn, emptyColumn}
+use Rattle.runs.proofs.Tests.{passes-or-not}
+use Rattle.runs.proofs.Outcome.{present≢untouched, absent≢untouched}
+use Rattle.runs.proofs.Columns.{question-iff, hasRun-iff, hasEmptyRun-iff, blank-columns, always-iff, missing-iff}
+use Rattle.runs.proofs.Published.{published-columns}
+use Rattle.runs.proofs.Execution.{kept}
 use Rattle.card.specs.Card.{cardWords, may, always, changeable, flags, card, maySet, mayClear}
 use Rattle.card.specs.Meaning.{cardWord, Lacks, HasRun, NoRun, Columns, Flags, Blank, Card, Kept, Always, needed, set, cleared, place, Missing, Runs}
 

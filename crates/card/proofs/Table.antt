@@ -13,9 +13,9 @@ use mir.Val.{boolByte}
 use Rattle.column.specs.Sets.{difference}
 use Rattle.column.proofs.Bits.{bit-zero, bit-column}
 use Rattle.column.proofs.Operations.{column-or, column-difference, ones-column}
-use Rattle.image.specs.Library.{Library}
-use Rattle.outcome.specs.Touch.{Question, rival, untouchedOn, lastSet, lastCleared, firstNeeded}
-use Rattle.outcome.specs.Possible.{columnPossible, possibleOutcome, hasRun}
+use Rattle.library.specs.Library.{Library}
+use Rattle.runs.specs.Touch.{Question, rival, untouchedOn, lastSet, lastCleared, firstNeeded}
+use Rattle.runs.specs.Possible.{columnPossible, possibleOutcome, hasRun}
 use Rattle.outcome.specs.Area.{outcomeWord, outcomeRows, outcomes}
 use Rattle.card.specs.Card.{may, always, changeable, flags, card, cardsFrom, cards}
 use Rattle.card.specs.Row.{flagsOf, alwaysOf, rowCard, tableCards}

@@ -11,11 +11,11 @@ use lib.Pow.{shr-shr}
 use Rattle.column.specs.Column.{bit}
 use Rattle.column.specs.Sets.{inColumn, countBelow}
 use Rattle.column.proofs.Bits.{bit-le, bits-equal}
-use Rattle.image.specs.Library.{Library}
-use Rattle.outcome.specs.Execution.{Fact}
-use Rattle.outcome.specs.Possible.{hasRun}
-use Rattle.outcome.proofs.Tests.{passes-or-not}
-use Rattle.outcome.proofs.Columns.{hasRun-iff}
+use Rattle.library.specs.Library.{Library}
+use Rattle.runs.specs.Execution.{Fact}
+use Rattle.runs.specs.Possible.{hasRun}
+use Rattle.runs.proofs.Tests.{passes-or-not}
+use Rattle.runs.proofs.Columns.{hasRun-iff}
 use Rattle.card.specs.Card.{cardWords}
 use Rattle.card.specs.Meaning.{Holds, HasRun, NoRun, Card}
 

@@ -4,7 +4,7 @@ use Prim.Native.Nat.{ℕ, _+_, _*_, _≤_, _<_}
 use mathlib.Core.Path.{_≡_}
 use mathlib.Core.List.{List}
 use lib.ListN.{length, getD}
-use Rattle.image.specs.Library.{libraryOf}
+use Rattle.library.specs.Library.{libraryOf}
 use Rattle.card.specs.Card.{cardWords}
 use Rattle.card.specs.Answer.{cardArea}
 use Rattle.card.specs.Meaning.{cardWord, Card, Runs}

@@ -6,9 +6,9 @@ use lib.ListN.{length}
 use mir.Val.{boolByte}
 use Rattle.column.specs.Column.{column}
 use Rattle.column.specs.Sets.{countBelow}
-use Rattle.image.specs.Library.{Library}
-use Rattle.outcome.specs.Touch.{Question, lastSet, lastCleared, firstNeeded}
-use Rattle.outcome.specs.Possible.{possibleOutcome, alwaysOutcome, hasRun, hasEmptyRun}
+use Rattle.library.specs.Library.{Library}
+use Rattle.runs.specs.Touch.{Question, lastSet, lastCleared, firstNeeded}
+use Rattle.runs.specs.Possible.{possibleOutcome, alwaysOutcome, hasRun, hasEmptyRun}
 
 -- "fact f is bit f": the column of a question that some run must have answered, and of one that every run must have
 unfoldable pub may : Library → Question → ℕ → ℕ

@@ -8,11 +8,11 @@ use mathlib.Core.List.{List, []}
 use lib.ListN.{getD}
 use Rattle.column.specs.Column.{bit}
 use Rattle.column.specs.Sets.{inColumn, countBelow}
-use Rattle.image.specs.Library.{Library}
-use Rattle.outcome.specs.Run.{Item, Run}
-use Rattle.outcome.specs.Execution.{Fact, State, Executes, end}
-use Rattle.outcome.specs.Touch.{Question, HasOutcome, lastSet, lastCleared, firstNeeded}
-use Rattle.outcome.specs.Published.{prec∅, poss-prec∅, eff*∅+, eff*∅-, poss-eff*∅+, poss-eff*∅-}
+use Rattle.library.specs.Library.{Library}
+use Rattle.runs.specs.Run.{Item, Run}
+use Rattle.runs.specs.Execution.{Fact, State, Executes, end}
+use Rattle.runs.specs.Touch.{Question, HasOutcome, lastSet, lastCleared, firstNeeded}
+use Rattle.runs.specs.Published.{prec∅, poss-prec∅, eff*∅+, eff*∅-, poss-eff*∅+, poss-eff*∅-}
 use Rattle.card.specs.Card.{cardWords, card}
 
 -- word k of the card of sequence c, by the definition

@@ -9,12 +9,12 @@ use lib.ListN.{length, take, drop, length-drop}
 use lib.Seq.{take-at, take-append-le, drop-append-le}
 use lib.Dec.{eqb}
 use borrow.Author.Tests.{le-ltb, le-leb, lt-leb, eq-eqb, ne-eqb}
-use Rattle.image.specs.Checked.{checked}
-use Rattle.image.specs.Library.{libraryOf}
-use Rattle.image.specs.Accepted.{Counted}
+use Rattle.reader.specs.Checked.{checked}
+use Rattle.library.specs.Library.{libraryOf}
+use Rattle.library.specs.Accepted.{Counted}
 use Rattle.image.specs.declared.answer.Refusal.the-variants.{CardArea}
 use Rattle.image.specs.declared.answer.Checked.{Checked}
-use Rattle.image.proofs.Accepted.{faultless, counted}
+use Rattle.library.proofs.Accepted.{faultless, counted}
 use Rattle.card.specs.Card.{cards}
 use Rattle.card.specs.Answer.{answered, areaAfter, Called}
 use Rattle.card.specs.declared.answer.Cards.{Cards}

@@ -6,8 +6,8 @@ use mathlib.Core.List.{List}
 use lib.ListN.{length}
 use lib.Dec.{leb, eqb}
 use Rattle.image.specs.Answer.{refusalNumber, refusalPosition}
-use Rattle.image.specs.Checked.{checked}
-use Rattle.image.specs.Library.{libraryOf}
+use Rattle.reader.specs.Checked.{checked}
+use Rattle.library.specs.Library.{libraryOf}
 use Rattle.image.specs.declared.answer.Checked.{Checked}
 use Rattle.card.specs.Card.{cards}
 use Rattle.card.specs.declared.answer.Cards.{Cards}

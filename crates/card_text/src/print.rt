@@ -8,7 +8,7 @@ use image::answer::number;
 use image::answer::position;
 ghost use Prim.Native.Nat.{_≤_};
 ghost use lib.ListN.{length};
-ghost use Rattle.image.specs.Checked.{checked};
+ghost use Rattle.reader.specs.Checked.{checked};
 ghost use Rattle.card_text.specs.Words.{wordsOf};
 ghost use Rattle.card_text.specs.Text.{InFront};
 ghost use Rattle.card_text.specs.Print.{answerText, imageText, printed, AnswerAsked};

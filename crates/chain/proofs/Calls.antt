@@ -8,26 +8,26 @@ use native.Mathlib.Omega.{arith}
 use lib.ListN.{length, drop, length-append, length-drop}
 use lib.Dec.{leb, ltb}
 use borrow.Author.Tests.{le-leb, lt-leb, lt-ltb, le-ltb, leb-true, ltb-true}
-use Rattle.image.specs.Checked.{checked}
-use Rattle.image.specs.Library.{libraryOf}
+use Rattle.reader.specs.Checked.{checked}
+use Rattle.library.specs.Library.{libraryOf}
 use Rattle.image.specs.declared.answer.Head.{Head}
 use Rattle.image.specs.declared.answer.Refusal.{Refusal}
 use Rattle.image.specs.declared.answer.Refusal.the-variants.{Sequence, Question, Fact, ChainArea}
 use Rattle.image.specs.declared.answer.Checked.{Checked}
 use Rattle.image.specs.declared.answer.Checked.the-variants.{Accepted, Refused}
-use Rattle.image.proofs.Accepted.{counted}
-use Rattle.outcome.specs.Run.{Item, Run}
-use Rattle.outcome.specs.Touch.{questionOf, HasOutcome}
-use Rattle.outcome.specs.Touch as touch
-use Rattle.chain.specs.Link.{Chain, chainWords}
-use Rattle.chain.specs.Answer.{Answer, none, shown, answer}
-use Rattle.chain.specs.Shows.{Shows}
+use Rattle.library.proofs.Accepted.{counted}
+use Rattle.runs.specs.Run.{Item, Run}
+use Rattle.runs.specs.Touch.{questionOf, HasOutcome}
+use Rattle.runs.specs.Touch as touch
+use Rattle.rank.specs.Link.{Chain, chainWords}
+use Rattle.rank.specs.Answer.{Answer, none, shown, answer}
+use Rattle.rank.specs.Shows.{Shows}
 use Rattle.chain.specs.Described.{questionBy}
-use Rattle.chain.specs.Reply.{Answered, Called}
-use Rattle.chain.specs.declared.answer.Chained.{Chained}
-use Rattle.chain.specs.Call.{Reply, refused, answered, inArea, afterCheck, chained, areaAfter}
-use Rattle.chain.proofs.Words.{words-length}
-use Rattle.chain.proofs.Answers.{answer-shows, answer-none}
+use Rattle.link.specs.Reply.{Answered, Called}
+use Rattle.link.specs.declared.answer.Chained.{Chained}
+use Rattle.rank.specs.Call.{Reply, refused, answered, inArea, afterCheck, chained, areaAfter}
+use Rattle.rank.proofs.Words.{words-length}
+use Rattle.rank.proofs.Answers.{answer-shows, answer-none}
 
 -- what the call comes to where the image is accepted and the numbers are in range
 pub call-asked : (image : List ℕ) (h : Head) (c q f room : ℕ) → checked image ≡ Accepted h → c < h .sequences → q ≤ 5 → f < h .facts

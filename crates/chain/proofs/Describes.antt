@@ -14,26 +14,26 @@ use lib.Dec.{eqb, ltb}
 use borrow.Author.Tests.{ltb-true, lt-ltb, le-ltb}
 use Rattle.column.specs.Sets.{inColumn}
 use Rattle.column.proofs.Operations.{in-column}
-use Rattle.image.specs.Library.{has, Library, Step, Alternative, Entry, step, call}
-use Rattle.image.specs.Tables.{maskOf}
-use Rattle.outcome.specs.Run.{Item, alternativesOf, alternativeOf}
-use Rattle.outcome.specs.Execution.{noStep, stepOf}
-use Rattle.outcome.specs.Touch.{Side, last, first, Mark, present, absent, untouched, Question, touch, itemTouch}
-use Rattle.outcome.specs.Algebra.{sameMark}
-use Rattle.chain.specs.Link.{Link, touchLink, untouchedLink, Chain}
-use Rattle.chain.specs.Scan.{every}
-use Rattle.chain.specs.Stands.{entryAt}
-use Rattle.chain.specs.Ranks.{Ranks, Reached, Linked, Closed, unranked, entryRank, entryPasses, depthLook, passLook, hasMark, canStay, canRun, aheadOf, behindOf, touchLook, untouchedLook}
-use Rattle.chain.specs.Answer.{Answer, none, shown, chosenAlternative, followed, linksFrom, touchAnswer, untouchedAnswer}
-use Rattle.chain.specs.Walk.{linkFrom, alternativeFrom, depthFrom, fewestFrom}
-use Rattle.chain.specs.Tables.{entryNumber, inRanks, rankIn, passIn, depthIn, everyIn, fewestIn, lookIn, alternativesAt, stepMark, markIn, stepRank, Stepped}
-use Rattle.chain.specs.Choice.{linkIn, linkEntry, linkAt, linksIn, quietLink, answerIn}
+use Rattle.library.specs.Library.{has, Library, Step, Alternative, Entry, step, call}
+use Rattle.library.specs.Tables.{maskOf}
+use Rattle.runs.specs.Run.{Item, alternativesOf}
+use Rattle.runs.specs.Execution.{noStep, stepOf}
+use Rattle.runs.specs.Touch.{Side, last, first, Mark, present, absent, untouched, Question, touch, itemTouch}
+use Rattle.runs.specs.Algebra.{sameMark}
+use Rattle.rank.specs.Link.{Link, touchLink, untouchedLink, Chain}
+use Rattle.rank.specs.Scan.{every}
+use Rattle.rank.specs.Stands.{entryAt}
+use Rattle.rank.specs.Ranks.{Ranks, Reached, Linked, Closed, unranked, entryRank, entryPasses, depthLook, passLook, hasMark, canStay, canRun, aheadOf, behindOf, touchLook, untouchedLook}
+use Rattle.rank.specs.Answer.{Answer, none, shown, chosenAlternative, followed, linksFrom, touchAnswer, untouchedAnswer}
+use Rattle.rank.specs.Walk.{linkFrom, alternativeFrom, depthFrom, fewestFrom}
+use Rattle.rank.specs.Tables.{entryNumber, inRanks, rankIn, passIn, depthIn, everyIn, fewestIn, lookIn, alternativesAt, stepMark, markIn, stepRank, Stepped}
+use Rattle.link.specs.Choice.{linkIn, linkEntry, linkAt, linksIn, quietLink, answerIn}
 use Rattle.chain.specs.Described.{isFirst, markNumber, sideBy, Asks, Masked, Placed, StepsBy, Described}
-use Rattle.chain.specs.declared.entry.Asked.{Asked}
-use Rattle.chain.proofs.Depth.{step-rank, step-passes}
-use Rattle.chain.proofs.Links.{entriesOf, chosenAt, positionAt, chosen, chosen-rank, ranked-listed}
-use Rattle.chain.proofs.Scan.{getD-inside}
-use Rattle.chain.proofs.Walk.{alternative-from, depth-from, fewest-from, link-from}
+use Rattle.rank.specs.declared.entry.Asked.{Asked}
+use Rattle.rank.proofs.Depth.{step-rank, step-passes}
+use Rattle.rank.proofs.Links.{entriesOf, chosenAt, positionAt, chosen, chosen-rank, ranked-listed}
+use Rattle.rank.proofs.Scan.{getD-inside}
+use Rattle.rank.proofs.Walk.{alternative-from, depth-from, fewest-from, link-from}
 
 cond-mark : (x y : Bool) → cond x 0 (cond y 1 2) ≡ markNumber (cond x present (cond y absent untouched))
 cond-mark true y = refl

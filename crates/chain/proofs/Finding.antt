@@ -4,45 +4,47 @@ use Prim.Native.Nat.{ℕ, zero, suc, _+_, _*_, _≤_, _<_}
 use native.Mathlib.Decide.{decLt}
 use native.Mathlib.Numerals.{add-one}
 use native.Mathlib.Omega.{arith}
-use mathlib.Core.Path.{_≡_, refl, sym, ap, ap₂, _∙_, subst}
+use mathlib.Core.Path.{_≡_, refl, sym, ap, _∙_, subst}
 use mathlib.Core.Logic.{_≢_, _↔_}
 use mathlib.Core.Bool.{Bool, true, false, cond}
 use mathlib.Core.List.{List, [], _∷_, _++_}
 use lib.ListN.{length, getD, take, drop, replicate, length-replicate, List·getD-append, List·getD-eq-default}
 use lib.Seq.{getD-drop, getD-take, ext-getD, length-take-le}
 use Rattle.column.proofs.Bits.{column-none}
-use Rattle.image.specs.Checked.{checked}
-use Rattle.image.specs.Rules.{opened}
-use Rattle.image.specs.Library.{Library, Step, Entry, alternativesFrom, stepsFrom, stepsPart, sequencesPart, libraryOf}
-use Rattle.image.specs.Accepted.{All, SequenceWord, Counted}
-use Rattle.image.specs.Tables.{StepsAsked, SequencesAsked, maskOf, masks, placesFrom}
+use Rattle.reader.specs.Checked.{checked}
+use Rattle.rules.specs.Rules.{opened}
+use Rattle.library.specs.Library.{Library, Step, Entry, alternativesFrom, stepsFrom, stepsPart, sequencesPart, libraryOf}
+use Rattle.library.specs.Accepted.{All, SequenceWord, Counted}
+use Rattle.library.specs.Tables.{StepsAsked, SequencesAsked, maskOf, masks, placesFrom}
 use Rattle.image.specs.declared.answer.Head.{Head}
 use Rattle.image.specs.declared.answer.Checked.the-variants.{Accepted}
-use Rattle.image.proofs.Accepted.{faultless, parts, counted, library-is}
-use Rattle.image.proofs.Lookup as lookup
-use Rattle.image.proofs.Lookup.{masks-length, row-at, places-length, place-at}
-use Rattle.image.proofs.Rows.{all-at}
-use Rattle.outcome.specs.Area.{Blank, TableAsked, Prepared, libraryIn}
-use Rattle.outcome.specs.Execution.{noStep, stepOf}
-use Rattle.outcome.specs.Possible.{hasRun, possibleOutcome}
-use Rattle.outcome.specs.Run.{Item, RunOf, alternativesOf}
-use Rattle.outcome.proofs.Fill.{blank-zeros, fill-asked, prepare-asked}
-use Rattle.outcome.proofs.Outcome.{present≢untouched, absent≢untouched}
-use Rattle.outcome.specs.Touch.{Mark, present, absent, untouched, Question, untouchedOn, lastSet}
-use Rattle.outcome.specs.Algebra.{sameMark}
-use Rattle.chain.specs.Scan.{every}
-use Rattle.chain.specs.Ranks.{Look, passLook, unranked, entryPasses, hasMark, canStay, canRun, touchLook, untouchedLook}
-use Rattle.chain.specs.Answer.{answer, ranksIn}
-use Rattle.chain.specs.Visits.{Visits, Settled}
-use Rattle.chain.specs.Tables.{inRanks, passIn, lookIn, Rankable, Readable, Visitable, Steppable, Ranked, alternativesAt}
-use Rattle.chain.specs.Choice.{Choosable, answerIn}
-use Rattle.chain.specs.Described.{Asks, Masked, Placed, StepsBy, Described, FindAsked, Made, Unranked, isFirst, markNumber, sideBy, markBy, questionBy}
-use Rattle.chain.specs.declared.entry.Asked.{Asked}
-use Rattle.chain.proofs.Passes.{quiet-run, any-run}
+use Rattle.library.proofs.Accepted.{faultless, parts, counted, library-is}
+use Rattle.library.proofs.Lookup as lookup
+use Rattle.library.proofs.Lookup.{masks-length, row-at, places-length, place-at}
+use Rattle.library.proofs.Rows.{all-at}
+use Rattle.visits.specs.Passes.{Blank}
+use Rattle.outcome.specs.Area.{TableAsked, Prepared, libraryIn}
+use Rattle.runs.specs.Execution.{noStep, stepOf}
+use Rattle.runs.specs.Possible.{hasRun, possibleOutcome}
+use Rattle.runs.specs.Run.{Item, RunOf, alternativesOf}
+use Rattle.visits.proofs.Visits.{blank-zeros}
+use Rattle.outcome.proofs.Fill.{fill-asked, prepare-asked}
+use Rattle.runs.proofs.Outcome.{present≢untouched, absent≢untouched}
+use Rattle.runs.specs.Touch.{Mark, present, absent, untouched, Question, untouchedOn, lastSet}
+use Rattle.runs.specs.Algebra.{sameMark}
+use Rattle.rank.specs.Scan.{every}
+use Rattle.rank.specs.Ranks.{Look, passLook, unranked, entryPasses, hasMark, canStay, canRun, touchLook, untouchedLook}
+use Rattle.rank.specs.Answer.{answer, ranksIn}
+use Rattle.rank.specs.Visits.{Visits, Settled}
+use Rattle.rank.specs.Tables.{inRanks, passIn, lookIn, Rankable, Readable, Visitable, Steppable, Ranked, alternativesAt}
+use Rattle.link.specs.Choice.{Choosable, answerIn}
+use Rattle.chain.specs.Described.{Asks, Masked, Placed, StepsBy, FindAsked, Made, Unranked, isFirst, markNumber, sideBy, markBy, questionBy}
+use Rattle.rank.specs.declared.entry.Asked.{Asked}
+use Rattle.rank.proofs.Passes.{quiet-run, any-run}
 use Rattle.chain.proofs.Whether.{Passable, pass-reached, pass-exact}
-use Rattle.chain.proofs.Ranks.{start-unranked}
-use Rattle.chain.proofs.Visits.{settled-good, touch-good, settled-touch, settled-untouched}
-use Rattle.chain.proofs.Settling.{pass-kept, pass-visits, pass-settled}
+use Rattle.rank.proofs.Ranks.{start-unranked}
+use Rattle.rank.proofs.Visits.{settled-good, touch-good, settled-touch, settled-untouched}
+use Rattle.rank.proofs.Settling.{pass-kept, pass-visits, pass-settled}
 use Rattle.chain.proofs.Describes.{described-by, steps-marked, steps-any, pass-is, pass-look, depth-look, touch-look, touch-answer, quiet-answer}
 
 -- past the words of a list there is nothing

@@ -3,16 +3,16 @@ use Prim.Native.Nat.{ℕ, _*_, _^_}
 use mathlib.Core.Path.{_≡_, refl}
 use mathlib.Core.List.{List, [], _∷_}
 use lib.ListN.{length}
-use Rattle.image.specs.Library.{has, call}
-use Rattle.image.specs.Rules.{opened, lastOf}
+use Rattle.library.specs.Library.{has, call}
+use Rattle.rules.specs.Rules.{opened, lastOf}
 use Rattle.image.specs.Word.{total}
-use Rattle.outcome.specs.Touch.{lastSet, lastCleared, lastUntouched}
-use Rattle.outcome.specs.Possible.{possible}
-use Rattle.outcome.proofs.Sample.{libraryL}
-use Rattle.chain.specs.Link.{touchLink, untouchedLink}
-use Rattle.chain.specs.Answer.{none, shown, answer}
-use Rattle.chain.specs.Call.{Reply, chained, areaAfter}
-use Rattle.chain.specs.Reply.{replyNumber}
+use Rattle.runs.specs.Touch.{lastSet, lastCleared, lastUntouched}
+use Rattle.runs.specs.Possible.{possible}
+use Rattle.runs.proofs.Sample.{libraryL}
+use Rattle.rank.specs.Link.{touchLink, untouchedLink}
+use Rattle.rank.specs.Answer.{none, shown, answer}
+use Rattle.rank.specs.Call.{Reply, chained, areaAfter}
+use Rattle.link.specs.Reply.{replyNumber}
 
 -- the questions of the starred samples, over library L itself
 answers-L : answer libraryL lastUntouched 1 0 ∷ answer libraryL lastSet 1 0 ∷ answer libraryL lastCleared 1 1 ∷ answer libraryL lastUntouched 2 0 ∷ []

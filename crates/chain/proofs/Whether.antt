@@ -4,19 +4,19 @@ use Prim.Native.Nat.{ℕ, suc, _<_}
 use mathlib.Core.Path.{_≡_, refl, ap}
 use mathlib.Core.Logic.{_↔_}
 use mathlib.Core.Bool.{Bool, true, false, cond}
-use mathlib.Core.List.{List, [], _∷_}
+use mathlib.Core.List.{List}
 use native.Mathlib.Omega.{arith}
 use lib.ListN.{length}
 use lib.Dec.{ltb}
 use borrow.Author.Tests.{ltb-true, lt-ltb}
-use Rattle.image.specs.Library.{Sequence, Entry}
-use Rattle.outcome.specs.Tests.{and-parts}
-use Rattle.outcome.specs.Run.{Item, RunOf, Gives, nothing, by-step, by-call, alternativesOf, alternativeOf}
-use Rattle.outcome.proofs.Tests.{and-both, both-ways}
-use Rattle.chain.specs.Scan.{every}
-use Rattle.chain.specs.Ranks.{Ranks, Closed, Reached, entryPasses, passLook}
-use Rattle.chain.proofs.Depth.{append-passes}
-use Rattle.chain.proofs.Passes.{passes-given}
+use Rattle.library.specs.Library.{Sequence, Entry}
+use Rattle.runs.specs.Tests.{and-parts}
+use Rattle.runs.specs.Run.{Item, RunOf, Gives, nothing, by-step, by-call, alternativesOf, alternativeOf}
+use Rattle.runs.proofs.Tests.{and-both, both-ways}
+use Rattle.rank.specs.Scan.{every}
+use Rattle.rank.specs.Ranks.{Ranks, Closed, Reached, entryPasses, passLook}
+use Rattle.rank.proofs.Depth.{append-passes}
+use Rattle.rank.proofs.Passes.{passes-given}
 
 module _ (S : List Sequence) (none : ℕ) (test : Item → Bool) where
   -- the sequence has such a run, whatever the rank

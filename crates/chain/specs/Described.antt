@@ -5,18 +5,18 @@ use mathlib.Core.Path.{_≡_}
 use mathlib.Core.Bool.{Bool, true, false, cond}
 use mathlib.Core.List.{List, [], _∷_, _++_}
 use lib.ListN.{length, getD, drop}
-use Rattle.image.specs.Checked.{checked}
-use Rattle.image.specs.Library.{Library, Entry, stepsFrom, stepsPart, sequencesPart}
+use Rattle.reader.specs.Checked.{checked}
+use Rattle.library.specs.Library.{Library, Entry, stepsFrom, stepsPart, sequencesPart}
 use Rattle.image.specs.declared.answer.Head.{Head}
 use Rattle.image.specs.declared.answer.Checked.the-variants.{Accepted}
-use Rattle.image.specs.Tables.{maskOf, masks, placesFrom}
-use Rattle.outcome.specs.Area.{Blank}
-use Rattle.outcome.specs.Run.{Item, alternativesOf}
-use Rattle.outcome.specs.Execution.{stepOf}
-use Rattle.outcome.specs.Touch.{Side, last, first, Mark, present, absent, untouched, Question}
-use Rattle.chain.specs.Ranks.{unranked, aheadOf, behindOf}
-use Rattle.chain.specs.Tables.{passIn, alternativesAt}
-use Rattle.chain.specs.declared.entry.Asked.{Asked}
+use Rattle.library.specs.Tables.{maskOf, masks, placesFrom}
+use Rattle.visits.specs.Passes.{Blank}
+use Rattle.runs.specs.Run.{Item, alternativesOf}
+use Rattle.runs.specs.Execution.{stepOf}
+use Rattle.runs.specs.Touch.{Side, last, first, Mark, present, absent, untouched, Question}
+use Rattle.rank.specs.Ranks.{unranked, aheadOf, behindOf}
+use Rattle.rank.specs.Tables.{passIn, alternativesAt}
+use Rattle.rank.specs.declared.entry.Asked.{Asked}
 
 -- a side and a mark as the code has them
 abbrev pub isFirst : Side → Bool

@@ -1,27 +1,26 @@
 // The chain call: refusals 1 to 7 and 9 to 12, a chain, or none.
-use crate::answer::Chained;
-use crate::entry::Asked;
-use crate::entry::write_step_ranks;
-use crate::pass::settle;
-use crate::write::write_chain;
 use image::answer::Checked;
 use image::answer::Head;
 use image::answer::Refusal;
-use image::check::check;
-use image::parts::sequences_part;
-use image::parts::steps_part;
+use library::parts::sequences_part;
+use library::parts::steps_part;
+use link::answer::Chained;
+use link::write::write_chain;
 use outcome::table::prepare;
-ghost use mathlib.Core.Path.{_≡_};
+use rank::entry::Asked;
+use rank::entry::write_step_ranks;
+use rank::pass::settle;
+use reader::check::check;
 ghost use mathlib.Core.Bool.{false};
 ghost use Prim.Native.Nat.{_*_, _^_, _≤_, _<_};
 ghost use lib.ListN.{length};
-ghost use Rattle.image.specs.Library.{libraryOf};
-ghost use Rattle.outcome.specs.Area.{Blank};
-ghost use Rattle.chain.specs.Answer.{answer};
-ghost use Rattle.chain.specs.Tables.{Steppable, Visitable, Ranked};
-ghost use Rattle.chain.specs.Choice.{Choosable, answerIn};
+ghost use Rattle.library.specs.Library.{libraryOf};
+ghost use Rattle.visits.specs.Passes.{Blank};
+ghost use Rattle.rank.specs.Answer.{answer};
+ghost use Rattle.rank.specs.Tables.{Steppable, Visitable, Ranked};
+ghost use Rattle.link.specs.Choice.{Choosable, answerIn};
 ghost use Rattle.chain.specs.Described.{FindAsked, Made, TablesAsked, questionBy};
-ghost use Rattle.chain.specs.Reply.{accepts, Answered, Called};
+ghost use Rattle.link.specs.Reply.{accepts, Answered, Called};
 
 // Ranks the steps by one question and the sequences by another, in a table that has no rank yet.
 fn rank(

@@ -4,9 +4,9 @@ use Prim.Native.Nat.{ℕ, zero, suc, _+_, _-_, _*_, _/_, _%_, _^_, _≤_, _<_, m
 use native.Mathlib.Nat.{mod-lt, pow-suc, le-of-suc-le-suc, div-eq-of-lt, lt-of-lt-of-le, zero-lt-suc}
 use native.Mathlib.Numerals.{one-add}
 use native.Mathlib.Omega.{arith}
-use mathlib.Core.Path.{_≡_, refl, sym, ap, ap₂, _∙_}
-use mathlib.Core.Bool.{Bool, true, false, not, _&&_, _||_}
-use lib.Bits.{bitAnd, bitOr, and-shr, or-shr, and-step, or-step, or-lt, and-lt}
+use mathlib.Core.Path.{_≡_, refl, sym, ap, _∙_}
+use mathlib.Core.Bool.{Bool, true, false, _||_}
+use lib.Bits.{bitAnd, bitOr, and-shr, or-shr, and-step, or-step, or-lt}
 use borrow.Author.Tests.{ne-eqb}
 use lib.Dec.{eqb, eqb·suc-suc, eqb·zero-suc}
 use lib.Pow.{pow-mono, shr-shr, pow-lt}

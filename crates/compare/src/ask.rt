@@ -1,21 +1,21 @@
 // Asks the chain call every question about a library, and looks at what it answers.
-use crate::links;
-use crate::rounds;
 use crate::tally;
-use chain::answer::Chained;
+use algorithms::domain::ADD;
+use algorithms::domain::DEL;
+use algorithms::domain::FIRST_ADD;
+use algorithms::domain::PREC;
+use algorithms::domain::action;
+use algorithms::domain::number;
+use algorithms::domain::place;
+use algorithms::domain::read_actions;
+use algorithms::effects;
+use algorithms::preconditions;
+use algorithms::sets::has;
+use algorithms::sets::word;
 use image::word::is_kind;
-use second::domain::ADD;
-use second::domain::DEL;
-use second::domain::FIRST_ADD;
-use second::domain::PREC;
-use second::domain::action;
-use second::domain::number;
-use second::domain::place;
-use second::domain::read_actions;
-use second::effects;
-use second::preconditions;
-use second::sets::has;
-use second::sets::word;
+use judge::links;
+use judge::rounds;
+use link::answer::Chained;
 
 // What each word of the chain area holds before.
 const BEFORE: u32 = 0x5a5a5a5a;
@@ -104,7 +104,7 @@ fn link_fault(
 ) -> u32 {
     let one = word(area, i);
     let two = word(area, std::num::wrapping_add_usize(i, 1));
-    if !links::link_right(
+    if !judge::links::link_right(
         part,
         places,
         c,
@@ -119,14 +119,14 @@ fn link_fault(
         return tally::LINK_FALLS;
     }
     if !goes_on(
-        links::named_entry(part, places, c, one, two),
+        judge::links::named_entry(part, places, c, one, two),
         actions,
         question,
         r,
     ) {
         return tally::ENTRY_WRONG;
     }
-    let choice = rounds::lowest_link(
+    let choice = judge::rounds::lowest_link(
         part,
         place(places, c),
         short,
@@ -135,7 +135,7 @@ fn link_fault(
         ranks,
         r,
     );
-    if links::alternative_of(one) != choice.alternative {
+    if judge::links::alternative_of(one) != choice.alternative {
         return tally::NOT_LOWEST;
     }
     if number(two) != choice.position as usize {
@@ -148,7 +148,7 @@ fn link_fault(
 fn next_sequence(part: &[u32], places: &[usize], c: usize, area: &[u32], i: usize) -> usize {
     let one = word(area, i);
     let two = word(area, std::num::wrapping_add_usize(i, 1));
-    number(links::named_entry(part, places, c, one, two))
+    number(judge::links::named_entry(part, places, c, one, two))
 }
 
 // What is wrong with the `n` links of a chain about sequence `c`: what is wrong with the first of them that is not right.
@@ -211,7 +211,7 @@ fn quiet_fault(
         return tally::NOT_FEWEST;
     }
     let one = word(area, 0);
-    if !links::quiet_right(
+    if !judge::links::quiet_right(
         part,
         places,
         c,
@@ -224,8 +224,8 @@ fn quiet_fault(
     ) {
         return tally::LINK_FALLS;
     }
-    if links::alternative_of(one)
-        != rounds::lowest_quiet(part, place(places, c), restricted, ranks, word(ranks, c))
+    if judge::links::alternative_of(one)
+        != judge::rounds::lowest_quiet(part, place(places, c), restricted, ranks, word(ranks, c))
     {
         return tally::NOT_LOWEST;
     }
@@ -418,10 +418,10 @@ fn find_ranks(
     ranks: &mut [u32],
 ) {
     if question % 3 == 2 {
-        rounds::least_depths(restricted, ranks);
+        judge::rounds::least_depths(restricted, ranks);
         return;
     }
-    rounds::fewest_links(short, actions, touch(question), ranks);
+    judge::rounds::fewest_links(short, actions, touch(question), ranks);
 }
 
 // Asks a question about a fact, of each sequence.

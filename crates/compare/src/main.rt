@@ -24,12 +24,7 @@
 // Two more gave no report: bits above F in the outcome table (`facts - facts`), which show in no card and no chain, ran with 0 differences; the
 // empty-run flag written for "untouched" (`table[at + 4] = r.empty`) makes an engine that does not end, and this program with it.
 mod ask;
-mod library;
-mod links;
 mod names;
-mod random;
-mod rounds;
-mod shape;
 mod tally;
 mod trial;
 

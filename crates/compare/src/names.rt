@@ -41,7 +41,7 @@ fn print_line(text: &[u8], k: u32) {
     io::write_all(1, &text[from..end]);
 }
 
-// The name of a kind of libraries, in the order of `shape::of_kind`.
+// The name of a kind of libraries, in the order of `seeded::shape::of_kind`.
 pub fn print_kind(kind: u32) {
     print_line(
         b"small\ncalling themselves\ncalling each other\nendless\ndeep, calling the next\ndeep, calling the one before\nmany empty alternatives\nlong alternatives\none fact\n64 facts\nties\nlarge\nvery deep, calling the next\nvery deep, calling the one before\nlarge, 64 facts\ntotal",

@@ -1,15 +1,15 @@
 // One library: its cards by both engines, then the chains.
 use crate::ask::ask_facts;
-use crate::library::put_library;
-use crate::shape::of_kind;
 use crate::tally;
+use algorithms::domain::write_places;
+use algorithms::prepass::terminating;
 use card::answer::Cards;
 use image::answer::Checked;
 use image::answer::Head;
-use image::parts::sequences_part;
-use image::parts::steps_part;
-use second::domain::write_places;
-use second::prepass::terminating;
+use library::parts::sequences_part;
+use library::parts::steps_part;
+use seeded::library::put_library;
+use seeded::shape::of_kind;
 ghost use Prim.Native.Nat.{_≤_};
 ghost use lib.ListN.{length};
 
@@ -157,7 +157,7 @@ fn try_words(tally: &mut [u64], image: &[u32]) {
     if image.len() < 2 {
         return;
     }
-    match image::check::check(image) {
+    match reader::check::check(image) {
         Checked::Accepted(h) => try_image(tally, h, image),
         Checked::Refused(_) => tally::judge(tally, 0, 0, 0, tally::REFUSED),
     }

@@ -9,34 +9,34 @@ use mathlib.Core.Bool.{Bool, cond}
 use lib.ListN.{length, drop}
 use borrow.Author.Tests.{le-ltb}
 use Rattle.image.specs.Answer.{refusalNumber, refusalAnswer, checkedAnswer}
-use Rattle.image.specs.Checked.{checked}
-use Rattle.image.specs.Library.{Library, libraryOf}
+use Rattle.reader.specs.Checked.{checked}
+use Rattle.library.specs.Library.{Library, libraryOf}
 use Rattle.image.specs.declared.answer.Head.{Head}
 use Rattle.image.specs.declared.answer.Refusal.{Refusal}
 use Rattle.image.specs.declared.answer.Refusal.the-variants.{Length, SumWord, HeadWord, Kind, Payload, FactOrder, Missing, CardArea}
 use Rattle.image.specs.declared.answer.Refusal.the-variants as refusal
 use Rattle.image.specs.declared.answer.Checked.{Checked}
-use Rattle.image.proofs.Accepted.{faultless, counted}
-use Rattle.outcome.specs.Run.{Item, Run}
-use Rattle.outcome.specs.Execution.{Fact}
-use Rattle.outcome.specs.Touch.{Mark, present, absent, questionOf, HasOutcome, lastSet, lastCleared, lastUntouched, firstSet, firstUntouched}
-use Rattle.outcome.proofs.Outcome.{present≢untouched, absent≢untouched}
-use Rattle.outcome.proofs.Columns.{breaks-rule}
+use Rattle.library.proofs.Accepted.{faultless, counted}
+use Rattle.runs.specs.Run.{Item, Run}
+use Rattle.runs.specs.Execution.{Fact}
+use Rattle.runs.specs.Touch.{Mark, present, absent, questionOf, HasOutcome, lastSet, lastCleared, lastUntouched, firstSet, firstUntouched}
+use Rattle.runs.proofs.Outcome.{present≢untouched, absent≢untouched}
+use Rattle.runs.proofs.Columns.{breaks-rule}
 use Rattle.card.specs.Answer as card
 use Rattle.card.specs.Area.{Written}
 use Rattle.card.specs.Card.{cardWords}
 use Rattle.card.specs.Meaning.{Always, needed, set, cleared, Breaks}
 use Rattle.card.specs.declared.answer.Cards.{Cards}
 use Rattle.card.proofs.Area.{filled, written-right}
-use Rattle.chain.specs.Link.{Chain, chainWords}
-use Rattle.chain.specs.Stands.{About}
-use Rattle.chain.specs.Answer.{none, shown}
-use Rattle.chain.specs.Call.{Reply, refused, answered, chained, areaAfter}
-use Rattle.chain.specs.Reply.{replyNumber}
-use Rattle.chain.proofs.Words.{words-length}
-use Rattle.chain.proofs.Answers.{answer-shows}
+use Rattle.rank.specs.Link.{Chain, chainWords}
+use Rattle.rank.specs.Stands.{About}
+use Rattle.rank.specs.Answer.{none, shown}
+use Rattle.rank.specs.Call.{Reply, refused, answered, chained, areaAfter}
+use Rattle.link.specs.Reply.{replyNumber}
+use Rattle.rank.proofs.Words.{words-length}
+use Rattle.rank.proofs.Answers.{answer-shows}
 use Rattle.chain.proofs.Calls.{call-shows, call-answered}
-use Rattle.chain.proofs.Fits.{accepted-fits}
+use Rattle.rank.proofs.Fits.{accepted-fits}
 use Rattle.dulimoven.specs.Demands.{engine, Refuses, Demand1, count, Ready, Demand2, Asks, Sees, Proves, Demand3, Demands}
 
 -- ---- demand 1

@@ -10,22 +10,22 @@ use mathlib.Core.Logic.{by-cases}
 use mathlib.Core.List.{List}
 use lib.ListN.{length, getD, drop, take, replicate, length-replicate}
 use lib.Seq.{take-append-seam, ext-getD}
-use Rattle.image.specs.Checked.{checked}
-use Rattle.image.specs.Library.{libraryOf}
+use Rattle.reader.specs.Checked.{checked}
+use Rattle.library.specs.Library.{libraryOf}
 use Rattle.image.specs.declared.answer.Head.{Head}
 use Rattle.image.specs.declared.answer.Checked.{Checked}
-use Rattle.image.proofs.Accepted.{counted}
-use Rattle.outcome.specs.Touch.{questionOf}
+use Rattle.library.proofs.Accepted.{counted}
+use Rattle.runs.specs.Touch.{questionOf}
 use Rattle.card.specs.Answer.{cardArea}
 use Rattle.card.specs.Area.{partWord}
 use Rattle.card.specs.Card.{cardWords}
 use Rattle.card.specs.Meaning.{Always}
 use Rattle.card.proofs.Unique.{card-unique}
-use Rattle.chain.specs.Link.{Chain, chainWords}
-use Rattle.chain.specs.Answer.{shown}
-use Rattle.chain.specs.Call.{answered, chained}
-use Rattle.chain.proofs.Words.{words-length, words-same}
-use Rattle.chain.proofs.Answers.{answer-shows}
+use Rattle.rank.specs.Link.{Chain, chainWords}
+use Rattle.rank.specs.Answer.{shown}
+use Rattle.rank.specs.Call.{answered, chained}
+use Rattle.rank.proofs.Words.{words-length, words-same}
+use Rattle.rank.proofs.Answers.{answer-shows}
 use Rattle.chain.proofs.Calls.{call-answered}
 use Rattle.dulimoven.specs.Demands.{Engine, Left, count, Ready, Demand2, Asks, Sees, Proves, Demand3}
 use Rattle.dulimoven.proofs.Demands.{columns}

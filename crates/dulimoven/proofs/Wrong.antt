@@ -9,23 +9,23 @@ use lib.ListN.{length, getD, replicate}
 use Rattle.column.specs.Column.{bit}
 use Rattle.column.proofs.Bits.{bit-zero, bit-none}
 use Rattle.image.specs.Answer.{checkedAnswer}
-use Rattle.image.specs.Checked.{scan, checked}
-use Rattle.image.specs.Library.{Library, has, libraryOf}
-use Rattle.image.specs.Rules.{opened, lastOf}
+use Rattle.reader.specs.Checked.{scan, checked}
+use Rattle.library.specs.Library.{Library, has, libraryOf}
+use Rattle.rules.specs.Rules.{opened, lastOf}
 use Rattle.image.specs.Word.{total}
 use Rattle.image.specs.declared.answer.Checked.{Checked}
-use Rattle.image.proofs.Accepted.{counted}
-use Rattle.outcome.specs.Possible.{possible}
-use Rattle.outcome.proofs.Outcome.{present≢untouched}
+use Rattle.library.proofs.Accepted.{counted}
+use Rattle.runs.specs.Possible.{possible}
+use Rattle.runs.proofs.Outcome.{present≢untouched}
 use Rattle.card.specs.Answer.{cardArea, cardsOf, cardsAnswer}
 use Rattle.card.specs.Area.{partWord}
 use Rattle.card.specs.Card.{card, cards}
 use Rattle.card.specs.Meaning.{Always, needed, set, cleared, place, cardWord}
 use Rattle.card.proofs.Meaning.{flags-count}
-use Rattle.chain.specs.Link.{Link, touchLink, untouchedLink, Chain, Fits}
-use Rattle.chain.specs.Answer.{shown}
-use Rattle.chain.specs.Call.{answered, chained}
-use Rattle.chain.specs.Reply.{replyNumber}
+use Rattle.rank.specs.Link.{Link, touchLink, untouchedLink, Chain, Fits}
+use Rattle.rank.specs.Answer.{shown}
+use Rattle.rank.specs.Call.{answered, chained}
+use Rattle.link.specs.Reply.{replyNumber}
 use Rattle.dulimoven.specs.Samples.{L, selfCall, clearThenNeed, pulse}
 use Rattle.dulimoven.specs.Demands.{Engine, count, Ready, Demand1, Demand2, Sees, Proves, Demand3}
 use Rattle.dulimoven.specs.Wrong.{BlankColumn, OneCard, Untouched, NoneAtOnce, AlwaysTwelve, SameLink, InventedLinks, InventedCount, RefusesAll, RefusesAllCards, RefusesAllChains}

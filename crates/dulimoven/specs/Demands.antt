@@ -5,26 +5,26 @@ use mathlib.Core.Path.{_≡_}
 use mathlib.Core.Logic.{_↔_, _⊎_}
 use mathlib.Core.List.{List, _++_}
 use lib.ListN.{length, getD, drop}
-use Rattle.image.specs.Accepted.{All}
+use Rattle.library.specs.Accepted.{All}
 use Rattle.image.specs.Answer.{checkedAnswer}
-use Rattle.image.specs.Checked.{checked}
-use Rattle.image.specs.Library.{Library, libraryOf}
+use Rattle.reader.specs.Checked.{checked}
+use Rattle.library.specs.Library.{Library, libraryOf}
 use Rattle.image.specs.declared.answer.Head.{Head}
 use Rattle.image.specs.declared.answer.Refusal.{Refusal}
 use Rattle.image.specs.declared.answer.Checked.{Checked}
-use Rattle.outcome.specs.Run.{Item, Run}
-use Rattle.outcome.specs.Execution.{Fact, State, Executes}
-use Rattle.outcome.specs.Touch.{questionOf, HasOutcome}
+use Rattle.runs.specs.Run.{Item, Run}
+use Rattle.runs.specs.Execution.{Fact, State, Executes}
+use Rattle.runs.specs.Touch.{questionOf, HasOutcome}
 use Rattle.card.specs.Card.{cardWords}
 use Rattle.card.specs.Answer.{cardsOf, cardArea, cardsAnswer}
 use Rattle.card.specs.Area.{partWord}
 use Rattle.card.specs.Meaning.{Card, Kept, Always, needed, set, cleared, Breaks, Missing}
 use Rattle.card.specs.declared.answer.Cards.{Cards}
-use Rattle.chain.specs.Link.{Chain, chainWords, Fits}
-use Rattle.chain.specs.Stands.{StandsFor}
-use Rattle.chain.specs.Answer.{none}
-use Rattle.chain.specs.Call.{Reply, refused, answered, chained, areaAfter}
-use Rattle.chain.specs.Reply.{replyNumber}
+use Rattle.rank.specs.Link.{Chain, chainWords, Fits}
+use Rattle.rank.specs.Stands.{StandsFor}
+use Rattle.rank.specs.Answer.{none}
+use Rattle.rank.specs.Call.{Reply, refused, answered, chained, areaAfter}
+use Rattle.link.specs.Reply.{replyNumber}
 
 -- ---- what a caller sees
 

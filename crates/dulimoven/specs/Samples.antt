@@ -7,16 +7,16 @@ use mathlib.Core.List.{List, [], _∷_, _++_}
 use lib.ListN.{length, replicate}
 use lib.Dec.{eqb}
 use Rattle.image.specs.Answer.{checkedAnswer}
-use Rattle.image.specs.Checked.{scan, checked}
-use Rattle.image.specs.Library.{has, libraryOf}
-use Rattle.image.specs.Rules.{opened, lastOf}
+use Rattle.reader.specs.Checked.{scan, checked}
+use Rattle.library.specs.Library.{has, libraryOf}
+use Rattle.rules.specs.Rules.{opened, lastOf}
 use Rattle.image.specs.Word.{total}
-use Rattle.outcome.specs.Possible.{possible}
+use Rattle.runs.specs.Possible.{possible}
 use Rattle.card.specs.Card.{card, cards}
 use Rattle.card.specs.Answer.{cardsOf, cardArea, cardsAnswer}
-use Rattle.chain.specs.Link.{chainWords}
-use Rattle.chain.specs.Call.{Reply, chained, areaAfter}
-use Rattle.chain.specs.Reply.{replyNumber}
+use Rattle.rank.specs.Link.{chainWords}
+use Rattle.rank.specs.Call.{Reply, chained, areaAfter}
+use Rattle.link.specs.Reply.{replyNumber}
 
 -- "Library L, 20 words in hexadecimal, F = A = C = 3"
 abbrev pub L : List ℕ

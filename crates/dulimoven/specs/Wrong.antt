@@ -5,13 +5,13 @@ use mathlib.Core.Path.{_≡_}
 use mathlib.Core.Logic.{_≢_}
 use mathlib.Core.List.{List, [], _∷_, _++_}
 use lib.ListN.{length, drop, replicate}
-use Rattle.image.specs.Library.{libraryOf}
+use Rattle.library.specs.Library.{libraryOf}
 use Rattle.card.specs.Card.{cardWords, changeable}
 use Rattle.card.specs.Area.{partWord}
 use Rattle.card.specs.Meaning.{Always, place}
-use Rattle.chain.specs.Link.{Link, Chain, chainWords}
-use Rattle.chain.specs.Answer.{Answer, shown}
-use Rattle.chain.specs.Call.{answered, chained}
+use Rattle.rank.specs.Link.{Link, Chain, chainWords}
+use Rattle.rank.specs.Answer.{Answer, shown}
+use Rattle.rank.specs.Call.{answered, chained}
 use Rattle.dulimoven.specs.Demands.{Engine, Left, engine, Refuses, Ready, count, Asks, Sees, Proves}
 
 -- "blank "always" columns": one of them is blank on every card

@@ -1,10 +1,10 @@
 // The C side: the calls that a simulator makes, with plain numbers and lent arrays. include/dulimoven.h declares them.
 ghost use mathlib.Core.Path.{_≡_};
 ghost use Rattle.image.specs.Answer.{checkedAnswer};
-ghost use Rattle.image.specs.Checked.{checked};
+ghost use Rattle.reader.specs.Checked.{checked};
 ghost use Rattle.card.specs.Answer.{cardsOf, cardArea, cardsAnswer};
-ghost use Rattle.chain.specs.Call.{chained, areaAfter};
-ghost use Rattle.chain.specs.Reply.{replyNumber};
+ghost use Rattle.rank.specs.Call.{chained, areaAfter};
+ghost use Rattle.link.specs.Reply.{replyNumber};
 ghost use lib.ListN.{length};
 
 // The check: the head's payload for an accepted image, or N × 2^32 + P for refusal N at position P.
@@ -12,7 +12,7 @@ ghost use lib.ListN.{length};
 pub extern "C" fn dulimoven_check(image: &[u32]) -> u64
     ensures { λ r. ⌜ r ≡ checkedAnswer (checked (now (image .entry))) ⌝ }
 {
-    image::answer::checked_answer(image::check::check(image))
+    image::answer::checked_answer(reader::check::check(image))
 }
 
 // The cards: C with the cards of all sequences written, seven words a sequence, or N × 2^32 + P for refusal N at position P with the area as
@@ -38,5 +38,5 @@ pub extern "C" fn dulimoven_chain(
     ensures answer { λ r. ⌜ r ≡ replyNumber (chained (now (image .entry)) sequence question fact (length (now (area .entry)))) ⌝ }
     ensures area { λ _. ⌜ now (area .exit) ≡ areaAfter (chained (now (image .entry)) sequence question fact (length (now (area .entry)))) (now (area .entry)) ⌝ }
 {
-    chain::answer::chain_answer(chain::call::chain(image, sequence, question, fact, area))
+    link::answer::chain_answer(chain::call::chain(image, sequence, question, fact, area))
 }

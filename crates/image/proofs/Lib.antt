@@ -1,11 +1,3 @@
-pub mod Accepted
 pub mod Bools
-pub mod Decode
-pub mod Rows
-pub mod Seam
-pub mod Lookup
-pub mod Read
 pub mod Sum
-pub mod Right
-pub mod Walk
-pub mod Sizes
+pub mod Entries

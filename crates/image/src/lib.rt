@@ -1,7 +1,3 @@
 // The reader of library images: refusals 1 to 7 of document 01, and the library that an accepted image holds.
 pub mod answer;
-pub mod check;
-pub mod parts;
-pub mod rules;
-pub mod tables;
 pub mod word;

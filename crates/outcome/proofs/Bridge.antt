@@ -1,34 +1,32 @@
 -- The walk over words, for one fact: what is folded and united is what `Rows` says of the library's entries and alternatives.
 -- Assumes nothing.
-use Prim.Native.Nat.{ℕ, suc, _+_, _*_, _^_, _≤_, _<_}
+use Prim.Native.Nat.{ℕ, _≤_, _<_}
 use native.Mathlib.Omega.{arith}
-use mathlib.Core.Path.{_≡_, refl, sym, ap, ap₂, _∙_, subst}
+use mathlib.Core.Path.{_≡_, refl, sym, ap, ap₂, _∙_}
 use mathlib.Core.Bool.{Bool, true, false, cond, _&&_, _||_, or-false, or-assoc}
 use mathlib.Core.Logic.{_⊎_, inl, inr, ⊎-elim}
 use mathlib.Core.List.{List, [], _∷_}
-use lib.ListN.{length, getD}
+use lib.ListN.{length}
 use lib.Dec.{eqb}
 use borrow.Author.Tests.{ne-eqb, eq-eqb, eqb-true, eqb-false}
 use mir.Val.{boolByte}
-use Rattle.column.specs.Column.{bit}
-use Rattle.column.proofs.Bits.{column-lt}
 use Rattle.image.specs.Word.{kind, payload, isKind, isEntry}
-use Rattle.image.specs.Library.{has, Library, Step, Entry, step, call, entriesFrom, alternativesFrom}
-use Rattle.image.specs.Accepted.{All, SequenceWord}
-use Rattle.image.specs.Tables.{maskOf}
+use Rattle.library.specs.Library.{has, Library, Step, Entry, step, call, entriesFrom, alternativesFrom}
+use Rattle.library.specs.Accepted.{All, SequenceWord}
+use Rattle.library.specs.Tables.{maskOf}
 use Rattle.image.specs.declared.answer.Head.{Head}
-use Rattle.image.proofs.Decode.{entries-nil, entries-step, entries-call, entries-end, alternatives-nil, alternatives-open, alternatives-entry, alternatives-end}
-use Rattle.image.proofs.Lookup.{mask-bit, mask-lt}
-use Rattle.outcome.specs.Tests.{some}
-use Rattle.outcome.specs.Execution.{stepOf, noStep}
-use Rattle.outcome.specs.Rows.{entryRow, foldRow, readRow, joinRow, touchRow}
-use Rattle.outcome.specs.Rows as rows
-use Rattle.outcome.specs.Words.{allFacts, startRow, stepRow, joinRows, orRows, liveRow, rowIn, isSet, bitRow}
+use Rattle.library.proofs.Decode.{entries-nil, entries-step, entries-call, entries-end, alternatives-nil, alternatives-open, alternatives-entry, alternatives-end}
+use Rattle.library.proofs.Lookup.{mask-bit, mask-lt}
+use Rattle.runs.specs.Tests.{some}
+use Rattle.runs.specs.Execution.{stepOf}
+use Rattle.runs.specs.Rows.{entryRow, foldRow, readRow, joinRow, touchRow}
+use Rattle.runs.specs.Rows as rows
+use Rattle.runs.specs.Words.{allFacts, startRow, stepRow, joinRows, orRows, rowIn, isSet, bitRow}
 use Rattle.outcome.specs.Walks.{entryWord, foldWords, alternativeWords, sequenceWords}
-use Rattle.outcome.specs.declared.row.Row.{Row}
-use Rattle.outcome.proofs.Rows.{stepRow-touch, join-agree, fold-agree}
+use Rattle.runs.specs.declared.row.Row.{Row}
+use Rattle.runs.proofs.Rows.{stepRow-touch, join-agree}
 use Rattle.outcome.proofs.Walks.{fold-cons, united-cons}
-use Rattle.outcome.proofs.Words.{join-bits, or-bits, live-bits, start-bits, step-bits}
+use Rattle.runs.proofs.Words.{join-bits, or-bits, live-bits, start-bits, step-bits}
 
 -- a word of the sequences' part opens a sequence or an alternative, or is an entry
 data Sort (w : ℕ) : Type 0 where

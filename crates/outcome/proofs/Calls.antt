@@ -1,29 +1,28 @@
 -- The outcome table by stale sequences: a sequence's row depends on those that it calls and on no other. And the sets of callers, bit by bit.
 -- Assumes nothing.
-use Prim.Native.Nat.{ℕ, zero, suc, _+_, _-_, _*_, _^_, _≤_, _<_}
+use Prim.Native.Nat.{ℕ, _+_, _-_, _*_, _≤_, _<_}
 use native.Mathlib.Omega.{arith}
-use native.Mathlib.Nat.{pow-suc}
 use native.Mathlib.Decide.{ℕ-discrete}
 use mathlib.Core.Path.{_≡_, refl, sym, ap, ap₂, _∙_, subst}
 use mathlib.Core.Bool.{Bool, true, false, cond, _&&_, _||_, false≢true}
 use mathlib.Core.List.{List, [], _∷_}
-use lib.Bits.{bitOr}
 use lib.Dec.{eqb}
 use lib.ListN.{length, getD, drop}
-use lib.Pow.{pow-mono}
 use borrow.Author.Tests.{eq-eqb, ne-eqb}
 use Rattle.image.specs.Word.{kind, payload, isKind, isEntry}
 use Rattle.column.specs.Column.{bit}
-use Rattle.column.proofs.Bits.{bit-or, bits-equal}
-use Rattle.outcome.specs.Words.{noRow, startRow, orRows, joinRows, liveRow, rowIn, withRow}
+use Rattle.runs.specs.Words.{noRow, startRow, orRows, joinRows, liveRow, rowIn, withRow}
 use Rattle.outcome.specs.Walks.{entryWord, foldWords, alternativeWords, sequenceWords}
-use Rattle.outcome.specs.Passes.{visitedRow, visited}
-use Rattle.outcome.specs.Stale.{callsIn, calls}
-use Rattle.outcome.specs.declared.row.Row.{Row}
-use Rattle.outcome.proofs.Tests.{and-both, or-left, or-right}
+use Rattle.visits.specs.Passes.{Visit}
+use Rattle.outcome.specs.Visited.{lacking, visitedRow, visited}
+use Rattle.visits.specs.Stale.{Fresh, isStale, isCaller, callsIn, calls, CallersWritten, Freshened}
+use Rattle.runs.specs.declared.row.Row.{Row}
+use Rattle.runs.proofs.Tests.{and-both, or-left, or-right}
 use Rattle.outcome.proofs.Stores.{rows-again, row-same, row-other, row-again}
-use Rattle.outcome.proofs.Walks.{entry-kinds, entry-high, fold-cons, united-cons}
-use Rattle.outcome.proofs.Stale.{Local}
+use Rattle.image.proofs.Entries.{entry-kinds, entry-high}
+use Rattle.outcome.proofs.Walks.{fold-cons, united-cons}
+use Rattle.visits.proofs.Stale.{Local, fresh-turn}
+use Rattle.visits.proofs.CallerSets.{back}
 
 -- ---- calls in words
 
@@ -143,3 +142,12 @@ module _ (all : ℕ) (steps part places : List ℕ) where
             ];
         again = λ t c low room apart. visit-again t c (omega arith) apart;
       }
+
+pub fresh-visit : (all : ℕ) (steps part places callers : List ℕ) (n : ℕ) (t : List ℕ) (c : ℕ) (t′ : List ℕ) (b : Bool) (s s′ : List ℕ) → 8 * n ≤ length t → 4 * n ≤ length callers
+    → c < n → CallersWritten n part places callers → Fresh (visited all steps part places) n (isStale s) t → Visit (visited all steps part places) lacking t c t′ b
+    → Freshened n callers c s s′ b → Fresh (visited all steps part places) n (isStale s′) t′
+fresh-visit all steps part places callers n t c t′ b s s′ rows room low written fresh v after =
+    fresh-turn (visits-local all steps part places n) t c t′ b (isStale s) (isStale s′) rows low fresh v
+    (λ d l e.
+    let p = after d l e in
+    (p .0, λ q. back (calls part places d c) (isCaller callers c d) (written d c l (omega arith)) (p .1 q)))

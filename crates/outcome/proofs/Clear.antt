@@ -1,14 +1,14 @@
 -- A loop that clears an area from the front.
 -- Assumes nothing.
 use Prim.Native.Nat.{ℕ, _+_, _≤_, _<_}
-use native.Mathlib.Decide.{ℕ-discrete, decLt}
+use native.Mathlib.Decide.{decLt}
 use native.Mathlib.Omega.{arith}
-use mathlib.Core.Path.{_≡_, sym, ap, _∙_}
+use mathlib.Core.Path.{_≡_, _∙_}
 use mathlib.Core.List.{List}
 use lib.ListN.{length, getD, set, List·getD-eq-default}
 use lib.Seq.{getD-set-same, getD-set-other}
-use borrow.Author.Count.{below-none, below-more}
-use Rattle.outcome.specs.Area.{Blank}
+use borrow.Author.Count.{below-more}
+use Rattle.visits.specs.Passes.{Blank}
 
 -- the words below i are 0
 abbrev pub Cleared : List ℕ → ℕ → Type 0

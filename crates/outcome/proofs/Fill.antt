@@ -1,38 +1,34 @@
 -- The tables that are made of the two parts of an accepted image are what the passes ask.
 -- Assumes nothing.
-use Prim.Native.Nat.{ℕ, zero, suc, _+_, _*_, _^_, _≤_, _<_}
+use Prim.Native.Nat.{ℕ, _+_, _*_, _≤_, _<_}
 use native.Mathlib.Decide.{decLt}
 use native.Mathlib.Omega.{arith}
 use mathlib.Core.Path.{_≡_, refl, sym, ap, ap₂, _∙_, subst, subst₂}
 use mathlib.Core.Bool.{false}
-use mathlib.Core.List.{List, [], _∷_, _++_}
-use lib.ListN.{length, getD, take, drop, replicate, length-replicate, List·getD-append}
-use lib.Seq.{getD-drop, length-take-le}
-use lib.Pow.{pow-pos}
-use Rattle.image.specs.Word.{kind, payload}
-use Rattle.image.specs.Rules.{opened}
-use Rattle.image.specs.Library.{Library, Step, stepsFrom, sequencesFrom, stepsPart, sequencesPart, libraryOf}
-use Rattle.image.specs.Accepted.{All, Below, StepWord, SequenceWord}
-use Rattle.image.specs.Tables.{SequencesAsked, StepsAsked, maskOf, masks, placesFrom}
+use mathlib.Core.List.{List, _++_}
+use lib.ListN.{length, getD, take, replicate, length-replicate, List·getD-append}
+use lib.Seq.{length-take-le}
+use Rattle.rules.specs.Rules.{opened}
+use Rattle.library.specs.Library.{stepsFrom, stepsPart, sequencesPart, libraryOf}
+use Rattle.library.specs.Accepted.{Below, SequenceWord}
+use Rattle.library.specs.Tables.{SequencesAsked, StepsAsked, masks, placesFrom}
 use Rattle.image.specs.declared.answer.Head.{Head}
-use Rattle.image.proofs.Accepted.{steps-below, faultless, parts, library-is}
-use Rattle.image.proofs.Decode.{steps-length, sequences-length}
-use Rattle.image.proofs.Lookup.{masks-length, row-at, mask-low, places-length, Placed, place-at}
-use Rattle.image.proofs.Rows.{all-at}
-use Rattle.outcome.specs.Area.{outcomes, Blank, TableAsked, FillAsked, RowsAsked, Areas, libraryIn}
-use Rattle.outcome.specs.Execution.{noStep}
-use Rattle.outcome.specs.Words.{allFacts, stepRow, rowIn}
+use Rattle.library.proofs.Accepted.{steps-below, faultless, parts, library-is}
+use Rattle.library.proofs.Decode.{steps-length, sequences-length}
+use Rattle.library.proofs.Lookup.{masks-length, row-at, mask-low, places-length, Placed, place-at}
+use Rattle.library.proofs.Rows.{all-at}
+use Rattle.visits.proofs.Visits.{blank-zeros}
+use Rattle.outcome.specs.Area.{outcomes, TableAsked, FillAsked, RowsAsked, Areas, libraryIn}
+use Rattle.visits.specs.Passes.{Blank}
+use Rattle.runs.specs.Execution.{noStep}
+use Rattle.runs.specs.Words.{allFacts, stepRow, rowIn}
 use Rattle.outcome.specs.Walks.{StepRows}
-use Rattle.outcome.specs.Passes.{Pass, lacking, Visitable, visited}
+use Rattle.visits.specs.Passes.{Pass}
+use Rattle.outcome.specs.Visited.{lacking, Visitable, visited}
 use Rattle.outcome.proofs.Bridge.{rowOfStep}
 use Rattle.outcome.proofs.Filled.{table-filled}
 use Rattle.outcome.proofs.Low.{LowRow, none-low, step-low}
 use Rattle.outcome.proofs.Settled.{Given, blank-row}
-
-pub blank-zeros : (n : ℕ) → Blank (replicate n 0)
-blank-zeros zero k = refl
-blank-zeros (suc n) zero = refl
-blank-zeros (suc n) (suc k) = blank-zeros n k
 
 -- rows of zeros that have the room
 pub rows-asked : (h : Head) (ms : List ℕ) (n : ℕ) → 3 * h .steps ≤ length ms → 8 * h .steps ≤ n → RowsAsked h ms (replicate n 0)

@@ -3,29 +3,30 @@
 use Prim.Native.Nat.{ℕ, zero, suc, _+_, _-_, _*_, _^_, _≤_, _<_}
 use native.Mathlib.Nat.{add-zero, zero-add, add-suc, suc-add}
 use native.Mathlib.Omega.{arith}
-use mathlib.Core.Path.{_≡_, refl, sym, ap, ap₂, _∙_, subst}
-use mathlib.Core.Bool.{Bool}
-use mathlib.Core.List.{List, [], _∷_, _++_}
-use lib.ListN.{length, getD, take, drop, length-drop, take-append-drop, drop-of-length-le}
+use mathlib.Core.Path.{_≡_, refl, sym, ap, _∙_, subst}
+use mathlib.Core.List.{List, _∷_, _++_}
+use lib.ListN.{length, getD, drop, length-drop, take-append-drop, drop-of-length-le}
 use lib.Seq.{getD-drop}
 use lib.Dec.{eqb}
 use mir.Val.{boolByte}
-use Rattle.column.specs.Column.{bit, column}
+use Rattle.column.specs.Column.{bit}
 use Rattle.column.proofs.Bits.{bit-le, column-is}
-use Rattle.image.specs.Library.{Library}
+use Rattle.library.specs.Library.{Library}
 use Rattle.image.specs.declared.answer.Head.{Head}
-use Rattle.outcome.specs.Touch.{Side, last, first, Mark, present, absent, untouched}
-use Rattle.outcome.specs.Possible.{columnPossible}
+use Rattle.runs.specs.Touch.{Side, last, first, Mark, present, absent, untouched}
+use Rattle.runs.specs.Possible.{columnPossible}
 use Rattle.outcome.specs.Area.{outcomeWord, outcomeRows, outcomes}
-use Rattle.outcome.specs.Rows.{columnNumber}
-use Rattle.outcome.specs.Words.{allFacts, rowIn, wordsOf, isSet}
-use Rattle.outcome.specs.Passes.{Reached, Settled, visited}
-use Rattle.outcome.specs.declared.row.Row.{Row}
+use Rattle.runs.specs.Rows.{columnNumber}
+use Rattle.runs.specs.Words.{allFacts, rowIn, wordsOf}
+use Rattle.visits.specs.Passes.{Reached, Settled}
+use Rattle.outcome.specs.Visited.{visited}
+use Rattle.runs.specs.declared.row.Row.{Row}
 use Rattle.outcome.proofs.Low.{LowRow, none-low, reached-low}
-use Rattle.outcome.proofs.Rows.{by-column}
+use Rattle.runs.proofs.Rows.{by-column}
 use Rattle.outcome.proofs.Settled.{Given, blank-row, settled-bits}
 use Rattle.outcome.proofs.Stores.{wordsFrom, take-words}
-use Rattle.outcome.proofs.Visits.{visits-lower, reached-length}
+use Rattle.outcome.proofs.Visited.{visits-lower}
+use Rattle.visits.proofs.Visits.{reached-length}
 
 -- a word of a table is the word of its row
 word-row : (t : List ℕ) (c j : ℕ) → j < 8 → getD t (8 * c + j) 0 ≡ getD (wordsOf (rowIn t c)) j 0

@@ -1,24 +1,25 @@
 -- No bit is set from F upward: of each formula on rows, of a walk, and of a table that visits lead to from a blank one.
 -- Assumes nothing.
-use Prim.Native.Nat.{ℕ, zero, suc, _+_, _-_, _*_, _^_, _≤_, _<_}
+use Prim.Native.Nat.{ℕ, _+_, _-_, _*_, _^_, _≤_, _<_}
 use native.Mathlib.Decide.{ℕ-discrete}
 use native.Mathlib.Nat.{lt-of-le-of-lt}
 use native.Mathlib.Omega.{arith}
-use mathlib.Core.Path.{_≡_, refl, sym, ap, _∙_, subst}
+use mathlib.Core.Path.{sym, subst}
 use mathlib.Core.Bool.{Bool, true, false, cond}
 use mathlib.Core.List.{List, [], _∷_}
 use lib.ListN.{length, getD, drop}
-use lib.Bits.{bitAnd, bitOr, and-le-l, and-lt, or-lt}
+use lib.Bits.{bitAnd, bitOr, and-le-l, or-lt}
 use lib.Pow.{pow-pos, ones-lt}
 use Rattle.image.specs.Word.{payload, isKind, isEntry}
-use Rattle.image.specs.Accepted.{All}
-use Rattle.outcome.specs.Words.{allFacts, noRow, startRow, notWord, stepMarks, stepRow, laterMarks, joinRows, orMarks, orRows, liveMarks, liveRow, rowIn, withRow, wordsOf}
+use Rattle.runs.specs.Words.{allFacts, noRow, startRow, notWord, stepMarks, stepRow, laterMarks, joinRows, orMarks, orRows, liveRow, rowIn}
 use Rattle.outcome.specs.Walks.{entryWord, foldWords, alternativeWords, sequenceWords}
-use Rattle.outcome.specs.Passes.{visitedRow, visited, Reached, here, next}
-use Rattle.outcome.specs.declared.row.Marks.{Marks}
-use Rattle.outcome.specs.declared.row.Row.{Row}
+use Rattle.outcome.specs.Visited.{visited}
+use Rattle.visits.specs.Passes.{Reached, here, next}
+use Rattle.runs.specs.declared.row.Marks.{Marks}
+use Rattle.runs.specs.declared.row.Row.{Row}
 use Rattle.outcome.proofs.Stores.{row-same, row-other}
-use Rattle.outcome.proofs.Visits.{visits-lower, reached-length}
+use Rattle.outcome.proofs.Visited.{visits-lower}
+use Rattle.visits.proofs.Visits.{reached-length}
 
 module _ (n : ℕ) where
   LowMarks : Marks → Type 0

@@ -1,35 +1,37 @@
 -- A table of words that visits lead to from a blank one, and that no visit changes, is the outcome table: its bits are good rows to
 -- which reading adds nothing, and no bit is set from F upward.
 -- Assumes nothing.
-use Prim.Native.Nat.{ℕ, zero, suc, _+_, _-_, _*_, _^_, _≤_, _<_}
+use Prim.Native.Nat.{ℕ, zero, suc, _+_, _-_, _*_, _≤_, _<_}
 use native.Mathlib.Nat.{le-of-suc-le-suc}
 use native.Mathlib.Decide.{ℕ-discrete, decLt}
 use native.Mathlib.Numerals.{add-one}
 use native.Mathlib.Omega.{arith}
 use mathlib.Core.Path.{_≡_, refl, sym, ap, ap₂, _∙_, subst, fun-ext}
-use mathlib.Core.Bool.{Bool, true, false, _&&_, _||_, false≢true}
+use mathlib.Core.Bool.{Bool, true, false, _||_}
 use mathlib.Core.List.{List, [], _∷_, List·Memᴰ, List·Memᴰ·head, List·Memᴰ·tail}
-use lib.ListN.{length, getD, take, drop, List·getD-eq-default}
-use Rattle.image.specs.Library.{Library, Sequence, Alternative, Entry, alternativesFrom, sequencesFrom}
-use Rattle.image.specs.Accepted.{All, SequenceWord}
+use lib.ListN.{length, getD, drop, List·getD-eq-default}
+use Rattle.library.specs.Library.{Library, Sequence, Alternative, Entry, alternativesFrom, sequencesFrom}
+use Rattle.library.specs.Accepted.{All, SequenceWord}
 use Rattle.image.specs.declared.answer.Head.{Head}
-use Rattle.image.proofs.Lookup.{Placed}
-use Rattle.outcome.specs.Tests.{some}
-use Rattle.outcome.specs.Run.{alternativesOf, alternativeOf}
-use Rattle.outcome.specs.Touch.{Side, last, first, Mark, present, absent, untouched}
-use Rattle.outcome.specs.Algebra.{sideAlgebra}
-use Rattle.outcome.specs.Possible.{columnPossible}
-use Rattle.outcome.specs.Rows.{Row, columnNumber, rowSide, readRow, GoodRow, GoodRows, ClosedRows}
-use Rattle.outcome.specs.Words.{allFacts, noRow, orRows, rowIn, withRow, wordsOf, isSet, bitRow}
+use Rattle.library.proofs.Lookup.{Placed}
+use Rattle.runs.specs.Tests.{some}
+use Rattle.runs.specs.Run.{alternativesOf, alternativeOf}
+use Rattle.runs.specs.Touch.{Side, last, first, Mark, present, absent, untouched}
+use Rattle.runs.specs.Algebra.{sideAlgebra}
+use Rattle.runs.specs.Possible.{columnPossible}
+use Rattle.runs.specs.Rows.{Row, columnNumber, readRow, GoodRow, GoodRows, ClosedRows}
+use Rattle.runs.specs.Words.{allFacts, noRow, orRows, rowIn, bitRow}
 use Rattle.outcome.specs.Walks.{sequenceWords}
-use Rattle.outcome.specs.Passes.{visitedRow, visited, Reached, here, next, Settled}
-use Rattle.outcome.specs.declared.row.Row as words
+use Rattle.outcome.specs.Visited.{visited}
+use Rattle.visits.specs.Passes.{Reached, here, next, Settled}
+use Rattle.runs.specs.declared.row.Row as words
 use Rattle.outcome.proofs.Bridge.{Stepped, tableBits, sequence-bits}
-use Rattle.outcome.proofs.Rows.{by-column, columnNumber-below, none-good, or-good, read-good, rows-possible}
+use Rattle.runs.proofs.Rows.{by-column, columnNumber-below, none-good, or-good, read-good, rows-possible}
 use Rattle.outcome.proofs.Stores.{row-same, row-other}
-use Rattle.outcome.proofs.Tests.{or-right, some-intro}
-use Rattle.outcome.proofs.Visits.{visits-lower, reached-length}
-use Rattle.outcome.proofs.Words.{or-bits, none-set}
+use Rattle.runs.proofs.Tests.{or-right, some-intro}
+use Rattle.outcome.proofs.Visited.{visits-lower}
+use Rattle.visits.proofs.Visits.{reached-length}
+use Rattle.runs.proofs.Words.{or-bits, none-set}
 
 -- rows that agree are good together
 good-agree : (L : Library) (f c : ℕ) (r r′ : Row) → ((j : ℕ) → j < 8 → r j ≡ r′ j) → GoodRow L f c r → GoodRow L f c r′

@@ -2,26 +2,26 @@
 -- Assumes nothing.
 use Prim.Native.Nat.{ℕ, zero, suc, _+_, _-_, _*_, _^_, _≤_, _<_}
 use native.Mathlib.Nat.{add-zero, add-suc, suc-add, pow-suc, le-of-suc-le-suc}
-use native.Mathlib.Numerals.{add-one, towards-suc}
+use native.Mathlib.Numerals.{towards-suc}
 use native.Mathlib.Decide.{decLt}
 use native.Mathlib.Omega.{arith}
-use mathlib.Core.Path.{_≡_, refl, sym, ap, ap₂, _∙_, subst}
-use mathlib.Core.Bool.{Bool, true, false, _&&_, false≢true}
+use mathlib.Core.Path.{_≡_, refl, sym, ap, ap₂, _∙_}
+use mathlib.Core.Bool.{true, false, _&&_, false≢true}
 use mathlib.Core.Logic.{_⊎_, inl, inr, ⊎-elim}
 use mathlib.Core.List.{List, [], _∷_, _++_}
 use lib.ListN.{length, getD, set, take, drop, length-set, take-append-drop}
 use lib.Seq.{sets, sets-eq, length-sets, drop-cons, drop-drop, getD-set-same, getD-set-other, set-getD}
-use lib.Bits.{bitOr, bitAnd, or-add-and, and-le-r}
+use lib.Bits.{bitOr, or-add-and, and-le-r}
 use lib.Dec.{eqb}
 use lib.Pow.{pow-mono}
 use borrow.Author.Tests.{eq-eqb, eqb-true}
 use Rattle.column.proofs.Bits.{bit-or, bits-equal}
-use Rattle.image.specs.Accepted.{All}
+use Rattle.library.specs.Accepted.{All}
 use Rattle.image.proofs.Bools.{and-left, and-right}
-use Rattle.outcome.specs.Words.{noRow, orRows, sameMarks, sameRows, rowIn, withRow, wordsOf}
-use Rattle.outcome.specs.Passes.{lacking}
-use Rattle.outcome.specs.declared.row.Marks.{Marks}
-use Rattle.outcome.specs.declared.row.Row.{Row}
+use Rattle.runs.specs.Words.{orRows, sameMarks, sameRows, rowIn, withRow, wordsOf}
+use Rattle.outcome.specs.Visited.{lacking}
+use Rattle.runs.specs.declared.row.Marks.{Marks}
+use Rattle.runs.specs.declared.row.Row.{Row}
 
 -- ---- a run of stores
 

@@ -1,31 +1,22 @@
 -- The loops over a sequence's words: what holds at the head of each, a turn, and the ways out.
 -- Assumes nothing.
-use Prim.Native.Nat.{ℕ, suc, _+_, _*_, _≤_, _<_}
+use Prim.Native.Nat.{ℕ, suc, _+_, _≤_, _<_}
 use native.Mathlib.Decide.{decLt}
 use native.Mathlib.Omega.{arith}
 use native.Mathlib.Numerals.{add-one}
 use mathlib.Core.Path.{_≡_, refl, sym, ap, _∙_}
-use mathlib.Core.Bool.{Bool, true, false, cond, _||_, false≢true}
-use mathlib.Core.Logic.{⊎-elim}
+use mathlib.Core.Bool.{Bool, true, false, cond}
 use mathlib.Core.List.{List, [], _∷_}
 use lib.ListN.{length, getD, drop}
 use lib.Bits.{and-zero-l}
 use lib.Seq.{drop-cons, drop-length}
-use borrow.Author.Tests.{eqb-true, eqb-false, eq-eqb, ne-eqb}
-use Rattle.image.specs.Word.{kind, payload, isKind, isEntry}
-use Rattle.image.proofs.Bools.{or-cases}
-use Rattle.outcome.specs.Words.{noRow, startRow, joinRows, orRows, liveRow}
-use Rattle.outcome.specs.Walks.{Within, Readable, entryWord, foldWords, alternativeWords, sequenceWords, AlternativeRead, NoEntry, EntriesEnd, EmptiesEnd}
-use Rattle.outcome.specs.declared.row.Row.{Row}
+use borrow.Author.Tests.{eqb-true, ne-eqb}
+use Rattle.image.specs.Word.{kind, isKind, isEntry}
+use Rattle.runs.specs.Words.{noRow, startRow, joinRows, orRows, liveRow}
+use Rattle.image.proofs.Entries.{entry-high}
+use Rattle.outcome.specs.Walks.{entryWord, foldWords, alternativeWords, sequenceWords, AlternativeRead, NoEntry, EntriesEnd, EmptiesEnd}
+use Rattle.runs.specs.declared.row.Row.{Row}
 use Rattle.outcome.specs.declared.read.Read.{Read}
-
--- an entry is of kind 8 or 9
-pub entry-kinds : (w : ℕ) → isEntry w ≡ true → (kind w ≡ 8 → ⊥) → kind w ≡ 9
-entry-kinds w e d = ⊎-elim (λ p. absurd (d (eqb-true (kind w) 8 p))) (λ p. eqb-true (kind w) 9 p) (or-cases (isKind 8 w) (isKind 9 w) e)
-
-pub entry-high : (w : ℕ) → isEntry w ≡ true → 8 ≤ kind w
-entry-high w e =
-    ⊎-elim (λ p. omega (arith, eqb-true (kind w) 8 p)) (λ p. omega (arith, eqb-true (kind w) 9 p)) (or-cases (isKind 8 w) (isKind 9 w) e)
 
 -- ---- one word
 

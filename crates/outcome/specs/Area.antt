@@ -3,16 +3,17 @@
 use Prim.Native.Nat.{ℕ, zero, suc, _*_, _≤_}
 use mathlib.Core.Path.{_≡_}
 use mathlib.Core.List.{List, [], _∷_, _++_}
-use lib.ListN.{length, getD, drop}
-use Rattle.image.specs.Library.{Library, stepsFrom, sequencesFrom}
-use Rattle.image.specs.Checked.{checked}
-use Rattle.image.specs.Tables.{masks, placesFrom}
-use Rattle.image.specs.Rules.{opened}
-use Rattle.image.specs.Accepted.{All, StepWord, SequenceWord, Numbered}
+use lib.ListN.{length, drop}
+use Rattle.library.specs.Library.{Library, stepsFrom, sequencesFrom}
+use Rattle.reader.specs.Checked.{checked}
+use Rattle.library.specs.Tables.{masks, placesFrom}
+use Rattle.rules.specs.Rules.{opened}
+use Rattle.library.specs.Accepted.{All, StepWord, SequenceWord, Numbered}
 use Rattle.image.specs.declared.answer.Head.{Head}
 use Rattle.image.specs.declared.answer.Checked.the-variants.{Accepted}
 use Rattle.column.specs.Column.{column}
-use Rattle.outcome.specs.Possible.{columnPossible}
+use Rattle.runs.specs.Possible.{columnPossible}
+use Rattle.visits.specs.Passes.{Blank}
 
 -- column j of sequence c: bit f, for f below F, is set exactly where the column's outcome is possible, and no other bit is
 unfoldable pub outcomeWord : Library → ℕ → ℕ → ℕ
@@ -36,10 +37,6 @@ outcomes L = outcomeRows L 0 (length (L .sequences))
 pub record TableAsked (h : Head) (image area : List ℕ) : Type 0 where
   pub accepted : checked image ≡ Accepted h
   pub room : 8 * h .sequences ≤ length area
-
--- every word is 0
-abbrev pub Blank : List ℕ → Type 0
-Blank area = (k : ℕ) → getD area k 0 ≡ 0
 
 -- what is asked of the two parts of an accepted image and of an area of eight words a sequence
 pub record FillAsked (h : Head) (first second table : List ℕ) : Type 0 where

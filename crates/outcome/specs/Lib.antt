@@ -1,16 +1,3 @@
 pub mod Area
-pub mod Tests
-pub mod Run
-pub mod Execution
-pub mod Touch
-pub mod Algebra
-pub mod Levels
-pub mod Possible
-pub mod Table
-pub mod Reading
-pub mod Rows
-pub mod Words
 pub mod Walks
-pub mod Passes
-pub mod Stale
-pub mod Published
+pub mod Visited

@@ -1,13 +1,13 @@
 -- One walk over the words of a sequence, in the form that the loops follow: the entries of an alternative are folded from left to
 -- right, and the alternatives of a sequence are united. What each gives for a fact is what `Rows` says, which `proofs/` shows.
-use Prim.Native.Nat.{ℕ, suc, _+_, _*_, _≤_, _<_}
+use Prim.Native.Nat.{ℕ, _+_, _*_, _≤_, _<_}
 use mathlib.Core.Path.{_≡_}
-use mathlib.Core.Bool.{Bool, true, false, cond}
+use mathlib.Core.Bool.{false, cond}
 use mathlib.Core.List.{List, [], _∷_}
 use lib.ListN.{length, getD, drop}
 use Rattle.image.specs.Word.{kind, payload, isKind, isEntry}
-use Rattle.outcome.specs.Words.{noRow, startRow, stepRow, joinRows, orRows, liveRow, rowIn}
-use Rattle.outcome.specs.declared.row.Row.{Row}
+use Rattle.runs.specs.Words.{startRow, stepRow, joinRows, orRows, liveRow, rowIn}
+use Rattle.runs.specs.declared.row.Row.{Row}
 use Rattle.outcome.specs.declared.read.Read.{Read}
 
 -- an entry names a row of the steps' table or of the table of outcomes

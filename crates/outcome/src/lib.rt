@@ -1,8 +1,5 @@
-// Runs, touches and outcomes: the definitions of source documents 000 and 001, their theory, and the table of what is possible.
-pub mod callers;
-pub mod order;
+// The table of what is possible for each sequence, by passes until nothing changes.
 pub mod pass;
 pub mod read;
-pub mod row;
 pub mod steps;
 pub mod table;

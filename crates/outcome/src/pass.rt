@@ -1,21 +1,22 @@
 // Passes over the table until nothing changes, in an order that makes them few and against it in turn. A sequence is visited again only where
 // one that it calls has changed. A pass that changes nothing then shows that the table has all that is possible; so it is tested first that
 // the order names all sequences.
-use crate::callers::is_stale;
-use crate::callers::remove;
-use crate::callers::unite;
 use crate::read::read_sequence;
-use crate::row::put_row;
-use crate::row::row_at;
-use crate::row::same;
-use crate::row::united;
-ghost use mathlib.Core.Path.{_≡_};
+use runs::row::put_row;
+use runs::row::row_at;
+use runs::row::same;
+use runs::row::united;
+use visits::callers::is_stale;
+use visits::callers::remove;
+use visits::callers::unite;
+use visits::named::complete;
+use visits::named::place_of;
 ghost use mathlib.Core.Bool.{true, false};
 ghost use Prim.Native.Nat.{_+_, _*_, _≤_, _<_};
-ghost use lib.ListN.{length, getD, set};
-ghost use Rattle.outcome.specs.Area.{Blank};
-ghost use Rattle.outcome.specs.Stale.{isStale, Sets, Freshened, CallersWritten, Fresh};
-ghost use Rattle.outcome.specs.Passes.{Visit, Pass, Swept, Complete, Marked, AllMarked, placeOf, lacking, Visitable, visited};
+ghost use lib.ListN.{length};
+ghost use Rattle.visits.specs.Stale.{isStale, Sets, Freshened, CallersWritten, Fresh};
+ghost use Rattle.visits.specs.Passes.{Visit, Pass, Swept, Complete};
+ghost use Rattle.outcome.specs.Visited.{lacking, Visitable, visited};
 
 // Unites the row of sequence `c` with what its alternatives give. Answers whether that changed it.
 fn visit(
@@ -56,64 +57,6 @@ fn plain_pass(
         c += 1;
     }
     changed
-}
-
-// Marks number `c` where it has a mark.
-fn mark_one(seen: &mut [u32], c: usize)
-    ensures { λ _. ⌜ now (seen .exit) ≡ set (now (seen .entry)) c 1 ⌝ }
-{
-    if c < seen.len() {
-        seen[c] = 1;
-    }
-}
-
-// Marks each number that `order` names.
-fn mark(order: &[usize], seen: &mut [u32])
-    requires { ⌜ Blank (now seen) ⌝ }
-    ensures { λ _. ⌜ Marked (now (order .entry)) (now (seen .exit)) ⌝ }
-{
-    let mut i = 0;
-    while i < order.len() {
-        mark_one(seen, order[i]);
-        i += 1;
-    }
-}
-
-// Whether each number below `n` is marked.
-fn all_marked(seen: &[u32], n: usize) -> bool
-    ensures { λ r. ⌜ (r ≡ true → AllMarked (now (seen .entry)) n) ⌝ }
-{
-    if seen.len() < n {
-        return false;
-    }
-    let mut c = 0;
-    while c < n {
-        if seen[c] != 1 {
-            return false;
-        }
-        c += 1;
-    }
-    true
-}
-
-// Whether `order` names each number below `n`.
-pub fn complete(order: &[usize], n: usize) -> bool
-    ensures { λ r. ⌜ (r ≡ true → Complete (now (order .entry)) n) ⌝ }
-{
-    let mut seen = [0u32; 256];
-    mark(order, &mut seen);
-    all_marked(&seen, n)
-}
-
-// The place in an order of `len` numbers that comes at turn `i`: first to last, or last to first.
-pub fn place_of(forward: bool, len: usize, i: usize) -> usize
-    requires { ⌜ i < len ⌝ }
-    ensures { λ r. ⌜ (r ≡ placeOf forward len i) × (r < len) ⌝ }
-{
-    if forward {
-        return i;
-    }
-    len - 1 - i
 }
 
 // Visits sequence `c`, which then is fresh; where its row changed, its callers are stale.

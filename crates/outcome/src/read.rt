@@ -1,20 +1,20 @@
 // One walk over the words of a sequence: its alternatives, each folded from left to right for all facts at once.
-use crate::row::Row;
-use crate::row::joined;
-use crate::row::live;
-use crate::row::none;
-use crate::row::row_at;
-use crate::row::start;
-use crate::row::united;
 use image::word::is_entry;
 use image::word::is_kind;
 use image::word::payload_of;
+use runs::row::Row;
+use runs::row::joined;
+use runs::row::live;
+use runs::row::none;
+use runs::row::row_at;
+use runs::row::start;
+use runs::row::united;
 ghost use mathlib.Core.Path.{_≡_};
 ghost use mathlib.Core.Bool.{true, false};
-ghost use Prim.Native.Nat.{_+_, _*_, _≤_, _<_};
+ghost use Prim.Native.Nat.{_+_, _≤_, _<_};
 ghost use lib.ListN.{length, drop};
 ghost use Rattle.image.specs.Word.{isEntry};
-ghost use Rattle.outcome.specs.Words.{noRow};
+ghost use Rattle.runs.specs.Words.{noRow};
 ghost use Rattle.outcome.specs.Walks.{Within, Readable, entryWord, sequenceWords, AlternativeRead, NoEntry, EntriesEnd, EmptiesEnd};
 
 // The row of an alternative, and the index of the word after its entries.

@@ -1,22 +1,23 @@
 // The outcome table of a library: for each sequence eight words, worked out for all facts at once from the image's slices.
-use crate::callers::write_callers;
-use crate::order::finishing_order;
 use crate::pass::settle;
-use crate::row::all_facts;
 use crate::steps::write_step_rows;
 use image::answer::Head;
-use image::parts::sequences_part;
-use image::parts::steps_part;
-use image::tables::write_masks;
-use image::tables::write_places;
+use library::parts::sequences_part;
+use library::parts::steps_part;
+use library::tables::write_masks;
+use library::tables::write_places;
+use runs::row::all_facts;
+use visits::callers::write_callers;
+use visits::order::finishing_order;
 ghost use mathlib.Core.Path.{_≡_};
 ghost use mathlib.Core.List.{_++_};
 ghost use Prim.Native.Nat.{_+_, _*_, _≤_, _<_};
 ghost use lib.ListN.{length, drop};
-ghost use Rattle.image.specs.Library.{libraryOf};
-ghost use Rattle.image.specs.Tables.{StepsAsked, SequencesAsked};
-ghost use Rattle.outcome.specs.Stale.{CallersWritten};
-ghost use Rattle.outcome.specs.Area.{outcomes, TableAsked, FillAsked, RowsAsked, Areas, Prepared, Blank, libraryIn};
+ghost use Rattle.library.specs.Library.{libraryOf};
+ghost use Rattle.library.specs.Tables.{StepsAsked, SequencesAsked};
+ghost use Rattle.visits.specs.Stale.{CallersWritten};
+ghost use Rattle.outcome.specs.Area.{outcomes, TableAsked, FillAsked, RowsAsked, Areas, Prepared, libraryIn};
+ghost use Rattle.visits.specs.Passes.{Blank};
 
 // Clears an area.
 fn clear(area: &mut [u64])

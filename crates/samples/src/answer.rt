@@ -41,7 +41,7 @@ fn payload(head: Head) -> u64 {
 
 // The check's answer to an image.
 pub fn answer_to(image: &[u32]) -> Answer {
-    match image::check::check(image) {
+    match reader::check::check(image) {
         Checked::Accepted(head) => Answer {
             number: 0,
             value: payload(head),

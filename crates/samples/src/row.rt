@@ -37,7 +37,7 @@ impl Tally {
     }
 }
 
-fn long(x: u32) -> u64 {
+pub fn long(x: u32) -> u64 {
     x as u64
 }
 

@@ -1,44 +1,20 @@
 // The cards of all sequences of an accepted image, by the second engine.
-use crate::auxiliary::empty_refinements;
-use crate::domain::read_actions;
-use crate::domain::write_places;
-use crate::effects::infer_effects;
-use crate::preconditions::infer_preconditions;
-use crate::prepass::terminating;
-use crate::sets::has;
+use algorithms::auxiliary::empty_refinements;
+use algorithms::cards::put_bits;
+use algorithms::domain::read_actions;
+use algorithms::domain::write_places;
+use algorithms::effects::infer_effects;
+use algorithms::preconditions::infer_preconditions;
+use algorithms::prepass::terminating;
+use algorithms::sets::has;
 use image::answer::Checked;
 use image::answer::Head;
-use image::check::check;
-use image::parts::sequences_part;
-use image::parts::steps_part;
+use library::parts::sequences_part;
+use library::parts::steps_part;
+use reader::check::check;
 ghost use mathlib.Core.Path.{_≡_};
 ghost use Prim.Native.Nat.{_≤_, _<_};
 ghost use lib.ListN.{length};
-
-// Adds `bits` to word `k` of the card of sequence `c`.
-fn put_bits(area: &mut [u64], c: usize, k: usize, bits: u64)
-    ensures { λ _. ⌜ length (now (area .exit)) ≡ length (now (area .entry)) ⌝ }
-{
-    if 256 <= c {
-        return;
-    }
-    if 7 <= k {
-        return;
-    }
-    let at = 7 * c + k;
-    if at < area.len() {
-        area[at] = area[at] | bits;
-    }
-}
-
-// Puts fact `f` into column `k` of the card of sequence `c`, if it is `so`.
-pub fn put_fact(area: &mut [u64], c: usize, k: usize, f: u32, so: bool)
-    ensures { λ _. ⌜ length (now (area .exit)) ≡ length (now (area .entry)) ⌝ }
-{
-    if so {
-        put_bits(area, c, k, 1u64 << (f % 64));
-    }
-}
 
 // Empties the area.
 fn blank(area: &mut [u64])

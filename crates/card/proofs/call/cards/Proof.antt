@@ -8,7 +8,7 @@ use Rattle.card.proofs.call.cards.Tie as tie
 use Rattle.card.proofs.call.cards.Reads as reads
 use Rattle.card.proofs.call.cards.Lts as lts
 use Rattle.card.proofs.call.fill.Reads as fill-reads
-use Rattle.image.proofs.check.check.Reads as check-reads
+use Rattle.reader.proofs.check.check.Reads as check-reads
 
 check-requires : tie.Need-check-requires
 check-requires c κs = search needs

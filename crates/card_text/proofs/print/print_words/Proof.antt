@@ -6,7 +6,7 @@ use native.Mathlib.Omega.{arith}
 use mathlib.Core.Path.{refl, sym, ap, _∙_, subst}
 use mathlib.Core.List.{List}
 use lib.ListN.{length}
-use Rattle.image.specs.Checked.{checked}
+use Rattle.reader.specs.Checked.{checked}
 use Rattle.card_text.specs.Text.{InFront}
 use Rattle.card_text.specs.Print.{imageText}
 use Rattle.card_text.proofs.Printed.{length-words, words-part, answer-asked, answer-text}

@@ -8,7 +8,7 @@ use Rattle.chain.proofs.call.chain.Tie as tie
 use Rattle.chain.proofs.call.chain.Reads as reads
 use Rattle.chain.proofs.call.chain.Lts as lts
 use Rattle.chain.proofs.call.ask.Reads as ask-reads
-use Rattle.image.proofs.check.check.Reads as check-reads
+use Rattle.reader.proofs.check.check.Reads as check-reads
 
 check-requires : tie.Need-check-requires
 check-requires c κs = search needs

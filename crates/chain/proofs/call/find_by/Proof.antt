@@ -5,15 +5,15 @@ use borrow.Author.Needs.{needs}
 use native.Mathlib.Omega.{arith}
 use mathlib.Core.Bool.{true, false}
 use Rattle.chain.proofs.Finding.{image-long, few-sequences, tables-steppable, tables-visitable, tables-choosable, quietly, whether, quiet-done, link-done}
-use Rattle.chain.proofs.Writing.{answered-same}
+use Rattle.link.proofs.Writing.{answered-same}
 use Rattle.chain.proofs.call.find_by.Statement.{statement}
 use Rattle.chain.proofs.call.find_by.Tie as tie
 use Rattle.chain.proofs.call.find_by.Reads as reads
 use Rattle.chain.proofs.call.find_by.Lts as lts
 use Rattle.chain.proofs.call.link.Reads as link-reads
 use Rattle.chain.proofs.call.rank.Reads as rank-reads
-use Rattle.chain.proofs.write.write_chain.Reads as write-chain-reads
-use Rattle.image.proofs.parts.sequences_part.Reads as sequences-part-reads
+use Rattle.link.proofs.write.write_chain.Reads as write-chain-reads
+use Rattle.library.proofs.parts.sequences_part.Reads as sequences-part-reads
 
 cast-n : tie.Need-cast-n
 cast-n c = search needs

@@ -10,8 +10,8 @@ use Rattle.chain.proofs.call.find_in.Tie as tie
 use Rattle.chain.proofs.call.find_in.Reads as reads
 use Rattle.chain.proofs.call.find_in.Lts as lts
 use Rattle.chain.proofs.call.find_by.Reads as find-by-reads
-use Rattle.image.proofs.parts.sequences_part.Reads as sequences-part-reads
-use Rattle.image.proofs.parts.steps_part.Reads as steps-part-reads
+use Rattle.library.proofs.parts.sequences_part.Reads as sequences-part-reads
+use Rattle.library.proofs.parts.steps_part.Reads as steps-part-reads
 use Rattle.outcome.proofs.table.prepare.Reads as prepare-reads
 
 cast-n : tie.Need-cast-n

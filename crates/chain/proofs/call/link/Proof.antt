@@ -2,13 +2,13 @@
 -- Assumes nothing.
 use borrow.Author.Needs.{needs}
 use native.Mathlib.Omega.{arith}
-use Rattle.chain.proofs.Settling.{readable-at}
+use Rattle.rank.proofs.Settling.{readable-at}
 use Rattle.chain.proofs.call.link.Statement.{statement}
 use Rattle.chain.proofs.call.link.Tie as tie
 use Rattle.chain.proofs.call.link.Reads as reads
 use Rattle.chain.proofs.call.link.Lts as lts
 use Rattle.chain.proofs.call.rank.Reads as rank-reads
-use Rattle.chain.proofs.write.write_chain.Reads as write-chain-reads
+use Rattle.link.proofs.write.write_chain.Reads as write-chain-reads
 
 rank-requires : tie.Need-rank-requires
 rank-requires c κs = search needs

@@ -2,13 +2,13 @@
 -- Assumes nothing.
 use borrow.Author.Needs.{needs}
 use native.Mathlib.Omega.{arith}
-use Rattle.chain.proofs.Settling.{visitable-at}
+use Rattle.rank.proofs.Settling.{visitable-at}
 use Rattle.chain.proofs.call.rank.Statement.{statement}
 use Rattle.chain.proofs.call.rank.Tie as tie
 use Rattle.chain.proofs.call.rank.Reads as reads
 use Rattle.chain.proofs.call.rank.Lts as lts
-use Rattle.chain.proofs.entry.write_step_ranks.Reads as write-step-ranks-reads
-use Rattle.chain.proofs.pass.settle.Reads as settle-reads
+use Rattle.rank.proofs.entry.write_step_ranks.Reads as write-step-ranks-reads
+use Rattle.rank.proofs.pass.settle.Reads as settle-reads
 
 write-step-ranks-requires : tie.Need-write-step-ranks-requires
 write-step-ranks-requires c κs = search needs

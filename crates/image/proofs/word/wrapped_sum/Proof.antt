@@ -6,8 +6,6 @@ use native.Mathlib.Omega.{arith}
 use Prim.Native.Nat.{_+_, _-_, _%_, _^_, _≤_, _<_}
 use mathlib.Core.Path.{_≡_}
 use lib.ListN.{length, drop}
-use lib.Seq.{drop-length}
-use mathlib.Core.Path.{ap}
 use Rattle.image.specs.Word.{total}
 use Rattle.image.proofs.Sum.{sum-turn, sum-end}
 use Rattle.image.proofs.word.wrapped_sum.Statement.{statement}

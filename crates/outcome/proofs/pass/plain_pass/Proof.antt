@@ -3,8 +3,9 @@
 use borrow.Author.Needs.{needs}
 use native.Mathlib.Omega.{arith}
 use Prim.Native.Nat.{_-_}
-use Rattle.outcome.specs.Passes.{lacking, visited}
-use Rattle.outcome.proofs.Visits.{visits-lower, visitable-at, reached-length, Passing, passing-start, passing-turn, passing-end}
+use Rattle.outcome.specs.Visited.{lacking, visited}
+use Rattle.outcome.proofs.Visited.{visits-lower, visitable-at}
+use Rattle.visits.proofs.Visits.{reached-length, Passing, passing-start, passing-turn, passing-end}
 use Rattle.outcome.proofs.pass.plain_pass.Statement.{statement}
 use Rattle.outcome.proofs.pass.plain_pass.Tie as tie
 use Rattle.outcome.proofs.pass.plain_pass.Reads as reads

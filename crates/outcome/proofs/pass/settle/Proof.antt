@@ -5,7 +5,7 @@ use Rattle.outcome.proofs.pass.settle.Statement.{statement}
 use Rattle.outcome.proofs.pass.settle.Tie as tie
 use Rattle.outcome.proofs.pass.settle.Reads as reads
 use Rattle.outcome.proofs.pass.settle.Lts as lts
-use Rattle.outcome.proofs.pass.complete.Reads as complete-reads
+use Rattle.visits.proofs.named.complete.Reads as complete-reads
 use Rattle.outcome.proofs.pass.settle_in_order.Reads as settle-in-order-reads
 use Rattle.outcome.proofs.pass.settle_plainly.Reads as settle-plainly-reads
 

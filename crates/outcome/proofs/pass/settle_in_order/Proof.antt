@@ -3,10 +3,12 @@
 use native.Mathlib.Omega.{arith}
 use mathlib.Core.Path.{_≡_, refl, sym, subst}
 use lib.ListN.{length}
-use Rattle.outcome.specs.Passes.{Reached, here, Pass, lacking, visited}
-use Rattle.outcome.specs.Stale.{Fresh, isStale}
-use Rattle.outcome.proofs.Visits.{visits-lower, visitable-at, reached-length, reached-on, pass-after, swept-pass}
-use Rattle.outcome.proofs.CallerSets.{fresh-start}
+use Rattle.visits.specs.Passes.{Reached, here, Pass}
+use Rattle.outcome.specs.Visited.{lacking, visited}
+use Rattle.visits.specs.Stale.{Fresh, isStale}
+use Rattle.outcome.proofs.Visited.{visits-lower, visitable-at}
+use Rattle.visits.proofs.Visits.{reached-length, reached-on, pass-after, swept-pass}
+use Rattle.visits.proofs.CallerSets.{fresh-start}
 use Rattle.outcome.proofs.pass.settle_in_order.Statement.{statement}
 use Rattle.outcome.proofs.pass.settle_in_order.Tie as tie
 use Rattle.outcome.proofs.pass.settle_in_order.Reads as reads

@@ -1,9 +1,10 @@
 -- `outcome::pass::settle_plainly` meets its contract: each pass that changes something leaves less lacking.
 -- Assumes nothing.
-use borrow.Author.Needs.{needs}
 use mathlib.Core.Path.{subst}
-use Rattle.outcome.specs.Passes.{Reached, here, Pass, lacking, visited}
-use Rattle.outcome.proofs.Visits.{visits-lower, visitable-at, reached-length, reached-on, pass-after}
+use Rattle.visits.specs.Passes.{Reached, here, Pass}
+use Rattle.outcome.specs.Visited.{lacking, visited}
+use Rattle.outcome.proofs.Visited.{visits-lower, visitable-at}
+use Rattle.visits.proofs.Visits.{reached-length, reached-on, pass-after}
 use Rattle.outcome.proofs.pass.settle_plainly.Statement.{statement}
 use Rattle.outcome.proofs.pass.settle_plainly.Tie as tie
 use Rattle.outcome.proofs.pass.settle_plainly.Reads as reads

@@ -2,21 +2,20 @@
 -- Assumes nothing.
 use borrow.Author.Needs.{needs}
 use native.Mathlib.Omega.{arith}
-use mathlib.Core.Path.{_≡_, sym, ap, ap₂, _∙_, subst}
-use Rattle.outcome.specs.Words.{orRows, withRow, sameRows}
-use Rattle.outcome.specs.Passes.{visitedRow}
-use Rattle.outcome.specs.declared.row.Row.{Row}
+use mathlib.Core.Path.{_≡_, ap, ap₂, _∙_, subst}
+use Rattle.runs.specs.Words.{orRows, withRow, sameRows}
+use Rattle.outcome.specs.Visited.{visitedRow}
 use Rattle.outcome.proofs.Stores.{Fitting}
-use Rattle.outcome.proofs.Visits.{visit-made}
+use Rattle.outcome.proofs.Visited.{visit-made}
 use Rattle.outcome.proofs.pass.visit.Statement.{statement}
 use Rattle.outcome.proofs.pass.visit.Tie as tie
 use Rattle.outcome.proofs.pass.visit.Reads as reads
 use Rattle.outcome.proofs.pass.visit.Lts as lts
 use Rattle.outcome.proofs.read.read_sequence.Reads as read-sequence-reads
-use Rattle.outcome.proofs.row.put_row.Reads as put-row-reads
-use Rattle.outcome.proofs.row.row_at.Reads as row-at-reads
-use Rattle.outcome.proofs.row.same.Reads as same-reads
-use Rattle.outcome.proofs.row.united.Reads as united-reads
+use Rattle.runs.proofs.row.put_row.Reads as put-row-reads
+use Rattle.runs.proofs.row.row_at.Reads as row-at-reads
+use Rattle.runs.proofs.row.same.Reads as same-reads
+use Rattle.runs.proofs.row.united.Reads as united-reads
 
 row-at-requires : tie.Need-row-at-requires
 row-at-requires c κs = search needs

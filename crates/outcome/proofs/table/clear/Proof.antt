@@ -1,11 +1,10 @@
 -- `outcome::table::clear` meets its contract.
 -- Assumes nothing.
 use borrow.Author.Needs.{needs}
-use borrow.Author.Count.{below-none}
 use native.Mathlib.Omega.{arith}
-use Prim.Native.Nat.{ℕ, _-_, _≤_}
+use Prim.Native.Nat.{_-_, _≤_}
 use mathlib.Core.Path.{_≡_}
-use lib.ListN.{length, getD, length-set}
+use lib.ListN.{length, length-set}
 use Rattle.outcome.proofs.Clear.{Cleared, cleared-turn, cleared-end}
 use Rattle.outcome.proofs.table.clear.Statement.{statement}
 use Rattle.outcome.proofs.table.clear.Tie as tie

@@ -11,8 +11,8 @@ use Rattle.outcome.proofs.table.outcome_table.Statement.{statement}
 use Rattle.outcome.proofs.table.outcome_table.Tie as tie
 use Rattle.outcome.proofs.table.outcome_table.Reads as reads
 use Rattle.outcome.proofs.table.outcome_table.Lts as lts
-use Rattle.image.proofs.parts.sequences_part.Reads as sequences-part-reads
-use Rattle.image.proofs.parts.steps_part.Reads as steps-part-reads
+use Rattle.library.proofs.parts.sequences_part.Reads as sequences-part-reads
+use Rattle.library.proofs.parts.steps_part.Reads as steps-part-reads
 use Rattle.outcome.proofs.table.fill_alone.Reads as fill-alone-reads
 
 cast-words : tie.Need-cast-words

@@ -1,0 +1,80 @@
+-- `judge::rounds::lowest_quiet` is safe and ends.
+-- Assumes nothing.
+use Prim.Native.Nat.{_≤_, _-_}
+use lib.ListN.{length}
+use borrow.Author.Needs.{needs}
+use Rattle.judge.proofs.rounds.lowest_quiet.Statement.{statement}
+use Rattle.judge.proofs.rounds.lowest_quiet.Tie as tie
+
+abbrev Inv-loop : tie.InvT-loop
+Inv-loop part from restricted ranks r a₀ i₀ a i = 0 ≤ 1
+
+abbrev μ-loop : tie.MeasureT-loop
+μ-loop part from restricted ranks r a₀ i₀ a i = length part - i
+
+loop-holds : tie.Need-loop-holds Inv-loop μ-loop
+loop-holds c = search needs
+
+mul-w : tie.Need-mul-w Inv-loop μ-loop
+mul-w c = search needs
+
+shared-slice-read-w : tie.Need-shared-slice-read-w Inv-loop μ-loop
+shared-slice-read-w c = search needs
+
+is-kind-requires : tie.Need-is-kind-requires Inv-loop μ-loop
+is-kind-requires c κs = search needs
+
+returns : tie.Need-returns Inv-loop μ-loop
+returns c = search needs
+
+is-kind-requires-2 : tie.Need-is-kind-requires-2 Inv-loop μ-loop
+is-kind-requires-2 c κs = search needs
+
+word-requires : tie.Need-word-requires Inv-loop μ-loop
+word-requires c κs = search needs
+
+add-shallow : tie.Need-add-shallow Inv-loop μ-loop
+add-shallow c = search needs
+
+shallow-requires : tie.Need-shallow-requires Inv-loop μ-loop
+shallow-requires c κs = search needs
+
+returns-2 : tie.Need-returns-2 Inv-loop μ-loop
+returns-2 c = search needs
+
+wrapping-add-u32-requires : tie.Need-wrapping-add-u32-requires Inv-loop μ-loop
+wrapping-add-u32-requires c κs = search needs
+
+add-i : tie.Need-add-i Inv-loop μ-loop
+add-i c = search needs
+
+loop-less : tie.Need-loop-less Inv-loop μ-loop
+loop-less c = search needs
+
+loop-again : tie.Need-loop-again Inv-loop μ-loop
+loop-again c = search needs
+
+returns-3 : tie.Need-returns-3 Inv-loop μ-loop
+returns-3 c = search needs
+
+pub lowest-quiet-spec : {M : Type 1} → statement M
+lowest-quiet-spec =
+    tie.close
+    (tie.spec
+    Inv-loop
+    μ-loop
+    loop-holds
+    mul-w
+    shared-slice-read-w
+    is-kind-requires
+    returns
+    is-kind-requires-2
+    word-requires
+    add-shallow
+    shallow-requires
+    returns-2
+    wrapping-add-u32-requires
+    add-i
+    loop-less
+    loop-again
+    returns-3)

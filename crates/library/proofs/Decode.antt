@@ -1,0 +1,188 @@
+-- How the library is read off the words, one word at a time, and what stands where: the laws by which the crates above follow the
+-- decoding without opening it.
+-- Assumes nothing.
+use Prim.Native.Nat.{ℕ, zero, suc, _+_, _≤_, _<_}
+use native.Mathlib.Nat.{le-of-suc-le-suc, zero-add}
+use native.Mathlib.Numerals.{one-add}
+use native.Mathlib.Omega.{arith}
+use mathlib.Core.Path.{_≡_, refl, sym, ap, _∙_}
+use mathlib.Core.Bool.{Bool, true, false, cond, _||_}
+use mathlib.Core.Logic.{_⊎_, inl, inr}
+use mathlib.Core.List.{List, [], _∷_, _++_}
+use lib.ListN.{length, getD, take, drop}
+use lib.Dec.{eqb}
+use borrow.Author.Tests.{eq-eqb, ne-eqb, eqb-true, eqb-false}
+use mir.Val.{boolByte}
+use Rattle.image.specs.Word.{kind, payload, isKind, isFact}
+use Rattle.rules.specs.Rules.{opened}
+use Rattle.library.specs.Library.{has, Step, step, call, factsFrom, stepsFrom, entriesFrom, alternativesFrom, sequencesFrom, beforeSequences, fromSequences}
+
+-- ---- kinds
+
+pub is : (k w : ℕ) → kind w ≡ k → isKind k w ≡ true
+is k w e = eq-eqb (kind w) k e
+
+pub is-not : (k w : ℕ) → (kind w ≡ k → ⊥) → isKind k w ≡ false
+is-not k w d = ne-eqb (kind w) k d
+
+pub kind-is : (k w : ℕ) → isKind k w ≡ true → kind w ≡ k
+kind-is k w e = eqb-true (kind w) k e
+
+pub fact-of : (w : ℕ) → 2 ≤ kind w → kind w ≤ 4 → isFact w ≡ true
+fact-of w l u = go (isKind 2 w) (isKind 3 w) (isKind 4 w) refl refl refl
+  where
+    go : (a b c : Bool) → isKind 2 w ≡ a → isKind 3 w ≡ b → isKind 4 w ≡ c → a || b || c ≡ true
+    go true b c p q r = refl
+    go false true c p q r = refl
+    go false false true p q r = refl
+    go false false false p q r = absurd (omega (arith, eqb-false (kind w) 2 p, eqb-false (kind w) 3 q, eqb-false (kind w) 4 r))
+
+-- ---- facts of a list
+
+pub has-none : (f : ℕ) → has f [] ≡ false
+unfolding has
+has-none f = refl
+
+pub has-cons : (f g : ℕ) (gs : List ℕ) → has f (g ∷ gs) ≡ (eqb g f || has f gs)
+unfolding has
+has-cons f g gs = refl
+
+-- ---- one word of the decoding
+
+pub entries-nil : entriesFrom [] ≡ []
+unfolding entriesFrom
+entries-nil = refl
+
+pub entries-step : (w : ℕ) (ws : List ℕ) → kind w ≡ 8 → entriesFrom (w ∷ ws) ≡ step (payload w) ∷ entriesFrom ws
+unfolding entriesFrom
+entries-step w ws e = simp (is 8 w e)
+
+pub entries-call : (w : ℕ) (ws : List ℕ) → kind w ≡ 9 → entriesFrom (w ∷ ws) ≡ call (payload w) ∷ entriesFrom ws
+unfolding entriesFrom
+entries-call w ws e = simp (is-not 8 w (λ q. omega arith), is 9 w e)
+
+pub entries-end : (w : ℕ) (ws : List ℕ) → kind w < 8 → entriesFrom (w ∷ ws) ≡ []
+unfolding entriesFrom
+entries-end w ws l = simp (is-not 8 w (λ q. omega arith), is-not 9 w (λ q. omega arith))
+
+pub alternatives-nil : alternativesFrom [] ≡ []
+unfolding alternativesFrom
+alternatives-nil = refl
+
+pub alternatives-open : (w : ℕ) (ws : List ℕ) → kind w ≡ 7 → alternativesFrom (w ∷ ws) ≡ entriesFrom ws ∷ alternativesFrom ws
+unfolding alternativesFrom
+alternatives-open w ws e = simp (is 7 w e)
+
+pub alternatives-entry : (w : ℕ) (ws : List ℕ) → (kind w ≡ 8) ⊎ (kind w ≡ 9) → alternativesFrom (w ∷ ws) ≡ alternativesFrom ws
+unfolding alternativesFrom
+alternatives-entry w ws (inl e) = simp (is-not 7 w (λ q. omega arith), is 8 w e)
+alternatives-entry w ws (inr e) = simp (is-not 7 w (λ q. omega arith), is-not 8 w (λ q. omega arith), is 9 w e)
+
+pub alternatives-end : (w : ℕ) (ws : List ℕ) → kind w < 7 → alternativesFrom (w ∷ ws) ≡ []
+unfolding alternativesFrom
+alternatives-end w ws l =
+    simp (is-not 7 w (λ q. omega arith), is-not 8 w (λ q. omega arith), is-not 9 w (λ q. omega arith))
+
+pub sequences-nil : sequencesFrom [] ≡ []
+unfolding sequencesFrom
+sequences-nil = refl
+
+pub sequences-open : (w : ℕ) (ws : List ℕ) → kind w ≡ 6 → sequencesFrom (w ∷ ws) ≡ alternativesFrom ws ∷ sequencesFrom ws
+unfolding sequencesFrom
+sequences-open w ws e = simp (is 6 w e)
+
+pub sequences-skip : (w : ℕ) (ws : List ℕ) → (kind w ≡ 6 → ⊥) → sequencesFrom (w ∷ ws) ≡ sequencesFrom ws
+unfolding sequencesFrom
+sequences-skip w ws d = simp (is-not 6 w d)
+
+pub steps-nil : stepsFrom [] ≡ []
+unfolding stepsFrom
+steps-nil = refl
+
+pub steps-open : (w : ℕ) (ws : List ℕ) → kind w ≡ 5
+    → stepsFrom (w ∷ ws) ≡ record { needs = factsFrom 2 ws; sets = factsFrom 3 ws; clears = factsFrom 4 ws } ∷ stepsFrom ws
+unfolding stepsFrom
+steps-open w ws e = simp (is 5 w e)
+
+pub steps-skip : (w : ℕ) (ws : List ℕ) → (kind w ≡ 5 → ⊥) → stepsFrom (w ∷ ws) ≡ stepsFrom ws
+unfolding stepsFrom
+steps-skip w ws d = simp (is-not 5 w d)
+
+pub facts-nil : (k : ℕ) → factsFrom k [] ≡ []
+unfolding factsFrom
+facts-nil k = refl
+
+pub facts-here : (k w : ℕ) (ws : List ℕ) → 2 ≤ k → k ≤ 4 → kind w ≡ k → factsFrom k (w ∷ ws) ≡ payload w ∷ factsFrom k ws
+unfolding factsFrom
+facts-here k w ws l u e = simp (fact-of w (omega arith) (omega arith), is k w e)
+
+pub facts-other : (k w : ℕ) (ws : List ℕ) → 2 ≤ kind w → kind w ≤ 4 → (kind w ≡ k → ⊥) → factsFrom k (w ∷ ws) ≡ factsFrom k ws
+unfolding factsFrom
+facts-other k w ws l u d = simp (fact-of w l u, is-not k w d)
+
+pub facts-end : (k w : ℕ) (ws : List ℕ) → kind w ≡ 5 → factsFrom k (w ∷ ws) ≡ []
+unfolding factsFrom
+facts-end k w ws e =
+    simp (is-not 2 w (λ q. omega arith), is-not 3 w (λ q. omega arith), is-not 4 w (λ q. omega arith))
+
+-- ---- the two parts
+
+pub parts-opened : (k : ℕ) (ws : List ℕ) → opened k (beforeSequences ws) + opened k (fromSequences ws) ≡ opened k ws
+unfolding opened beforeSequences fromSequences
+parts-opened k [] = refl
+parts-opened k (w ∷ ws) = go (isKind 6 w) (parts-opened k ws)
+  where
+    go : (b : Bool) → opened k (beforeSequences ws) + opened k (fromSequences ws) ≡ opened k ws
+        → opened k (cond b [] (w ∷ beforeSequences ws)) + opened k (cond b (w ∷ ws) (fromSequences ws)) ≡ boolByte (isKind k w) + opened k ws
+    go true ih = omega arith
+    go false ih = omega arith
+
+pub parts-joined : (ws : List ℕ) → beforeSequences ws ++ fromSequences ws ≡ ws
+unfolding beforeSequences fromSequences
+parts-joined [] = refl
+parts-joined (w ∷ ws) = go (isKind 6 w) (parts-joined ws)
+  where
+    go : (b : Bool) → beforeSequences ws ++ fromSequences ws ≡ ws → cond b [] (w ∷ beforeSequences ws) ++ cond b (w ∷ ws) (fromSequences ws) ≡ w ∷ ws
+    go true ih = refl
+    go false ih = ap (λ (l : List ℕ). w ∷ l) ih
+
+-- ---- how many steps and sequences are read, and where they stand
+
+-- a list that has one element more where a test holds
+module _ {A : Type 0} where
+  length-more : (b : Bool) (x : A) (xs : List A) → length (cond b (x ∷ xs) xs) ≡ boolByte b + length xs
+  length-more true x xs = sym (one-add (length xs))
+  length-more false x xs = sym (zero-add (length xs))
+
+  getD-more : (b : Bool) (x d : A) (xs : List A) (n : ℕ) → getD (cond b (x ∷ xs) xs) (boolByte b + n) d ≡ getD xs n d
+  getD-more true x d xs n = rw (one-add n)
+  getD-more false x d xs n = rw (zero-add n)
+
+pub steps-length : (ws : List ℕ) → length (stepsFrom ws) ≡ opened 5 ws
+unfolding stepsFrom opened
+steps-length [] = refl
+steps-length (w ∷ ws) = length-more (isKind 5 w) _ (stepsFrom ws) ∙ ap (λ (n : ℕ). boolByte (isKind 5 w) + n) (steps-length ws)
+
+pub sequences-length : (ws : List ℕ) → length (sequencesFrom ws) ≡ opened 6 ws
+unfolding sequencesFrom opened
+sequences-length [] = refl
+sequences-length (w ∷ ws) = length-more (isKind 6 w) _ (sequencesFrom ws) ∙ ap (λ (n : ℕ). boolByte (isKind 6 w) + n) (sequences-length ws)
+
+-- the opener at index i decodes to the sequence with as many sequences before it as openers stand before it
+pub sequence-at : (ws : List ℕ) (i : ℕ) → i < length ws → kind (getD ws i 0) ≡ 6
+    → getD (sequencesFrom ws) (opened 6 (take i ws)) [] ≡ alternativesFrom (drop (suc i) ws)
+unfolding opened sequencesFrom
+sequence-at [] i l e = absurd (omega arith)
+sequence-at (w ∷ ws) zero l e = simp (is 6 w e)
+sequence-at (w ∷ ws) (suc i) l e =
+    getD-more (isKind 6 w) (alternativesFrom ws) [] (sequencesFrom ws) (opened 6 (take i ws)) ∙ sequence-at ws i (le-of-suc-le-suc l) e
+
+-- likewise for a step: its needs, sets and clears are read off the words after its opener
+pub step-at : (ws : List ℕ) (i : ℕ) (d : Step) → i < length ws → kind (getD ws i 0) ≡ 5
+    → getD (stepsFrom ws) (opened 5 (take i ws)) d
+    ≡ record { needs = factsFrom 2 (drop (suc i) ws); sets = factsFrom 3 (drop (suc i) ws); clears = factsFrom 4 (drop (suc i) ws) }
+unfolding opened stepsFrom
+step-at [] i d l e = absurd (omega arith)
+step-at (w ∷ ws) zero d l e = simp (is 5 w e)
+step-at (w ∷ ws) (suc i) d l e =
+    getD-more (isKind 5 w) _ d (stepsFrom ws) (opened 5 (take i ws)) ∙ step-at ws i d (le-of-suc-le-suc l) e

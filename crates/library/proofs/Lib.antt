@@ -1,0 +1,6 @@
+pub mod Accepted
+pub mod Decode
+pub mod Rows
+pub mod Seam
+pub mod Lookup
+pub mod Sizes

@@ -1,0 +1,109 @@
+-- What the tables say where they are looked up: a step's three words bit by bit, and a sequence by its place.
+-- Assumes nothing.
+use Prim.Native.Nat.{ℕ, zero, suc, _+_, _*_, _^_, _≤_, _<_}
+use native.Mathlib.Nat.{le-of-suc-le-suc, zero-add}
+use native.Mathlib.Omega.{arith}
+use mathlib.Core.Path.{_≡_, refl, ap, ap₂, _∙_}
+use mathlib.Core.Bool.{Bool, true, false, cond, _||_}
+use mathlib.Core.List.{List, [], _∷_}
+use lib.ListN.{length, getD, drop}
+use mir.Val.{boolByte}
+use Rattle.column.specs.Column.{bit}
+use Rattle.column.proofs.Bits.{bit-column, column-lt}
+use Rattle.column.proofs.Low.{column-low}
+use Rattle.image.specs.Word.{kind, isKind}
+use Rattle.rules.specs.Rules.{opened}
+use Rattle.library.specs.Library.{has, Step, alternativesFrom, sequencesFrom}
+use Rattle.library.specs.Accepted.{All}
+use Rattle.library.specs.Tables.{maskOf, masks, placesFrom}
+use Rattle.library.proofs.Decode.{kind-is, sequences-open, sequences-skip}
+use borrow.Author.Tests.{eqb-false, ne-eqb}
+
+-- bit f of a mask is set exactly where fact f is one of its facts
+pub mask-bit : (facts : List ℕ) (f : ℕ) → f < 64 → bit (maskOf facts) f ≡ boolByte (has f facts)
+unfolding maskOf
+mask-bit facts f l = bit-column 64 (λ (g : ℕ). has g facts) f l
+
+pub mask-lt : (facts : List ℕ) → maskOf facts < 2 ^ 64
+unfolding maskOf
+mask-lt facts = column-lt 64 (λ (g : ℕ). has g facts)
+
+-- three words a step
+pub masks-length : (ss : List Step) → length (masks ss) ≡ 3 * length ss
+unfolding masks
+masks-length [] = refl
+masks-length (s ∷ ss) = omega (arith, masks-length ss)
+
+-- the words of step a
+pub row-at : (ss : List Step) (a : ℕ) (d : Step) → a < length ss
+    → (getD (masks ss) (3 * a) 0 ≡ maskOf (getD ss a d .needs))
+    × (getD (masks ss) (3 * a + 1) 0 ≡ maskOf (getD ss a d .sets))
+    × (getD (masks ss) (3 * a + 2) 0 ≡ maskOf (getD ss a d .clears))
+unfolding masks
+row-at [] a d l = absurd (omega arith)
+row-at (s ∷ ss) zero d l = (refl, refl, refl)
+row-at (s ∷ ss) (suc a) d l =
+    let n : 3 * suc a ≡ suc (suc (suc (3 * a))) = omega arith in
+    let m : 3 * suc a + 1 ≡ suc (suc (suc (3 * a + 1))) = omega arith in
+    let k : 3 * suc a + 2 ≡ suc (suc (suc (3 * a + 2))) = omega arith in
+    let ih = row-at ss a d (le-of-suc-le-suc l) in
+    (rw n (ih .0), rw m (ih .1), rw k (ih .2))
+
+-- word j, which has index p where the first word has index i, opens sequence c
+record Opens (ws : List ℕ) (i c p : ℕ) : Type 0 where
+  j : ℕ
+  index : p ≡ i + j
+  within : j < length ws
+  opener : kind (getD ws j 0) ≡ 6
+  reads : alternativesFrom (drop (suc j) ws) ≡ getD (sequencesFrom ws) c []
+
+opens-at : (ws : List ℕ) (i c : ℕ) → c < opened 6 ws → Opens ws i c (getD (placesFrom i ws) c 0)
+unfolding placesFrom opened
+opens-at [] i c l = absurd (omega arith)
+opens-at (w ∷ ws) i c l = go (isKind 6 w) refl c l (λ (n : ℕ). opens-at ws (suc i) n)
+  where
+    go : (b : Bool) → isKind 6 w ≡ b → (c : ℕ) → c < boolByte (isKind 6 w) + opened 6 ws
+        → ((n : ℕ) → n < opened 6 ws → Opens ws (suc i) n (getD (placesFrom (suc i) ws) n 0))
+        → Opens (w ∷ ws) i c (getD (cond b (i ∷ placesFrom (suc i) ws) (placesFrom (suc i) ws)) c 0)
+    go true e zero l rest =
+        let k = kind-is 6 w e in
+        record { j = 0; index = omega arith; within = omega arith; opener = k; reads = rw (sequences-open w ws k) }
+    go true e (suc c) l rest =
+        let r = rest c (omega (arith, ap boolByte e)) in
+        record { j = suc (r .j); index = omega (arith, r .index); within = omega (arith, r .within); opener = r .opener; reads = rw (sequences-open w ws (kind-is 6 w e)) (r .reads) }
+    go false e c l rest =
+        let r = rest c (omega (arith, ap boolByte e)) in
+        record { j = suc (r .j); index = omega (arith, r .index); within = omega (arith, r .within); opener = r .opener; reads = rw (sequences-skip w ws (eqb-false (kind w) 6 e)) (r .reads) }
+
+-- word p opens sequence c, whose alternatives are read off the words after it
+pub record Placed (ws : List ℕ) (c p : ℕ) : Type 0 where
+  pub within : p < length ws
+  pub opener : kind (getD ws p 0) ≡ 6
+  pub reads : alternativesFrom (drop (suc p) ws) ≡ getD (sequencesFrom ws) c []
+
+-- the table of places has the place of each sequence
+pub place-at : (ws : List ℕ) (c : ℕ) → c < opened 6 ws → Placed ws c (getD (placesFrom 0 ws) c 0)
+place-at ws c l =
+    let o = opens-at ws 0 c l in
+    let e : getD (placesFrom 0 ws) c 0 ≡ o .j = o .index ∙ zero-add (o .j) in
+    rw e (record { within = o .within; opener = o .opener; reads = o .reads })
+
+-- a word a sequence
+pub places-length : (i : ℕ) (ws : List ℕ) → length (placesFrom i ws) ≡ opened 6 ws
+unfolding placesFrom opened
+places-length i [] = refl
+places-length i (w ∷ ws) = go (isKind 6 w) (places-length (suc i) ws)
+  where
+    go : (b : Bool) → length (placesFrom (suc i) ws) ≡ opened 6 ws → length (cond b (i ∷ placesFrom (suc i) ws) (placesFrom (suc i) ws)) ≡ boolByte b + opened 6 ws
+    go true ih = omega arith
+    go false ih = omega arith
+
+-- the mask of facts below n has no bit from n upward
+none-above : (n : ℕ) (facts : List ℕ) → All (λ (f : ℕ). f < n) facts → (k : ℕ) → n ≤ k → has k facts ≡ false
+unfolding has
+none-above n [] a k l = refl
+none-above n (f ∷ facts) a k l = ap₂ _||_ (ne-eqb f k (λ e. omega (arith, a .0))) (none-above n facts (a .1) k l)
+
+pub mask-low : (n : ℕ) (facts : List ℕ) → All (λ (f : ℕ). f < n) facts → maskOf facts < 2 ^ n
+unfolding maskOf
+mask-low n facts a = column-low 64 n (λ (f : ℕ). has f facts) (λ k l u. none-above n facts a k l)

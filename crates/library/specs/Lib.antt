@@ -1,0 +1,3 @@
+pub mod Library
+pub mod Accepted
+pub mod Tables

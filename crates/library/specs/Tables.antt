@@ -1,0 +1,67 @@
+-- Tables that the crates above look up: the steps' masks, and where each sequence stands.
+use Prim.Native.Nat.{ℕ, suc, _+_, _*_, _≤_}
+use mathlib.Core.Path.{_≡_}
+use mathlib.Core.Bool.{cond}
+use mathlib.Core.List.{List, [], _∷_}
+use lib.ListN.{length, take, drop, set}
+use Rattle.column.specs.Column.{column, withFact}
+use Rattle.image.specs.Word.{payload, isKind}
+use Rattle.rules.specs.Rules.{opened}
+use Rattle.library.specs.Library.{has, Step, factsFrom}
+use Rattle.library.specs.Accepted.{All, StepWord, Numbered}
+use Rattle.image.specs.declared.answer.Head.{Head}
+use Rattle.library.specs.declared.tables.Masks.{Masks}
+
+-- the column of a list of facts: bit f exactly where fact f is one of them
+unfoldable pub maskOf : List ℕ → ℕ
+unfolding has column
+maskOf facts = column 64 (λ (f : ℕ). has f facts)
+
+-- three words a step, in the order of the steps: what it needs, sets and clears
+unfoldable pub masks : List Step → List ℕ
+unfolding maskOf
+masks [] = []
+masks (s ∷ ss) = maskOf (s .needs) ∷ maskOf (s .sets) ∷ maskOf (s .clears) ∷ masks ss
+
+-- a word a sequence: the index of its opener among the words, of which the first has index i
+unfoldable pub placesFrom : ℕ → List ℕ → List ℕ
+placesFrom i [] = []
+placesFrom i (w ∷ ws) = cond (isKind 6 w) (i ∷ placesFrom (suc i) ws) (placesFrom (suc i) ws)
+
+-- what the table of masks asks: the steps' part of an accepted image, and room for three words a step
+pub record StepsAsked (h : Head) (part area : List ℕ) : Type 0 where
+  pub facts : h .facts ≤ 64
+  pub words : All (StepWord h) part
+  pub numbered : Numbered 5 part
+  pub opened : opened 5 part ≡ h .steps
+  pub room : 3 * h .steps ≤ length area
+
+-- what the table of places asks: the sequences' part of an accepted image, and room for a word a sequence
+pub record SequencesAsked (h : Head) (part area : List ℕ) : Type 0 where
+  pub short : length part ≤ 8192
+  pub numbered : Numbered 6 part
+  pub opened : opened 6 part ≡ h .sequences
+  pub room : h .sequences ≤ length area
+
+-- ---- in the form that a loop follows
+
+-- the masks of the facts from here to the step's end
+abbrev pub masksFrom : List ℕ → Masks
+masksFrom ws = record { needs = maskOf (factsFrom 2 ws); sets = maskOf (factsFrom 3 ws); clears = maskOf (factsFrom 4 ws) }
+
+-- a fact word's fact added to the masks of the fact words after it
+abbrev pub withWord : Masks → ℕ → Masks
+withWord m w =
+    cond (isKind 2 w) (record { needs = withFact (m .needs) (payload w); sets = m .sets; clears = m .clears })
+    (cond (isKind 3 w) (record { needs = m .needs; sets = withFact (m .sets) (payload w); clears = m .clears })
+    (record { needs = m .needs; sets = m .sets; clears = withFact (m .clears) (payload w) }))
+
+-- the area with three words from index j on
+abbrev pub withRow : List ℕ → ℕ → Masks → List ℕ
+withRow area j m = set (set (set area j (m .needs)) (j + 1) (m .sets)) (j + 2) (m .clears)
+
+-- from index i up to and without `end` no sequence is opened
+pub record NoPlaces (part : List ℕ) (i end : ℕ) : Type 0 where
+  pub low : i ≤ end
+  pub opened : opened 6 (take i part) ≡ opened 6 (take end part)
+  pub places : placesFrom i (drop i part) ≡ placesFrom end (drop end part)

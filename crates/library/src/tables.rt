@@ -1,0 +1,116 @@
+// Tables made of the parts of an accepted image, in lent areas: the steps' masks, and where each sequence stands. Both are written from the
+// last word to the first, since a step's facts stand after its opener.
+use crate::parts::none_opens;
+use image::answer::Head;
+use image::word::is_kind;
+use image::word::payload_of;
+ghost use mathlib.Core.Path.{_≡_};
+ghost use mathlib.Core.List.{_++_};
+ghost use Prim.Native.Nat.{_+_, _*_, _≤_, _<_};
+ghost use lib.ListN.{length, drop};
+ghost use Rattle.image.specs.Word.{payload};
+ghost use Rattle.library.specs.Library.{stepsFrom};
+ghost use Rattle.library.specs.Tables.{masks, placesFrom, withWord, withRow, NoPlaces, StepsAsked, SequencesAsked};
+
+// What a step needs, sets and clears, a bit a fact.
+pub struct Masks {
+    pub needs: u64,
+    pub sets: u64,
+    pub clears: u64,
+}
+
+// A fact word's fact added to the masks of the fact words after it.
+fn with_word(m: Masks, w: u32) -> Masks
+    requires { ⌜ payload w < 64 ⌝ }
+    ensures { λ r. ⌜ r ≡ withWord m w ⌝ }
+{
+    let f = payload_of(w);
+    if is_kind(2, w) {
+        return Masks {
+            needs: column::with_fact(m.needs, f),
+            sets: m.sets,
+            clears: m.clears,
+        };
+    }
+    if is_kind(3, w) {
+        return Masks {
+            needs: m.needs,
+            sets: column::with_fact(m.sets, f),
+            clears: m.clears,
+        };
+    }
+    Masks {
+        needs: m.needs,
+        sets: m.sets,
+        clears: column::with_fact(m.clears, f),
+    }
+}
+
+// Writes a step's three words.
+fn write_row(area: &mut [u64], step: u32, m: Masks)
+    requires { ⌜ 3 * step + 3 ≤ length (now area) ⌝ }
+    ensures { λ _. ⌜ now (area .exit) ≡ withRow (now (area .entry)) (3 * step) m ⌝ }
+{
+    let at = 3 * step as usize;
+    area[at] = m.needs;
+    area[at + 1] = m.sets;
+    area[at + 2] = m.clears;
+}
+
+// Writes the masks of each step of the steps' part: three words a step. Words past them stay.
+pub fn write_masks(h: Head, part: &[u32], area: &mut [u64])
+    requires { ⌜ StepsAsked h (now part) (now area) ⌝ }
+    ensures { λ _. ⌜ now (area .exit) ≡ masks (stepsFrom (now (part .entry))) ++ drop (3 * h .steps) (now (area .entry)) ⌝ }
+{
+    let mut m = Masks {
+        needs: 0,
+        sets: 0,
+        clears: 0,
+    };
+    let mut i = part.len();
+    while 0 < i {
+        i -= 1;
+        let w = part[i];
+        if is_kind(5, w) {
+            write_row(area, payload_of(w), m);
+            m = Masks {
+                needs: 0,
+                sets: 0,
+                clears: 0,
+            };
+        } else {
+            m = with_word(m, w);
+        }
+    }
+}
+
+// Passes words from index `end` back, by fours of which none opens a sequence.
+fn pass_back(part: &[u32], end: usize) -> usize
+    requires { ⌜ end ≤ length (now part) ⌝ }
+    ensures { λ r. ⌜ NoPlaces (now (part .entry)) r end ⌝ }
+{
+    let mut i = end;
+    while 4 <= i {
+        if !none_opens(part, i - 4) {
+            return i;
+        }
+        i -= 4;
+    }
+    i
+}
+
+// Writes where each sequence of the sequences' part stands: the index of its opener. Words past them stay.
+pub fn write_places(h: Head, part: &[u32], area: &mut [u32])
+    requires { ⌜ SequencesAsked h (now part) (now area) ⌝ }
+    ensures { λ _. ⌜ now (area .exit) ≡ placesFrom 0 (now (part .entry)) ++ drop (h .sequences) (now (area .entry)) ⌝ }
+{
+    let mut i = part.len();
+    while 0 < i {
+        let at = i - 1;
+        let w = part[at];
+        i = pass_back(part, at);
+        if is_kind(6, w) {
+            area[payload_of(w) as usize] = at as u32;
+        }
+    }
+}

@@ -1,0 +1,43 @@
+-- The chain call's answer as the enum that the code has, and the number that the C side gets.
+use Prim.Native.Nat.{ℕ}
+use mathlib.Core.Path.{_≡_}
+use mathlib.Core.List.{List}
+use lib.ListN.{length}
+use Rattle.image.specs.Answer.{refusalAnswer}
+use Rattle.reader.specs.Checked.{checked}
+use Rattle.image.specs.declared.answer.Head.{Head}
+use Rattle.image.specs.declared.answer.Checked.the-variants.{Accepted}
+use Rattle.rank.specs.Answer.{Answer, none, shown}
+use Rattle.rank.specs.Call.{Reply, refused, answered, inArea, chained, areaAfter}
+use Rattle.link.specs.declared.answer.Chained.{Chained}
+
+-- "an answer enum whose cases carry a link count struct or a refusal enum with its position"
+abbrev pub chainedAs : Reply → Chained
+chainedAs (refused r) = Chained.Refused r
+chainedAs (answered none) = Chained.None
+chainedAs (answered (shown ls)) = Chained.Shown (record { count = length ls })
+
+-- "It gets one 64-bit number: N × 2^32 + P for refusal N at position P, otherwise .. the number of links from the chain, 0 there for
+-- "none"."
+abbrev pub chainAnswer : Chained → ℕ
+chainAnswer (Chained.Shown links) = links .count
+chainAnswer Chained.None = 0
+chainAnswer (Chained.Refused r) = refusalAnswer r
+
+-- the number for what the call comes to
+abbrev pub replyNumber : Reply → ℕ
+replyNumber r = chainAnswer (chainedAs r)
+
+-- an answer in its area: what is told of it, and the area after
+pub record Answered (a : Answer) (before : List ℕ) (found : Chained) (after : List ℕ) : Type 0 where
+  pub answer : found ≡ chainedAs (inArea (length before) a)
+  pub area : after ≡ areaAfter (inArea (length before) a) before
+
+-- the check accepts the image with this head
+abbrev pub accepts : List ℕ → Head → Type 0
+accepts image h = checked image ≡ Accepted h
+
+-- what the chain call does: its answer, and the area after it
+pub record Called (image : List ℕ) (c q f : ℕ) (before : List ℕ) (found : Chained) (after : List ℕ) : Type 0 where
+  pub answer : found ≡ chainedAs (chained image c q f (length before))
+  pub area : after ≡ areaAfter (chained image c q f (length before)) before

@@ -1,0 +1,45 @@
+-- What a visit of the outcome table promises.
+-- Assumes nothing.
+use Prim.Native.Nat.{ℕ, _+_, _*_, _≤_}
+use native.Mathlib.Omega.{arith}
+use mathlib.Core.Path.{_≡_, sym, ap, _∙_}
+use mathlib.Core.Bool.{Bool, not}
+use mathlib.Core.List.{List}
+use lib.ListN.{length, getD, drop}
+use borrow.Author.Tests.{not-true, not-false}
+use Rattle.runs.specs.Words.{noRow, rowIn, withRow, sameRows}
+use Rattle.visits.proofs.Visits.{Lowers}
+use Rattle.outcome.specs.Walks.{sequenceWords}
+use Rattle.visits.specs.Passes.{Visit}
+use Rattle.outcome.specs.Visited.{lacking, Visitable, visitedRow, visited}
+use Rattle.outcome.proofs.Stores.{Fitting, row-length, row-again, rows-equal, lacking-least, lacking-falls}
+
+module _ (all : ℕ) (steps part places : List ℕ) where
+  -- a visit, from what its code does
+  pub visit-made : (t : List ℕ) (c : ℕ) (t′ : List ℕ) (same : Bool) → 8 * c + 8 ≤ length t → t′ ≡ visited all steps part places t c
+      → Fitting (visitedRow all steps part places t c) → same ≡ sameRows (rowIn t c) (visitedRow all steps part places t c)
+      → Visit (visited all steps part places) lacking t c t′ (not same)
+  visit-made t c t′ same room done fit e =
+      record {
+        done = done;
+        falls = λ changed. rw done (lacking-falls t c _ room fit (sym e ∙ not-true same changed));
+        stays = λ unchanged.
+            done ∙ ap (withRow t c) (sym (rows-equal (rowIn t c) (visitedRow all steps part places t c) (sym e ∙ not-false same unchanged))) ∙ row-again t c;
+      }
+
+  pub visits-lower : (n : ℕ) → Lowers (visited all steps part places) lacking n (8 * n)
+  visits-lower n =
+      record {
+        keeps = λ t c. row-length t c (visitedRow all steps part places t c);
+        lowers = λ t c l room. lacking-least t c (sequenceWords all steps t noRow (drop (getD places c 0 + 1) part)) (omega arith);
+      }
+
+-- areas of the same lengths can be visited too
+pub visitable-at : {n : ℕ} {steps part places t : List ℕ} (s : List ℕ) → length s ≡ length t → Visitable n steps part places t → Visitable n steps part places s
+visitable-at s e v =
+    record {
+      readable = λ i l. let w = v .readable i l in (w .0, λ k. omega (arith, w .1 k));
+      rows = omega (arith, v .rows);
+      placed = v .placed;
+      within = v .within;
+    }

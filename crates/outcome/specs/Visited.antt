@@ -1,0 +1,28 @@
+-- The visits of the outcome table: a visit of a sequence unites its row with what its alternatives give.
+use Prim.Native.Nat.{ℕ, _+_, _-_, _*_, _^_, _≤_, _<_}
+use mathlib.Core.List.{List, [], _∷_}
+use lib.ListN.{length, getD, drop}
+use Rattle.runs.specs.Words.{noRow, orRows, rowIn, withRow}
+use Rattle.outcome.specs.Walks.{Readable, sequenceWords}
+use Rattle.runs.specs.declared.row.Row.{Row}
+
+-- how much the words lack to the greatest number: what falls while the table grows
+unfoldable pub lacking : List ℕ → ℕ
+lacking [] = 0
+lacking (x ∷ xs) = 2 ^ 64 - 1 - x + lacking xs
+
+-- what a visit of the sequences below n asks of the areas
+pub record Visitable (n : ℕ) (steps part places table : List ℕ) : Type 0 where
+  pub readable : Readable steps table part
+  pub rows : 8 * n ≤ length table
+  pub placed : n ≤ length places
+  pub within : (c : ℕ) → c < n → getD places c 0 < length part
+
+module _ (all : ℕ) (steps part places : List ℕ) where
+  -- the row of sequence c after a visit
+  abbrev pub visitedRow : List ℕ → ℕ → Row
+  visitedRow table c = orRows (rowIn table c) (sequenceWords all steps table noRow (drop (getD places c 0 + 1) part))
+
+  -- the table after a visit of sequence c
+  abbrev pub visited : List ℕ → ℕ → List ℕ
+  visited table c = withRow table c (visitedRow table c)

@@ -1,0 +1,28 @@
+-- `rank::entry::mark_of` meets its contract, by those of its parts.
+-- Assumes nothing.
+use borrow.Author.Needs.{needs}
+use Rattle.rank.proofs.entry.mark_of.Statement.{statement}
+use Rattle.rank.proofs.entry.mark_of.Tie as tie
+use Rattle.rank.proofs.entry.mark_of.Reads as reads
+use Rattle.rank.proofs.entry.mark_of.Lts as lts
+use Rattle.rank.proofs.entry.kept.Reads as kept-reads
+use Rattle.column.proofs.sets.holds.Reads as holds-reads
+
+holds-requires : tie.Need-holds-requires
+holds-requires c κs = search needs
+
+holds-requires-2 : tie.Need-holds-requires-2
+holds-requires-2 c κs = search needs
+
+kept-requires : tie.Need-kept-requires
+kept-requires c κs = search needs
+
+kept-requires-2 : tie.Need-kept-requires-2
+kept-requires-2 c κs = search needs
+
+returns : tie.Need-returns
+returns c = simp (c .kept2 .ensures, c .before .kept .ensures, c .before .before .holds2 .ensures, c .before .before .before .holds .ensures)
+
+pub mark-of-spec : {M : Type 1} → statement M
+mark-of-spec =
+    tie.close (tie.spec holds-requires holds-requires-2 kept-requires kept-requires-2 returns)

@@ -1,0 +1,88 @@
+-- `rank::entry::write_step_ranks` meets its contract: the ranks of the steps so far are written.
+-- Assumes nothing.
+use borrow.Author.Needs.{needs}
+use native.Mathlib.Omega.{arith}
+use Prim.Native.Nat.{_+_, _-_}
+use lib.ListN.{length}
+use Rattle.rank.proofs.Slots.{Stepping, stepping-start, stepping-turn, stepping-end}
+use Rattle.rank.proofs.entry.write_step_ranks.Statement.{statement}
+use Rattle.rank.proofs.entry.write_step_ranks.Tie as tie
+use Rattle.rank.proofs.entry.write_step_ranks.Reads as reads
+use Rattle.rank.proofs.entry.write_step_ranks.Lts as lts
+use Rattle.rank.proofs.entry.step_rank.Reads as step-rank-reads
+
+abbrev Inv-loop : tie.InvT-loop
+Inv-loop any q masks ranks₀ base a₀ ranks a = Stepping any q masks ranks₀ ranks a
+
+abbrev μ-loop : tie.MeasureT-loop
+μ-loop any q masks ranks₀ base a₀ ranks a = length ranks₀ - (q .none + a)
+
+cast-base : tie.Need-cast-base Inv-loop μ-loop
+cast-base c = search needs
+
+loop-holds : tie.Need-loop-holds Inv-loop μ-loop
+loop-holds c =
+    let start = c .before .before .before in
+    let a = start .args in
+    stepping-start (a .any) (a .q) (a .masks .now) (a .ranks .now) (start .pre)
+
+add-loop : tie.Need-add-loop Inv-loop μ-loop
+add-loop c = omega (arith, c .loop .inv .low, c .before .before .before .before .good)
+
+step-rank-requires : tie.Need-step-rank-requires Inv-loop μ-loop
+step-rank-requires c κs =
+    let at-loop = c .before in
+    let start = at-loop .before .before .before .before in
+    (start .pre .fact, omega (arith, c .loop-test .taken, at-loop .loop .inv .long, start .pre .masked))
+
+add-ranks : tie.Need-add-ranks Inv-loop μ-loop
+add-ranks c = search needs
+
+mul-ranks : tie.Need-mul-ranks Inv-loop μ-loop
+mul-ranks c = search needs
+
+slice-write-ranks : tie.Need-slice-write-ranks Inv-loop μ-loop
+slice-write-ranks c = search needs
+
+add-a : tie.Need-add-a Inv-loop μ-loop
+add-a c = search needs
+
+loop-less : tie.Need-loop-less Inv-loop μ-loop
+loop-less c = search needs
+
+loop-again : tie.Need-loop-again Inv-loop μ-loop
+loop-again c =
+    let turn = c .before in
+    let at-loop = turn .before in
+    let a = at-loop .before .before .before .before .args in
+    stepping-turn (a .any) (a .q) (a .masks .now) (a .ranks .now) (at-loop .loop .ranks) (at-loop .loop .a) (at-loop .loop .inv)
+    (omega (arith, turn .loop-test .taken, at-loop .loop .inv .long)) _ (c .step-rank .ensures)
+
+same-length : tie.Need-same-length Inv-loop μ-loop
+same-length c = search needs
+
+returns : tie.Need-returns Inv-loop μ-loop
+returns c =
+    let at-loop = c .before in
+    let a = at-loop .before .before .before .before .args in
+    stepping-end (a .any) (a .q) (a .masks .now) (a .ranks .now) (at-loop .loop .ranks) (at-loop .loop .a) (at-loop .loop .inv)
+    (omega (arith, c .loop-test .left, at-loop .loop .inv .long))
+
+pub write-step-ranks-spec : {M : Type 1} → statement M
+write-step-ranks-spec =
+    tie.close
+    (tie.spec
+    Inv-loop
+    μ-loop
+    cast-base
+    loop-holds
+    add-loop
+    step-rank-requires
+    add-ranks
+    mul-ranks
+    slice-write-ranks
+    add-a
+    loop-less
+    loop-again
+    same-length
+    returns)

@@ -1,0 +1,149 @@
+-- What tables of words say of an entry of an alternative, for the question that is asked: its rank, and whether it passes as one ahead of
+-- the position or behind it. A table of ranks has a word for each sequence and, from word `none` on, one for each step. `proofs/Describes`
+-- shows that the tables of an accepted image say what `Ranks` says of its library.
+use Prim.Native.Nat.{ℕ, _+_, _*_, _≤_, _<_}
+use mathlib.Core.Path.{_≡_}
+use mathlib.Core.Bool.{Bool, true, false, cond, _||_}
+use mathlib.Core.List.{List}
+use lib.ListN.{length, getD, set, take, drop}
+use lib.Dec.{eqb, ltb}
+use Rattle.column.specs.Sets.{inColumn}
+use Rattle.image.specs.Word.{kind, payload, isKind}
+use Rattle.library.specs.Library.{Alternative, Entry, step, call, entriesFrom, alternativesFrom}
+use Rattle.runs.specs.Run.{Item}
+use Rattle.visits.specs.Passes.{Pass}
+use Rattle.rank.specs.Scan.{every, total}
+use Rattle.rank.specs.Ranks.{Ranks}
+use Rattle.rank.specs.Walk.{loweredFrom, depthFrom, fewestFrom}
+use Rattle.rank.specs.declared.entry.Asked.{Asked}
+use Rattle.rank.specs.declared.entry.Traits.{Traits}
+use Rattle.rank.specs.declared.read.Read.{Read}
+
+-- the entry that a word names, and the number that it has
+abbrev pub entryOf : ℕ → Entry
+entryOf w = cond (isKind 8 w) (step (payload w)) (call (payload w))
+
+abbrev pub entryNumber : Entry → ℕ
+entryNumber (step a) = a
+entryNumber (call d) = d
+
+-- ---- a table of ranks
+
+-- where the rank of the entry stands that a word names
+abbrev pub slotOf : ℕ → ℕ → ℕ
+slotOf none w = payload w + cond (isKind 8 w) none 0
+
+-- the ranks of the sequences in a table
+abbrev pub inRanks : ℕ → List ℕ → Ranks
+inRanks none T d = getD (take none T) d none
+
+-- the rank of an entry, where `past` is that of a step past the table
+abbrev pub rankIn : ℕ → ℕ → List ℕ → Entry → ℕ
+rankIn none past T (step a) = getD (drop none T) a past
+rankIn none past T (call d) = inRanks none T d
+
+-- an entry that has a rank; a step past the table touches nothing and runs
+abbrev pub passIn : ℕ → List ℕ → Entry → Bool
+passIn none T e = ltb (rankIn none 0 T e) none
+
+-- what the tables say of an entry
+abbrev pub traitsIn : ℕ → List ℕ → List ℕ → List ℕ → Entry → Traits
+traitsIn none ahead behind ranks e = record { rank = rankIn none none ranks e; ahead = passIn none ahead e; behind = passIn none behind e }
+
+-- what an alternative comes to: its greatest depth where no touch is asked for (mark 2), 0 where all its entries have a rank if only that is
+-- asked (mark 3), otherwise the fewest links after this one
+abbrev pub depthIn : ℕ → List ℕ → Alternative → ℕ
+depthIn none ranks es = depthFrom (rankIn none 0 ranks) 0 es
+
+abbrev pub everyIn : ℕ → List ℕ → Alternative → ℕ
+everyIn none ranks es = cond (every (passIn none ranks) es) 0 none
+
+abbrev pub fewestIn : ℕ → List ℕ → List ℕ → List ℕ → Alternative → ℕ
+fewestIn none ahead behind ranks es = fewestFrom none (rankIn none none ranks) (passIn none ahead) (passIn none behind) true none es
+
+abbrev pub lookIn : Asked → List ℕ → List ℕ → List ℕ → Alternative → ℕ
+lookIn q ahead behind ranks es =
+    cond (eqb (q .mark) 2) (depthIn (q .none) ranks es)
+    (cond (eqb (q .mark) 3) (everyIn (q .none) ranks es) (fewestIn (q .none) ahead behind ranks es))
+
+-- an entry has a word in a table
+pub record Within (none : ℕ) (T : List ℕ) (w : ℕ) : Type 0 where
+  pub step : kind w ≡ 8 → none + payload w < length T
+  pub sequence : kind w ≡ 9 → (payload w < none) × (payload w < length T)
+
+-- each entry among the words has one
+pub record Rankable (none : ℕ) (T part : List ℕ) : Type 0 where
+  pub within : (i : ℕ) → i < length part → Within none T (getD part i 0)
+
+-- what is asked of the tables
+pub record Readable (none : ℕ) (ahead behind ranks part : List ℕ) : Type 0 where
+  pub by-ahead : Rankable none ahead part
+  pub by-behind : Rankable none behind part
+  pub by-ranks : Rankable none ranks part
+
+-- ---- the ranks of the steps
+
+-- the mark that two columns give fact f, as a number: 0 by the first, otherwise 1 by the second, otherwise 2 for untouched
+abbrev pub markOf : ℕ → ℕ → ℕ → ℕ
+markOf f one other = cond (inColumn one f) 0 (cond (inColumn other f) 1 2)
+
+-- what a step needs and sets decides on the first side, what it sets and clears on the last
+abbrev pub stepMark : Asked → List ℕ → ℕ → ℕ
+stepMark q masks a =
+    cond (q .first) (markOf (q .fact) (getD masks (3 * a) 0) (getD masks (3 * a + 1) 0))
+    (markOf (q .fact) (getD masks (3 * a + 1) 0) (getD masks (3 * a + 2) 0))
+
+-- the step has the mark asked for, or any will do
+abbrev pub markIn : Bool → Asked → List ℕ → Item → Bool
+markIn any q masks a = any || eqb (stepMark q masks a) (q .mark)
+
+abbrev pub stepRank : Bool → Asked → List ℕ → ℕ → ℕ
+stepRank any q masks a = cond (markIn any q masks a) 0 (q .none)
+
+-- the words of the steps are their ranks, and those of the sequences stay
+pub record Stepped (any : Bool) (q : Asked) (masks before after : List ℕ) : Type 0 where
+  pub long : length after ≡ length before
+  pub stays : (d : ℕ) → d < q .none → getD after d (q .none) ≡ getD before d (q .none)
+  pub ranked : (a : ℕ) → q .none + a < length before → getD after (q .none + a) 0 ≡ stepRank any q masks a
+
+-- what that asks: a word for each sequence, and three masks for each step that has a word
+pub record Steppable (q : Asked) (masks ranks : List ℕ) : Type 0 where
+  pub fact : q .fact < 64
+  pub sequences : q .none ≤ length ranks
+  pub masked : 3 * length ranks ≤ length masks + 3 * q .none
+
+-- ---- the alternatives of a sequence
+
+-- what a reader of an alternative promises, whose entries stand from an index on: what it comes to, and where its entries end
+pub record AlternativeRead (worth : Alternative → ℕ) (part : List ℕ) (at : ℕ) (r : Read) : Type 0 where
+  pub value : r .value ≡ worth (entriesFrom (drop at part))
+  pub low : at ≤ r .next
+  pub within : r .next ≤ length part
+  pub skips : alternativesFrom (drop at part) ≡ alternativesFrom (drop (r .next) part)
+
+-- the alternatives of sequence c, from the word after its opener on
+abbrev pub alternativesAt : List ℕ → List ℕ → ℕ → List Alternative
+alternativesAt part places c = alternativesFrom (drop (getD places c 0 + 1) part)
+
+-- what a visit of the sequences below n asks of the areas
+pub record Visitable (q : Asked) (n : ℕ) (ahead behind ranks part places : List ℕ) : Type 0 where
+  pub readable : Readable (q .none) ahead behind ranks part
+  pub ranked : n ≤ length ranks
+  pub placed : n ≤ length places
+  pub within : (c : ℕ) → c < n → getD places c 0 < length part
+
+module _ (q : Asked) (ahead behind part places : List ℕ) where
+  -- the rank of sequence c after a visit
+  abbrev pub visitedRank : List ℕ → ℕ → ℕ
+  visitedRank ranks c = loweredFrom (lookIn q ahead behind ranks) (getD ranks c (q .none)) (alternativesAt part places c)
+
+  -- the ranks after a visit of sequence c
+  abbrev pub visitedRanks : List ℕ → ℕ → List ℕ
+  visitedRanks ranks c = set ranks c (visitedRank ranks c)
+
+-- a table of ranks that is made from one without a rank: those of the steps are written by the question p, then those of the sequences below
+-- n lowered by the question q until no visit changes them
+pub record Ranked (any : Bool) (p q : Asked) (n : ℕ) (masks ahead behind part places before after : List ℕ) : Type 0 where
+  pub start : List ℕ
+  pub steps : Stepped any p masks before start
+  pub settled : Pass (visitedRanks q ahead behind part places) total n start after false

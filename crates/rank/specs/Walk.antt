@@ -1,0 +1,57 @@
+-- Ranks and choices in the form that a loop follows: what the alternatives or entries from here on make of what is known so far.
+use Prim.Native.Nat.{ℕ, suc, min, max}
+use mathlib.Core.Bool.{Bool, true, cond, _&&_}
+use mathlib.Core.List.{List, [], _∷_}
+use lib.ListN.{length}
+use lib.Dec.{leb, ltb}
+use Rattle.library.specs.Library.{Alternative, Entry}
+use Rattle.rank.specs.Scan.{every}
+use Rattle.rank.specs.Link.{Link, touchLink}
+
+-- the rank r of a sequence, lowered by the alternatives from here on
+unfoldable pub loweredFrom : (Alternative → ℕ) → ℕ → List Alternative → ℕ
+loweredFrom value r [] = r
+loweredFrom value r (es ∷ alts) = loweredFrom value (min r (suc (value es))) alts
+
+-- the first alternative from here on, of which the first is i, that comes to no more than k; otherwise the number of alternatives
+unfoldable pub alternativeFrom : (Alternative → ℕ) → ℕ → ℕ → List Alternative → ℕ
+alternativeFrom value k i [] = i
+alternativeFrom value k i (es ∷ alts) =
+    let later : ℕ = alternativeFrom value k (suc i) alts in
+    cond (leb (value es) k) i later
+
+-- the greatest depth d so far, and of the entries from here on
+unfoldable pub depthFrom : (Entry → ℕ) → ℕ → List Entry → ℕ
+depthFrom rank d [] = d
+depthFrom rank d (e ∷ es) = depthFrom rank (max d (rank e)) es
+
+-- what a link asks of the entries of an alternative: `none` stands for no rank, an entry has a rank, and those ahead of the position and
+-- those behind it pass tests
+module _ (none : ℕ) (rank : Entry → ℕ) (ahead behind : Entry → Bool) where
+  -- the fewest links so far, where `ok` says that all entries so far pass as those ahead of a position: an entry that fails as one behind
+  -- rules out the positions so far
+  unfoldable pub fewestFrom : Bool → ℕ → List Entry → ℕ
+  fewestFrom ok best [] = best
+  fewestFrom ok best (e ∷ es) = fewestFrom (ok && ahead e) (min (cond (behind e) best none) (cond ok (rank e) none)) es
+
+  -- the first position from here on, of which the first is i, that comes to no more than k; otherwise the position after the last
+  unfoldable pub positionFrom : ℕ → Bool → ℕ → List Entry → ℕ
+  unfolding every
+  positionFrom k ok i [] = i
+  positionFrom k ok i (e ∷ es) =
+      let later : ℕ = positionFrom k (ok && ahead e) (suc i) es in
+      cond ((ok && every behind es) && leb (rank e) k) i later
+
+  -- the link of sequence c, from alternative i on: the first alternative that has such a position, and its first one
+  unfoldable pub linkFrom : ℕ → ℕ → ℕ → List Alternative → Link
+  unfolding positionFrom
+  linkFrom c k i [] = touchLink c i 0
+  linkFrom c k i (es ∷ alts) =
+      let p : ℕ = positionFrom k true 0 es in
+      let later : Link = linkFrom c k (suc i) alts in
+      cond (ltb p (length es)) (touchLink c i p) later
+
+-- the first index from which on all entries pass, where the entries so far are i and `start` is the index for those
+unfoldable pub tailFrom : (Entry → Bool) → ℕ → ℕ → List Entry → ℕ
+tailFrom test i start [] = start
+tailFrom test i start (e ∷ es) = tailFrom test (suc i) (cond (test e) start (suc i)) es

@@ -1,0 +1,112 @@
+// What the tables say of an entry, for the question that is asked.
+use column::sets::holds;
+use image::word::is_kind;
+use image::word::payload_of;
+ghost use mathlib.Core.Path.{_≡_};
+ghost use mathlib.Core.Bool.{true, cond};
+ghost use Prim.Native.Nat.{ℕ, _+_, _*_, _≤_, _<_};
+ghost use lib.ListN.{length};
+ghost use Rattle.image.specs.Word.{isEntry};
+ghost use Rattle.rank.specs.Tables.{markOf, stepMark, stepRank, Steppable, Stepped, slotOf, entryOf, rankIn, passIn, traitsIn, Within};
+
+// The question: its side, the mark asked for there (0 and 1 for the two touches, 2 for untouched, 3 where only a rank counts), the fact, and what stands for "no rank".
+pub struct Asked {
+    pub first: bool,
+    pub mark: u32,
+    pub fact: u32,
+    pub none: u32,
+}
+
+// An entry's rank, and whether it passes as one ahead of the position and as one behind it.
+pub struct Traits {
+    pub rank: u32,
+    pub ahead: bool,
+    pub behind: bool,
+}
+
+// The number where the test holds, otherwise the other one.
+pub fn kept(test: bool, x: u32, other: u32) -> u32
+    ensures { λ r. ⌜ r ≡ cond test x other ⌝ }
+{
+    if test {
+        return x;
+    }
+    other
+}
+
+// The mark that two columns give the fact.
+fn mark_of(f: u32, one: u64, other: u64) -> u32
+    requires { ⌜ f < 64 ⌝ }
+    ensures { λ r. ⌜ r ≡ markOf f one other ⌝ }
+{
+    kept(holds(one, f), 0, kept(holds(other, f), 1, 2))
+}
+
+// The mark of step `a` on the question's side.
+fn step_mark(q: Asked, masks: &[u64], a: usize) -> u32
+    requires { ⌜ (q .fact < 64) × (3 * a + 3 ≤ length (now masks)) ⌝ }
+    ensures { λ r. ⌜ r ≡ stepMark q (now (masks .entry)) a ⌝ }
+{
+    let at = 3 * a;
+    if q.first {
+        return mark_of(q.fact, masks[at], masks[at + 1]);
+    }
+    mark_of(q.fact, masks[at + 1], masks[at + 2])
+}
+
+// The rank of step `a`: 0 where it has the mark asked for, or where any will do.
+fn step_rank(any: bool, q: Asked, masks: &[u64], a: usize) -> u32
+    requires { ⌜ (q .fact < 64) × (3 * a + 3 ≤ length (now masks)) ⌝ }
+    ensures { λ r. ⌜ r ≡ stepRank any q (now (masks .entry)) a ⌝ }
+{
+    kept(any | (step_mark(q, masks, a) == q.mark), 0, q.none)
+}
+
+// Writes the ranks of the steps into a table: they stand from word `none` on.
+pub fn write_step_ranks(any: bool, q: Asked, masks: &[u64], ranks: &mut [u32])
+    requires { ⌜ Steppable q (now masks) (now ranks) ⌝ }
+    ensures { λ _. ⌜ Stepped any q (now (masks .entry)) (now (ranks .entry)) (now (ranks .exit)) ⌝ }
+{
+    let base = q.none as usize;
+    let mut a = 0;
+    while base + a < ranks.len() {
+        ranks[base + a] = step_rank(any, q, masks, a);
+        a += 1;
+    }
+}
+
+// Where the rank of an entry stands in a table: the sequences come first, then the steps. There is no branch here, since processors would
+// guess it badly.
+fn slot_of(none: u32, w: u32) -> usize
+    ensures { λ r. ⌜ r ≡ slotOf none w ⌝ }
+{
+    payload_of(w) as usize + kept(is_kind(8, w), none, 0) as usize
+}
+
+// The rank of an entry.
+pub fn rank_of(none: u32, ranks: &[u32], w: u32) -> u32
+    requires { ⌜ Within none (now ranks) w × (isEntry w ≡ true) ⌝ }
+    ensures { λ r. ⌜ ((past : ℕ) → r ≡ rankIn none past (now (ranks .entry)) (entryOf w)) ⌝ }
+{
+    ranks[slot_of(none, w)]
+}
+
+// Whether an entry has a rank.
+pub fn passes(none: u32, ranks: &[u32], w: u32) -> bool
+    requires { ⌜ Within none (now ranks) w × (isEntry w ≡ true) ⌝ }
+    ensures { λ r. ⌜ r ≡ passIn none (now (ranks .entry)) (entryOf w) ⌝ }
+{
+    rank_of(none, ranks, w) < none
+}
+
+// The traits of an entry.
+pub fn traits_of(none: u32, ahead: &[u32], behind: &[u32], ranks: &[u32], w: u32) -> Traits
+    requires { ⌜ Within none (now ahead) w × Within none (now behind) w × Within none (now ranks) w × (isEntry w ≡ true) ⌝ }
+    ensures { λ r. ⌜ r ≡ traitsIn none (now (ahead .entry)) (now (behind .entry)) (now (ranks .entry)) (entryOf w) ⌝ }
+{
+    Traits {
+        rank: rank_of(none, ranks, w),
+        ahead: passes(none, ahead, w),
+        behind: passes(none, behind, w),
+    }
+}

@@ -1,0 +1,197 @@
+// What an alternative comes to by the ranks as they stand, and the rank of a sequence lowered by its alternatives.
+use crate::entry::Asked;
+use crate::entry::kept;
+use crate::entry::passes;
+use crate::entry::rank_of;
+use crate::entry::traits_of;
+use image::word::is_entry;
+use image::word::is_kind;
+ghost use mathlib.Core.Path.{_≡_};
+ghost use Prim.Native.Nat.{_+_, _≤_, min, max};
+ghost use lib.ListN.{length, drop};
+ghost use Rattle.library.specs.Library.{alternativesFrom};
+ghost use Rattle.rank.specs.Walk.{loweredFrom};
+ghost use Rattle.rank.specs.Tables.{depthIn, everyIn, fewestIn, lookIn, Readable, Rankable, AlternativeRead};
+
+// What an alternative comes to, and the index of the word after its entries.
+pub struct Read {
+    pub value: u32,
+    pub next: usize,
+}
+
+fn least(a: u32, b: u32) -> u32
+    ensures { λ r. ⌜ r ≡ min a b ⌝ }
+{
+    if a < b {
+        return a;
+    }
+    b
+}
+
+fn greatest(a: u32, b: u32) -> u32
+    ensures { λ r. ⌜ r ≡ max a b ⌝ }
+{
+    if a < b {
+        return b;
+    }
+    a
+}
+
+// The greatest depth among the entries that stand from index `at` on.
+fn greatest_depth(none: u32, ranks: &[u32], part: &[u32], at: usize) -> Read
+    requires { ⌜ Rankable none (now ranks) (now part) × (at ≤ length (now part)) ⌝ }
+    ensures { λ r. ⌜ AlternativeRead (depthIn none (now (ranks .entry))) (now (part .entry)) at r ⌝ }
+{
+    let mut depth = 0;
+    let mut i = at;
+    while i < part.len() {
+        let w = part[i];
+        if !is_entry(w) {
+            return Read {
+                value: depth,
+                next: i,
+            };
+        }
+        depth = greatest(depth, rank_of(none, ranks, w));
+        i += 1;
+    }
+    Read {
+        value: depth,
+        next: i,
+    }
+}
+
+// The fewest links after this one, among the positions of the entries that stand from index `at` on: an entry that fails as one behind rules
+// out the positions so far.
+fn fewest_links(
+    none: u32,
+    ahead: &[u32],
+    behind: &[u32],
+    ranks: &[u32],
+    part: &[u32],
+    at: usize,
+) -> Read
+    requires { ⌜ Readable none (now ahead) (now behind) (now ranks) (now part) × (at ≤ length (now part)) ⌝ }
+    ensures { λ r. ⌜ AlternativeRead (fewestIn none (now (ahead .entry)) (now (behind .entry)) (now (ranks .entry))) (now (part .entry)) at r ⌝ }
+{
+    let mut ok = true;
+    let mut best = none;
+    let mut i = at;
+    while i < part.len() {
+        let w = part[i];
+        if !is_entry(w) {
+            return Read {
+                value: best,
+                next: i,
+            };
+        }
+        let t = traits_of(none, ahead, behind, ranks, w);
+        best = least(kept(t.behind, best, none), kept(ok, t.rank, none));
+        ok = ok & t.ahead;
+        i += 1;
+    }
+    Read {
+        value: best,
+        next: i,
+    }
+}
+
+// The index of the first word from index `at` on that is no entry.
+fn after_entries(part: &[u32], at: usize) -> usize
+    requires { ⌜ at ≤ length (now part) ⌝ }
+    ensures { λ r. ⌜ (at ≤ r) × (r ≤ length (now (part .entry))) × (alternativesFrom (drop at (now (part .entry))) ≡ alternativesFrom (drop r (now (part .entry)))) ⌝ }
+{
+    let mut i = at;
+    while i < part.len() {
+        if !is_entry(part[i]) {
+            return i;
+        }
+        i += 1;
+    }
+    i
+}
+
+// Whether all entries that stand from index `at` on have a rank: 0 where they do. After the first without one the others are passed over.
+fn all_ranked(none: u32, ranks: &[u32], part: &[u32], at: usize) -> Read
+    requires { ⌜ Rankable none (now ranks) (now part) × (at ≤ length (now part)) ⌝ }
+    ensures { λ r. ⌜ AlternativeRead (everyIn none (now (ranks .entry))) (now (part .entry)) at r ⌝ }
+{
+    let mut i = at;
+    while i < part.len() {
+        let w = part[i];
+        if !is_entry(w) {
+            return Read { value: 0, next: i };
+        }
+        i += 1;
+        if !passes(none, ranks, w) {
+            return Read {
+                value: none,
+                next: after_entries(part, i),
+            };
+        }
+    }
+    Read { value: 0, next: i }
+}
+
+// What the alternative comes to whose entries stand from index `at` on.
+pub fn read_alternative(
+    q: Asked,
+    ahead: &[u32],
+    behind: &[u32],
+    ranks: &[u32],
+    part: &[u32],
+    at: usize,
+) -> Read
+    requires { ⌜ Readable (q .none) (now ahead) (now behind) (now ranks) (now part) × (at ≤ length (now part)) ⌝ }
+    ensures { λ r. ⌜ AlternativeRead (lookIn q (now (ahead .entry)) (now (behind .entry)) (now (ranks .entry))) (now (part .entry)) at r ⌝ }
+{
+    if q.mark == 2 {
+        return greatest_depth(q.none, ranks, part, at);
+    }
+    if q.mark == 3 {
+        return all_ranked(q.none, ranks, part, at);
+    }
+    fewest_links(q.none, ahead, behind, ranks, part, at)
+}
+
+// A rank lowered by an alternative: a sequence is one above the least of its alternatives.
+fn lower(r: u32, value: u32) -> u32
+    ensures { λ x. ⌜ x ≡ min r (1 + value) ⌝ }
+{
+    if value < r {
+        return value + 1;
+    }
+    r
+}
+
+// The rank lowered by the alternatives that stand from index `at` on, up to the next sequence. A sequence has no rank below 1.
+pub fn lowered_rank(
+    q: Asked,
+    ahead: &[u32],
+    behind: &[u32],
+    ranks: &[u32],
+    part: &[u32],
+    at: usize,
+    rank: u32,
+) -> u32
+    requires { ⌜ Readable (q .none) (now ahead) (now behind) (now ranks) (now part) × (at ≤ length (now part)) ⌝ }
+    ensures { λ r. ⌜ r ≡ loweredFrom (lookIn q (now (ahead .entry)) (now (behind .entry)) (now (ranks .entry))) rank (alternativesFrom (drop at (now (part .entry)))) ⌝ }
+{
+    let mut r = rank;
+    let mut i = at;
+    while i < part.len() {
+        if r < 2 {
+            return r;
+        }
+        let w = part[i];
+        i += 1;
+        if is_kind(7, w) {
+            let found = read_alternative(q, ahead, behind, ranks, part, i);
+            r = lower(r, found.value);
+            i = found.next;
+        } else if !is_entry(w) {
+            return r;
+        }
+    }
+    r
+}

@@ -1,0 +1,2 @@
+// The reader: the check of an image, refusals 1 to 7.
+pub mod check;

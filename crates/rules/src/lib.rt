@@ -1,0 +1,2 @@
+// The rules for a word of an image: refusals 4, 5 and 6.
+pub mod rules;

@@ -1,0 +1,150 @@
+-- The columns of the outcome table and the questions: each says what some run has, and an "always" column what every run has.
+use Prim.Native.Nat.{ℕ}
+use mathlib.Core.Path.{_≡_, refl, sym, _∙_, ap, subst}
+use mathlib.Core.Logic.{_↔_, _≢_, _⊎_, inl, inr, ⊎-elim, by-cases}
+use mathlib.Core.Bool.{Bool, true, false, not, false≢true, true≢false}
+use mathlib.Core.List.{List, [], _∷_}
+use Rattle.library.specs.Library.{Library}
+use Rattle.runs.specs.Tests.{and-parts}
+use Rattle.runs.specs.Run.{Item, Run}
+use Rattle.runs.specs.Touch.{Question, questionNumber, questionOf, rival, untouchedOn, otherTouch, HasOutcome, itemTouch}
+use Rattle.runs.specs.Touch.{outcomeOf, Mark, present, absent, untouched, Side, last, first}
+use Rattle.runs.specs.Algebra.{outcome, emptyAlgebra, sideAlgebra, sameMark, sameMark-refl, sameMark-eq}
+use Rattle.runs.specs.Possible.{Column, inColumn, questionColumn, emptyColumn, runColumn, columnPossible, possibleOutcome}
+use Rattle.runs.specs.Possible.{hasRun, hasEmptyRun, brokenRule, alwaysOutcome}
+use Rattle.runs.specs.Rows.{columnNumber}
+use borrow.Author.Tests.{not-true}
+use Rattle.runs.proofs.Tests.{and-both, or-cases, or-left, or-right, passes-or-not}
+use Rattle.runs.proofs.Outcome.{decided-outcome}
+use Rattle.runs.proofs.Possible.{possible-iff}
+
+-- each column: exactly when some run has its outcome
+pub column-iff : (K : Column) (L : Library) (c f : ℕ)
+    → (inColumn K L c f ≡ true) ↔ ((w : List Item) × Run L c w × (outcome (K .algebra) (K .marking L f) w ≡ K .asked))
+column-iff K L c f = possible-iff (L .sequences) (K .algebra) (K .marking L f) c (K .asked)
+
+-- each question
+pub question-iff : (L : Library) (q : Question) (c f : ℕ) → (possibleOutcome L q c f ≡ true) ↔ ((w : List Item) × Run L c w × HasOutcome L q f w)
+question-iff L q c f = (
+  (λ e. let r = column-iff (questionColumn q) L c f .0 e in (r .0, r .1, same (r .0) ∙ r .2)),
+  λ r. column-iff (questionColumn q) L c f .1 (r .0, r .1, sym (same (r .0)) ∙ r .2),
+)
+  where
+    same : (w : List Item) → outcomeOf L (q .side) f w ≡ outcome (sideAlgebra (q .side)) (itemTouch L (q .side) f) w
+    same w = decided-outcome (q .side) (itemTouch L (q .side) f) w
+
+-- "a run exists"
+pub hasRun-iff : (L : Library) (c : ℕ) → (hasRun L c ≡ true) ↔ ((w : List Item) × Run L c w)
+hasRun-iff L c = (
+  (λ e. let r = column-iff runColumn L c 0 .0 e in (r .0, r .1)),
+  λ r. column-iff runColumn L c 0 .1 (r .0, r .1, refl),
+)
+
+-- without a run every column is blank
+pub blank-columns : (K : Column) (L : Library) (c f : ℕ) → hasRun L c ≡ false → inColumn K L c f ≡ false
+blank-columns K L c f none =
+    ⊎-elim
+    (λ e. let r = column-iff K L c f .0 e in absurd (true≢false (sym (hasRun-iff L c .1 (r .0, r .1)) ∙ none)))
+    (λ e. e)
+    (passes-or-not (inColumn K L c f))
+
+-- a question by its number, and its column
+pub question-number : (s : Side) (m : Mark) → questionOf (questionNumber s m) ≡ record { side = s; mark = m }
+question-number last present = refl
+question-number last absent = refl
+question-number last untouched = refl
+question-number first present = refl
+question-number first absent = refl
+question-number first untouched = refl
+
+pub question-column : (L : Library) (s : Side) (m : Mark) (c f : ℕ)
+    → columnPossible L (columnNumber s m) c f ≡ possibleOutcome L (record { side = s; mark = m }) c f
+question-column L last present c f = refl
+question-column L last absent c f = refl
+question-column L last untouched c f = refl
+question-column L first present c f = refl
+question-column L first absent c f = refl
+question-column L first untouched c f = refl
+
+-- "an empty run exists"
+empty-nil : (w : List Item) → outcome emptyAlgebra (λ x. false) w ≡ true → w ≡ []
+unfolding outcome
+empty-nil [] e = refl
+empty-nil (x ∷ w) e = absurd (false≢true e)
+
+pub hasEmptyRun-iff : (L : Library) (c : ℕ) → (hasEmptyRun L c ≡ true) ↔ Run L c []
+unfolding outcome
+hasEmptyRun-iff L c = (
+  (λ e. let r = column-iff emptyColumn L c 0 .0 e in subst (Run L c) (empty-nil (r .0) (r .2)) (r .1)),
+  λ r. column-iff emptyColumn L c 0 .1 ([], r, refl),
+)
+
+-- marks can be told apart
+Mark-discrete : (m n : Mark) → Dec (m ≡ n)
+Mark-discrete m n = go (sameMark m n) refl
+  where
+    go : (b : Bool) → sameMark m n ≡ b → Dec (m ≡ n)
+    go true e = yes (sameMark-eq m n e)
+    go false e = no (λ p. false≢true (sym e ∙ (ap (sameMark m) (sym p) ∙ sameMark-refl m)))
+
+-- a run that breaks the rule of a touch has one of its two rival outcomes
+other-marks : (m n : Mark) → m ≢ untouched → n ≢ m → (n ≡ otherTouch m) ⊎ (n ≡ untouched)
+other-marks present present touch other = absurd (other refl)
+other-marks present absent touch other = inl refl
+other-marks present untouched touch other = inr refl
+other-marks absent present touch other = inl refl
+other-marks absent absent touch other = absurd (other refl)
+other-marks absent untouched touch other = inr refl
+other-marks untouched n touch other = absurd (touch refl)
+
+rival-differs : (m : Mark) → m ≢ untouched → otherTouch m ≢ m
+rival-differs present touch e = false≢true (ap (sameMark present) e)
+rival-differs absent touch e = false≢true (ap (sameMark absent) e)
+rival-differs untouched touch e = touch refl
+
+pub breaks-rule : (L : Library) (q : Question) (f : ℕ) (w : List Item) → q .mark ≢ untouched → ¬ HasOutcome L q f w
+    → HasOutcome L (rival q) f w ⊎ HasOutcome L (untouchedOn q) f w
+breaks-rule L q f w touch breaks = other-marks (q .mark) (outcomeOf L (q .side) f w) touch breaks
+
+-- and one of the two questions is possible exactly when some run breaks the rule
+pub broken-iff : (L : Library) (q : Question) (c f : ℕ) → q .mark ≢ untouched
+    → (brokenRule L q c f ≡ true) ↔ ((w : List Item) × Run L c w × ¬ HasOutcome L q f w)
+broken-iff L q c f touch = (
+  (λ e. ⊎-elim
+      (λ p. let o = question-iff L (rival q) c f .0 p in (o .0, o .1, λ h. rival-differs (q .mark) touch (sym (o .2) ∙ h)))
+      (λ p. let o = question-iff L (untouchedOn q) c f .0 p in (o .0, o .1, λ h. touch (sym h ∙ o .2)))
+      (or-cases (possibleOutcome L (rival q) c f) (possibleOutcome L (untouchedOn q) c f) e)),
+  λ (w, run, breaks). ⊎-elim
+      (λ o. or-left (possibleOutcome L (rival q) c f) (possibleOutcome L (untouchedOn q) c f) (question-iff L (rival q) c f .1 (w, run, o)))
+      (λ o. or-right (possibleOutcome L (rival q) c f) (possibleOutcome L (untouchedOn q) c f) (question-iff L (untouchedOn q) c f .1 (w, run, o)))
+      (breaks-rule L q f w touch breaks),
+)
+
+-- an "always" column holds a fact exactly when a run exists and every run keeps the rule
+pub always-iff : (L : Library) (q : Question) (c f : ℕ) → q .mark ≢ untouched
+    → (alwaysOutcome L q c f ≡ true) ↔ (((w : List Item) × Run L c w) × ((w : List Item) → Run L c w → HasOutcome L q f w))
+always-iff L q c f touch = (
+  (λ e. let p = and-parts (hasRun L c) (not (brokenRule L q c f)) e in (
+    hasRun-iff L c .0 (p .0),
+    λ w run. by-cases (Mark-discrete (outcomeOf L (q .side) f w) (q .mark)) (λ h. h)
+        (λ h. absurd (true≢false (sym (broken-iff L q c f touch .1 (w, run, h)) ∙ not-true (brokenRule L q c f) (p .1)))),
+  )),
+  λ (run, all). and-both (hasRun L c) (not (brokenRule L q c f)) (hasRun-iff L c .1 run)
+      (⊎-elim (λ e. let b = broken-iff L q c f touch .0 e in absurd (b .2 (all (b .0) (b .1)))) (λ e. ap not e) (passes-or-not (brokenRule L q c f))),
+)
+
+-- "A fact is missing from one of these three "always" columns exactly when the sequence has no run, or has one, executing or not, that
+-- breaks the column's rule."
+pub missing-iff : (L : Library) (q : Question) (c f : ℕ) → q .mark ≢ untouched
+    → (alwaysOutcome L q c f ≡ false) ↔ (((w : List Item) → ¬ Run L c w) ⊎ ((w : List Item) × Run L c w × ¬ HasOutcome L q f w))
+missing-iff L q c f touch = (
+  (λ e. ⊎-elim
+      (λ p. ⊎-elim (λ b. inr (broken-iff L q c f touch .0 b))
+      (λ b. absurd (true≢false (sym (and-both (hasRun L c) (not (brokenRule L q c f)) p (ap not b)) ∙ e))) (passes-or-not (brokenRule L q c f)))
+      (λ p. inl (λ w run. true≢false (sym (hasRun-iff L c .1 (w, run)) ∙ p)))
+      (passes-or-not (hasRun L c))),
+  λ h. ⊎-elim
+      (λ e. let a = always-iff L q c f touch .0 e in
+      absurd (⊎-elim (λ none. none (a .0 .0) (a .0 .1)) (λ b. b .2 (a .1 (b .0) (b .1))) h))
+      (λ e. e) (passes-or-not (alwaysOutcome L q c f)),
+)

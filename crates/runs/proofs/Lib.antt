@@ -1,0 +1,12 @@
+pub mod Tests
+pub mod Run
+pub mod Levels
+pub mod Outcome
+pub mod Possible
+pub mod Reading
+pub mod Rows
+pub mod Words
+pub mod Columns
+pub mod Execution
+pub mod Published
+pub mod Sample

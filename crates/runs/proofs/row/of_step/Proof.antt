@@ -1,0 +1,20 @@
+-- `runs::row::of_step` meets its contract, side by side.
+-- Assumes nothing.
+use borrow.Author.Needs.{needs}
+use Rattle.runs.proofs.row.of_step.Statement.{statement}
+use Rattle.runs.proofs.row.of_step.Tie as tie
+use Rattle.runs.proofs.row.of_step.Reads as reads
+use Rattle.runs.proofs.row.of_step.Lts as lts
+use Rattle.runs.proofs.row.step_marks.Reads as step-marks-reads
+
+step-marks-requires : tie.Need-step-marks-requires
+step-marks-requires c κs = search needs
+
+step-marks-requires-2 : tie.Need-step-marks-requires-2
+step-marks-requires-2 c κs = search needs
+
+returns : tie.Need-returns
+returns c = simp (c .step-marks2 .ensures, c .before .step-marks .ensures)
+
+pub of-step-spec : {M : Type 1} → statement M
+of-step-spec = tie.close (tie.spec step-marks-requires step-marks-requires-2 returns)

@@ -1,0 +1,20 @@
+-- `runs::row::united` meets its contract, side by side.
+-- Assumes nothing.
+use borrow.Author.Needs.{needs}
+use Rattle.runs.proofs.row.united.Statement.{statement}
+use Rattle.runs.proofs.row.united.Tie as tie
+use Rattle.runs.proofs.row.united.Reads as reads
+use Rattle.runs.proofs.row.united.Lts as lts
+use Rattle.runs.proofs.row.either.Reads as either-reads
+
+either-requires : tie.Need-either-requires
+either-requires c κs = search needs
+
+either-requires-2 : tie.Need-either-requires-2
+either-requires-2 c κs = search needs
+
+returns : tie.Need-returns
+returns c = simp (c .either2 .ensures, c .before .either .ensures)
+
+pub united-spec : {M : Type 1} → statement M
+united-spec = tie.close (tie.spec either-requires either-requires-2 returns)

@@ -1,0 +1,12 @@
+pub mod Tests
+pub mod Run
+pub mod Execution
+pub mod Touch
+pub mod Algebra
+pub mod Levels
+pub mod Possible
+pub mod Table
+pub mod Reading
+pub mod Rows
+pub mod Words
+pub mod Published

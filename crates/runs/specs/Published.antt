@@ -1,0 +1,115 @@
+-- The inferred preconditions and effects of a compound task, as printed in source document 001 (Definitions 1, 2 and 4 to 8). A
+-- planning domain D = (F, A, C, M) is a library: F its facts, A its steps, C its sequences and M their alternatives. A refinement
+-- c → ā into a sequence of actions is a run of c. A set of facts is a predicate on facts below F, a set of states one on states.
+--
+-- "undef" (Definition 2, where E(c) or R_s(c) is empty) is not modelled: there a meet below holds of every fact and a join of none.
+-- Document 01 leaves a card without a run blank. What is proved of these sets is proved of a sequence with a run; in the
+-- precondition-relaxation every state is then in E(c), and no R_s(c) is empty.
+--
+-- The procedures of 001 assume more: prec(a) ∩ add(a) = ∅ and add(a) ∩ del(a) = ∅ for all actions, and that every task has a
+-- primitive refinement. None of that is assumed here.
+use Prim.Native.Nat.{ℕ, _<_}
+use mathlib.Core.Path.{_≡_}
+use mathlib.Core.Bool.{true}
+use mathlib.Core.List.{List, [], map}
+use lib.ListN.{length, getD}
+use Rattle.library.specs.Library.{has, Library, Step}
+use Rattle.runs.specs.Run.{Item, Run}
+use Rattle.runs.specs.Execution.{Fact, State, stepOf, Executes, end}
+
+-- f ∈ s
+abbrev pub Stands : (L : Library) → Fact L → State L → Type 0
+Stands L f s = s f ≡ true
+
+-- Definition 1 (Executability-Enabling and Resulting States). "E(c) ⊆ 2^F is the set of all states s ∈ 2^F for which there exists a
+-- sequence of actions ā, such that c → ā and ā is applicable in s."
+abbrev pub E : (L : Library) → ℕ → State L → Type 0
+E L c s = (w : List Item) × Run L c w × Executes L w s
+
+-- "R_s(c) ⊆ 2^F is the set of all (resulting) states s' ∈ 2^F for which there exists a sequence of actions ā, such that c → ā, ā is
+-- applicable in s, and ā executed in s results in s'."
+abbrev pub R : (L : Library) → State L → ℕ → State L → Type 0
+R L s c s′ = (w : List Item) × Run L c w × Executes L w s × (end L w s ≡ s′)
+
+-- Definition 2. "post_s^+(c) := ⋂_{s' ∈ R_s(c)} s'"
+abbrev pub post+ : (L : Library) → State L → ℕ → Fact L → Type 0
+post+ L s c f = (s′ : State L) → R L s c s′ → Stands L f s′
+
+-- "post_s^-(c) := F \ ⋃_{s' ∈ R_s(c)} s'"
+abbrev pub post- : (L : Library) → State L → ℕ → Fact L → Type 0
+post- L s c f = ¬ ((s′ : State L) × R L s c s′ × Stands L f s′)
+
+-- "post_*^+(c) := ⋂_{s ∈ E(c)} post_s^+(c)"
+abbrev pub post*+ : (L : Library) → ℕ → Fact L → Type 0
+post*+ L c f = (s : State L) → E L c s → post+ L s c f
+
+-- "post_*^-(c) := ⋂_{s ∈ E(c)} post_s^-(c)"
+abbrev pub post*- : (L : Library) → ℕ → Fact L → Type 0
+post*- L c f = (s : State L) → E L c s → post- L s c f
+
+-- "eff_*^+(c) := (⋂_{s ∈ E(c)} post_s^+(c)) \ (⋂_{s ∈ E(c)} s)"
+abbrev pub eff*+ : (L : Library) → ℕ → Fact L → Type 0
+eff*+ L c f = ((s : State L) → E L c s → post+ L s c f) × ¬ ((s : State L) → E L c s → Stands L f s)
+
+-- "eff_*^-(c) := ⋂_{s ∈ E(c)} post_s^-(c)"
+abbrev pub eff*- : (L : Library) → ℕ → Fact L → Type 0
+eff*- L c f = (s : State L) → E L c s → post- L s c f
+
+-- "poss-post_s^+(c) := ⋃_{s' ∈ R_s(c)} s'"
+abbrev pub poss-post+ : (L : Library) → State L → ℕ → Fact L → Type 0
+poss-post+ L s c f = (s′ : State L) × R L s c s′ × Stands L f s′
+
+-- "poss-post_s^-(c) := ⋃_{s' ∈ R_s(c)} (F \ s')"
+abbrev pub poss-post- : (L : Library) → State L → ℕ → Fact L → Type 0
+poss-post- L s c f = (s′ : State L) × R L s c s′ × ¬ Stands L f s′
+
+-- "poss-eff_*^+(c) := ⋃_{s ∈ E(c)} (poss-post_s^+(c) \ s)"
+abbrev pub poss-eff*+ : (L : Library) → ℕ → Fact L → Type 0
+poss-eff*+ L c f = (s : State L) × E L c s × poss-post+ L s c f × ¬ Stands L f s
+
+-- "poss-eff_*^-(c) := ⋃_{s ∈ E(c)} (poss-post_s^-(c) ∩ s)"
+abbrev pub poss-eff*- : (L : Library) → ℕ → Fact L → Type 0
+poss-eff*- L c f = (s : State L) × E L c s × poss-post- L s c f × Stands L f s
+
+-- Definition 4 (Precondition-Relaxation). "Its precondition-relaxation is the domain D' = (F, A', C, M) with
+-- A' = {(∅, add, del) | (prec, add, del) ∈ A}."
+abbrev pub relaxedStep : Step → Step
+relaxedStep a = record { needs = []; sets = a .sets; clears = a .clears }
+
+abbrev pub relaxed : Library → Library
+relaxed L = record { facts = L .facts; steps = map relaxedStep (L .steps); sequences = L .sequences }
+
+-- Definition 5 (Effects of Precondition-Relaxed Tasks). "We define eff_*^∅+(c), eff_*^∅-(c), poss-eff_*^∅+(c) and poss-eff_*^∅-(c)
+-- as shorthand for eff_*^+(c), eff_*^-(c), poss-eff_*^+(c) and poss-eff_*^-(c) that are based on the precondition-relaxed variant
+-- of D, respectively."
+abbrev pub eff*∅+ : (L : Library) → ℕ → Fact L → Type 0
+eff*∅+ L c f = eff*+ (relaxed L) c f
+
+abbrev pub eff*∅- : (L : Library) → ℕ → Fact L → Type 0
+eff*∅- L c f = eff*- (relaxed L) c f
+
+abbrev pub poss-eff*∅+ : (L : Library) → ℕ → Fact L → Type 0
+poss-eff*∅+ L c f = poss-eff*+ (relaxed L) c f
+
+abbrev pub poss-eff*∅- : (L : Library) → ℕ → Fact L → Type 0
+poss-eff*∅- L c f = poss-eff*- (relaxed L) c f
+
+-- "there exists an action a_i with f ∈ prec(a_i) and there does not exist an action a_j with j < i and f ∈ add(a_j), where
+-- i, j ∈ {0 .. n}" (Definitions 6 and 7), of a refinement <a_0 .. a_n>
+abbrev pub Required : (L : Library) → List Item → Fact L → Type 0
+Required L w f =
+    (i : ℕ) × (i < length w) × (has (f .0) (stepOf L (getD w i 0) .needs) ≡ true)
+    × ¬ ((j : ℕ) × (j < i) × (has (f .0) (stepOf L (getD w j 0) .sets) ≡ true))
+
+-- Definition 6 (Executability-Relaxed Precondition). "We call a fact f an executability-relaxed precondition of c if and only if for
+-- all primitive refinements (i.e., ignoring executability) <a_0 .. a_n> of c there exists an action a_i with f ∈ prec(a_i) and there
+-- does not exist an action a_j with j < i and f ∈ add(a_j)". "prec^∅(c) := {f ∈ F | f is an executability-relaxed precondition of c}."
+abbrev pub prec∅ : (L : Library) → ℕ → Fact L → Type 0
+prec∅ L c f = (w : List Item) → Run L c w → Required L w f
+
+-- Definition 7 (Possible Executability-Relaxed Precondition). "We call a fact f a possible executability-relaxed precondition of c if
+-- and only if there exists a primitive refinement (i.e., ignoring executability) <a_0 .. a_n> of c such that there exists an action
+-- a_i with f ∈ prec(a_i) and there does not exist an action a_j with j < i and f ∈ add(a_j)".
+-- Definition 8. "poss-prec^∅(c) := {f ∈ F | f is a possible executability-relaxed precondition of c}."
+abbrev pub poss-prec∅ : (L : Library) → ℕ → Fact L → Type 0
+poss-prec∅ L c f = (w : List Item) × Run L c w × Required L w f

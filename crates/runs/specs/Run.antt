@@ -1,0 +1,39 @@
+-- The runs of a sequence (document 01, "Runs"; in the papers a primitive refinement of a compound task).
+--
+-- They depend on the sequences alone, and not on what a step needs, sets or clears.
+use Prim.Native.Nat.{ℕ, _<_}
+use mathlib.Core.Path.{_≡_}
+use mathlib.Core.List.{List, [], _∷_, _++_}
+use lib.ListN.{length, getD}
+use Rattle.library.specs.Library.{Library, Alternative, Sequence, Entry, step, call}
+
+-- an item of a run: a run is a "finite list of steps", each by its number
+abbrev pub Item : Type 0
+Item = ℕ
+
+-- the alternatives of sequence c, none where c is not the number of a sequence
+abbrev pub alternativesOf : List Sequence → ℕ → List Alternative
+alternativesOf S c = getD S c []
+
+-- alternative i of sequence c: "Alternatives count from 0 within their sequence."
+abbrev pub alternativeOf : List Sequence → ℕ → ℕ → Alternative
+alternativeOf S c i = getD (alternativesOf S c) i []
+
+-- Which lists the entries of an alternative give: "putting its steps, and a run of each of its sequences, in order".
+-- The run u of the sequence called is given by its alternative i.
+pub data Gives (S : List Sequence) : List Entry → List Item → Type 0 where
+  nothing : Gives S [] []
+  by-step : {a : ℕ} {es : List Entry} {w : List Item} → Gives S es w → Gives S (step a ∷ es) (a ∷ w)
+  by-call : {c : ℕ} {es : List Entry} {u v w : List Item} (i : ℕ) → i < length (alternativesOf S c) → Gives S (alternativeOf S c i) u
+      → Gives S es v → w ≡ u ++ v → Gives S (call c ∷ es) w
+
+-- "A run of a sequence is any finite list of steps got by choosing an alternative and putting its steps, and a run of each of its
+-- sequences, in order. A run may be empty. A sequence may have no run."
+pub record RunOf (S : List Sequence) (c : ℕ) (w : List Item) : Type 0 where
+  pub alternative : ℕ
+  pub listed : alternative < length (alternativesOf S c)
+  pub given : Gives S (alternativeOf S c alternative) w
+
+-- w is a run of sequence c of the library
+abbrev pub Run : Library → ℕ → List Item → Type 0
+Run L c w = RunOf (L .sequences) c w

@@ -1,0 +1,53 @@
+-- `seeded::library::put_sequences` is safe and ends.
+-- Assumes nothing.
+use Prim.Native.Nat.{_-_}
+use mathlib.Core.Path.{_≡_}
+use lib.ListN.{length}
+use borrow.Author.Needs.{needs}
+use Rattle.seeded.proofs.library.put_sequences.Statement.{statement}
+use Rattle.seeded.proofs.library.put_sequences.Tie as tie
+
+abbrev Inv-loop : tie.InvT-loop
+Inv-loop state₀ s words₀ n sequences m₀ c₀ state words m c = (length state ≡ length state₀) × (length words ≡ length words₀)
+
+abbrev μ-loop : tie.MeasureT-loop
+μ-loop state₀ s words₀ n sequences m₀ c₀ state words m c = sequences - c
+
+loop-holds : tie.Need-loop-holds Inv-loop μ-loop
+loop-holds c = search needs
+
+put-sequence-requires : tie.Need-put-sequence-requires Inv-loop μ-loop
+put-sequence-requires c κs = search needs
+
+add-c : tie.Need-add-c Inv-loop μ-loop
+add-c c = search needs
+
+loop-less : tie.Need-loop-less Inv-loop μ-loop
+loop-less c = search needs
+
+loop-again : tie.Need-loop-again Inv-loop μ-loop
+loop-again c = search needs
+
+same-length : tie.Need-same-length Inv-loop μ-loop
+same-length c = search needs
+
+same-length-2 : tie.Need-same-length-2 Inv-loop μ-loop
+same-length-2 c = search needs
+
+returns : tie.Need-returns Inv-loop μ-loop
+returns c = search needs
+
+pub put-sequences-spec : {M : Type 1} → statement M
+put-sequences-spec =
+    tie.close
+    (tie.spec
+    Inv-loop
+    μ-loop
+    loop-holds
+    put-sequence-requires
+    add-c
+    loop-less
+    loop-again
+    same-length
+    same-length-2
+    returns)

@@ -1,0 +1,64 @@
+-- Visits in place until nothing changes, in the form that the loops follow, for any table: a visit of a number gives another table, by the
+-- table as it stands, and a pass visits numbers one after the other.
+use Prim.Native.Nat.{ℕ, _-_, _<_}
+use mathlib.Core.Path.{_≡_}
+use mathlib.Core.Bool.{Bool, true, false, cond}
+use mathlib.Core.List.{List}
+use lib.ListN.{length, getD}
+
+-- `visit` gives the table after a visit of number c
+module _ (visit : List ℕ → ℕ → List ℕ) where
+  -- tables that visits of the numbers below n lead to
+  pub data Reached (n : ℕ) (before : List ℕ) : List ℕ → Type 0 where
+    here : Reached n before before
+    next : {table : List ℕ} (c : ℕ) → c < n → Reached n before table → Reached n before (visit table c)
+
+  -- no visit changes the table
+  abbrev pub Settled : ℕ → List ℕ → Type 0
+  Settled n table = (c : ℕ) → c < n → visit table c ≡ table
+
+  -- `weight` is what falls while the table changes
+  module _ (weight : List ℕ → ℕ) where
+    -- what a visit promises: the table after it, and whether that is another
+    pub record Visit (before : List ℕ) (c : ℕ) (after : List ℕ) (changed : Bool) : Type 0 where
+      pub done : after ≡ visit before c
+      pub falls : changed ≡ true → weight after < weight before
+      pub stays : changed ≡ false → after ≡ before
+
+    -- what a pass that goes over all numbers below n promises: it visits; the weight falls where it changed something; otherwise no visit
+    -- changes anything
+    pub record Pass (n : ℕ) (before after : List ℕ) (changed : Bool) : Type 0 where
+      pub reached : Reached n before after
+      pub falls : changed ≡ true → weight after < weight before
+      pub settled : changed ≡ false → Settled n after
+
+    -- what a pass over the numbers that an order names promises: otherwise no visit of one of them changes anything
+    pub record Swept (n : ℕ) (order before after : List ℕ) (changed : Bool) : Type 0 where
+      pub reached : Reached n before after
+      pub falls : changed ≡ true → weight after < weight before
+      pub settled : changed ≡ false → (i : ℕ) → i < length order → getD order i 0 < n → visit after (getD order i 0) ≡ after
+
+-- the order names number c
+pub record Named (order : List ℕ) (c : ℕ) : Type 0 where
+  pub place : ℕ
+  pub within : place < length order
+  pub number : getD order place 0 ≡ c
+
+-- each number below n
+abbrev pub Complete : List ℕ → ℕ → Type 0
+Complete order n = (c : ℕ) → c < n → Named order c
+
+-- the marks of numbers: each that is marked is named
+abbrev pub Marked : List ℕ → List ℕ → Type 0
+Marked order seen = (c : ℕ) → getD seen c 0 ≡ 1 → Named order c
+
+abbrev pub AllMarked : List ℕ → ℕ → Type 0
+AllMarked seen n = (c : ℕ) → c < n → getD seen c 0 ≡ 1
+
+-- the place that comes at turn i: first to last, or last to first
+abbrev pub placeOf : Bool → ℕ → ℕ → ℕ
+placeOf forward len i = cond forward i (len - 1 - i)
+
+-- every word is 0
+abbrev pub Blank : List ℕ → Type 0
+Blank area = (k : ℕ) → getD area k 0 ≡ 0
