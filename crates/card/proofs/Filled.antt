@@ -17,7 +17,7 @@ use Rattle.image.specs.declared.answer.Checked.{Checked}
 use Rattle.library.proofs.Accepted.{faultless, counted}
 use Rattle.outcome.specs.Area.{outcomes}
 use Rattle.card.specs.Card.{cards}
-use Rattle.card.specs.Row.{tableCards}
+use Rattle.card_words.specs.Row.{tableCards}
 use Rattle.card.specs.Answer.{answered, cardsOf, areaAfter, Called}
 use Rattle.card.specs.declared.answer.Cards.{Cards}
 use Rattle.card.proofs.Table.{table-cards}

@@ -2,4 +2,3 @@ pub mod Card
 pub mod Answer
 pub mod Meaning
 pub mod Area
-pub mod Row

@@ -1,6 +1,6 @@
 // The card call: refusals 1 to 8, or the cards of all sequences.
 use crate::answer::Cards;
-use crate::write::write_cards;
+use card_words::write::write_cards;
 use image::answer::Checked;
 use image::answer::Head;
 use image::answer::Refusal;

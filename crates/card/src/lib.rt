@@ -1,4 +1,3 @@
 // Sequence cards: seven words a sequence, made of the outcome table.
 pub mod answer;
 pub mod call;
-pub mod write;

@@ -92,101 +92,64 @@ fn fill_by(
     settle(all, rows, sequences, places, callers, &order[..n], table, n);
 }
 
-// So with an area for the callers of its own: a small one where there are few sequences.
-fn fill_rows(
-    h: Head,
-    steps: &[u32],
-    sequences: &[u32],
-    masks: &mut [u64],
-    places: &mut [u32],
-    order: &mut [usize],
-    rows: &mut [u64],
-    table: &mut [u64],
-)
-    requires { ⌜ FillAsked h (now steps) (now sequences) (now table) × Areas h (now masks) (now places) (now order) × RowsAsked h (now masks) (now rows) ⌝ }
-    ensures { λ _. ⌜ Prepared h (now (steps .entry)) (now (sequences .entry)) (now (masks .entry)) (now (places .entry)) (now (masks .exit)) (now (places .exit)) × (now (table .exit) ≡ outcomes (libraryIn h (now (steps .entry)) (now (sequences .entry)))) ⌝ }
+// So with small areas of its own for what is made on the way, which have the room where there are few steps and sequences.
+fn fill_small(h: Head, steps: &[u32], sequences: &[u32], table: &mut [u64])
+    requires { ⌜ FillAsked h (now steps) (now sequences) (now table) × (h .steps ≤ 64) × (h .sequences ≤ 32) ⌝ }
+    ensures { λ _. ⌜ now (table .exit) ≡ outcomes (libraryIn h (now (steps .entry)) (now (sequences .entry))) ⌝ }
 {
-    if h.sequences <= 32 {
-        let mut callers = [0u64; 128];
-        fill_by(
-            h,
-            steps,
-            sequences,
-            masks,
-            places,
-            &mut callers,
-            order,
-            rows,
-            table,
-        );
-    } else {
-        let mut callers = [0u64; 1024];
-        fill_by(
-            h,
-            steps,
-            sequences,
-            masks,
-            places,
-            &mut callers,
-            order,
-            rows,
-            table,
-        );
-    }
+    let mut masks = [0u64; 192];
+    let mut places = [0u32; 256];
+    let mut callers = [0u64; 128];
+    let mut order = [0usize; 256];
+    let mut rows = [0u64; 512];
+    fill_by(
+        h,
+        steps,
+        sequences,
+        &mut masks,
+        &mut places,
+        &mut callers,
+        &mut order,
+        &mut rows,
+        table,
+    );
 }
 
-// So with an area for the rows of its own: a small one where there are few steps, since it takes time to make it.
-pub fn fill(
-    h: Head,
-    steps: &[u32],
-    sequences: &[u32],
-    masks: &mut [u64],
-    places: &mut [u32],
-    order: &mut [usize],
-    table: &mut [u64],
-)
-    requires { ⌜ FillAsked h (now steps) (now sequences) (now table) × Areas h (now masks) (now places) (now order) ⌝ }
-    ensures { λ _. ⌜ Prepared h (now (steps .entry)) (now (sequences .entry)) (now (masks .entry)) (now (places .entry)) (now (masks .exit)) (now (places .exit)) × (now (table .exit) ≡ outcomes (libraryIn h (now (steps .entry)) (now (sequences .entry)))) ⌝ }
-{
-    if h.steps <= 64 {
-        let mut rows = [0u64; 512];
-        fill_rows(h, steps, sequences, masks, places, order, &mut rows, table);
-    } else {
-        let mut rows = [0u64; 8192];
-        fill_rows(h, steps, sequences, masks, places, order, &mut rows, table);
-    }
-}
-
-// Fills `table` with areas of its own for what is made on the way: small ones where there are few steps.
-fn fill_alone(h: Head, steps: &[u32], sequences: &[u32], table: &mut [u64])
+// So with areas that have the room for every image.
+fn fill_large(h: Head, steps: &[u32], sequences: &[u32], table: &mut [u64])
     requires { ⌜ FillAsked h (now steps) (now sequences) (now table) ⌝ }
     ensures { λ _. ⌜ now (table .exit) ≡ outcomes (libraryIn h (now (steps .entry)) (now (sequences .entry))) ⌝ }
 {
+    let mut masks = [0u64; 3072];
     let mut places = [0u32; 256];
+    let mut callers = [0u64; 1024];
     let mut order = [0usize; 256];
+    let mut rows = [0u64; 8192];
+    fill_by(
+        h,
+        steps,
+        sequences,
+        &mut masks,
+        &mut places,
+        &mut callers,
+        &mut order,
+        &mut rows,
+        table,
+    );
+}
+
+// So with small areas where they have the room, since it takes time to make them.
+fn fill(h: Head, steps: &[u32], sequences: &[u32], table: &mut [u64])
+    requires { ⌜ FillAsked h (now steps) (now sequences) (now table) ⌝ }
+    ensures { λ _. ⌜ now (table .exit) ≡ outcomes (libraryIn h (now (steps .entry)) (now (sequences .entry))) ⌝ }
+{
     if h.steps <= 64 {
-        let mut masks = [0u64; 192];
-        fill(
-            h,
-            steps,
-            sequences,
-            &mut masks,
-            &mut places,
-            &mut order,
-            table,
-        );
-    } else {
-        let mut masks = [0u64; 3072];
-        fill(
-            h,
-            steps,
-            sequences,
-            &mut masks,
-            &mut places,
-            &mut order,
-            table,
-        );
+        if h.sequences <= 32 {
+            fill_small(h, steps, sequences, table);
+            return;
+        }
     }
+    fill_large(h, steps, sequences, table);
 }
 
 // Writes the outcome table of an accepted image into the area. Words past it stay.
@@ -195,7 +158,7 @@ pub fn outcome_table(h: Head, image: &[u32], area: &mut [u64])
     ensures { λ _. ⌜ now (area .exit) ≡ outcomes (libraryOf (now (image .entry))) ++ drop (8 * h .sequences) (now (area .entry)) ⌝ }
 {
     let words = 8 * h.sequences as usize;
-    fill_alone(
+    fill(
         h,
         steps_part(image),
         sequences_part(image),

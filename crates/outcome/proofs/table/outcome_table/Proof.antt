@@ -13,7 +13,7 @@ use Rattle.outcome.proofs.table.outcome_table.Reads as reads
 use Rattle.outcome.proofs.table.outcome_table.Lts as lts
 use Rattle.library.proofs.parts.sequences_part.Reads as sequences-part-reads
 use Rattle.library.proofs.parts.steps_part.Reads as steps-part-reads
-use Rattle.outcome.proofs.table.fill_alone.Reads as fill-alone-reads
+use Rattle.outcome.proofs.table.fill.Reads as fill-reads
 
 cast-words : tie.Need-cast-words
 cast-words c = search needs
@@ -27,14 +27,14 @@ steps-part-requires c κs = let start = c .before .before .before in let a = sta
 sequences-part-requires : tie.Need-sequences-part-requires
 sequences-part-requires c κs = let start = c .before .before .before .before in let a = start .args in image-long (a .h) (a .image .now) (a .area .now) (start .pre)
 
-slice-relend-prefix-fill-alone : tie.Need-slice-relend-prefix-fill-alone
-slice-relend-prefix-fill-alone c = search needs
+slice-relend-prefix-fill : tie.Need-slice-relend-prefix-fill
+slice-relend-prefix-fill c = search needs
 
-slice-aggregate-fill-alone : tie.Need-slice-aggregate-fill-alone
-slice-aggregate-fill-alone c = let start = c .before .before .before .before .before .before in let a = start .args in table-long (a .h) (a .image .now) (a .area .now) (start .pre)
+slice-aggregate-fill : tie.Need-slice-aggregate-fill
+slice-aggregate-fill c = let start = c .before .before .before .before .before .before in let a = start .args in table-long (a .h) (a .image .now) (a .area .now) (start .pre)
 
-fill-alone-requires : tie.Need-fill-alone-requires
-fill-alone-requires c κs = let start = c .before .before .before .before .before .before in let a = start .args in fill-asked (a .h) (a .image .now) (a .area .now) (start .pre) _ _ (c .before .before .steps-part .ensures) (c .before .sequences-part .ensures)
+fill-requires : tie.Need-fill-requires
+fill-requires c κs = let start = c .before .before .before .before .before .before in let a = start .args in fill-asked (a .h) (a .image .now) (a .area .now) (start .pre) _ _ (c .before .before .steps-part .ensures) (c .before .sequences-part .ensures)
 
 same-length : tie.Need-same-length
 same-length c = search needs
@@ -47,7 +47,7 @@ returns c =
     let start = first .before .before .before .before in
     let a = start .args in
     ap (λ (t : List ℕ). t ++ drop (8 * a .h .sequences) (a .area .now))
-    (table-is (a .h) (a .image .now) (a .area .now) (start .pre) _ _ (filled .fill-alone .last .1 .1 .1 .0) (first .steps-part .ensures) (second .sequences-part .ensures) (filled .fill-alone .ensures))
+    (table-is (a .h) (a .image .now) (a .area .now) (start .pre) _ _ (filled .fill .last .1 .1 .1 .0) (first .steps-part .ensures) (second .sequences-part .ensures) (filled .fill .ensures))
 
 pub outcome-table-spec : {M : Type 1} → statement M
 outcome-table-spec =
@@ -57,8 +57,8 @@ outcome-table-spec =
     mul-words
     steps-part-requires
     sequences-part-requires
-    slice-relend-prefix-fill-alone
-    slice-aggregate-fill-alone
-    fill-alone-requires
+    slice-relend-prefix-fill
+    slice-aggregate-fill
+    fill-requires
     same-length
     returns)

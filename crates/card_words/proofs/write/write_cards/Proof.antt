@@ -1,15 +1,15 @@
--- `card::write::write_cards` meets its contract: each turn writes the next card into its own part.
+-- `card_words::write::write_cards` meets its contract: each turn writes the next card into its own part.
 -- Assumes nothing.
 use borrow.Author.Needs.{needs}
 use Prim.Native.Nat.{_+_, _*_, _-_}
 use native.Mathlib.Omega.{arith}
 use lib.ListN.{length-take, length-drop}
-use Rattle.card.proofs.Rows.{CardsAt, cards-start, cards-long, cards-next, cards-end}
-use Rattle.card.proofs.write.write_cards.Statement.{statement}
-use Rattle.card.proofs.write.write_cards.Tie as tie
-use Rattle.card.proofs.write.write_cards.Reads as reads
-use Rattle.card.proofs.write.write_cards.Lts as lts
-use Rattle.card.proofs.write.write_card.Reads as write-card-reads
+use Rattle.card_words.proofs.Rows.{CardsAt, cards-start, cards-long, cards-next, cards-end}
+use Rattle.card_words.proofs.write.write_cards.Statement.{statement}
+use Rattle.card_words.proofs.write.write_cards.Tie as tie
+use Rattle.card_words.proofs.write.write_cards.Reads as reads
+use Rattle.card_words.proofs.write.write_cards.Lts as lts
+use Rattle.card_words.proofs.write.write_card.Reads as write-card-reads
 
 abbrev Inv-loop : tie.InvT-loop
 Inv-loop n table area₀ c₀ area c = CardsAt table area₀ area n c

@@ -6,7 +6,7 @@ ghost use mathlib.Core.Path.{_≡_};
 ghost use mathlib.Core.List.{_++_};
 ghost use Prim.Native.Nat.{_*_, _≤_};
 ghost use lib.ListN.{length, drop};
-ghost use Rattle.card.specs.Row.{flagsOf, alwaysOf, rowCard, tableCards};
+ghost use Rattle.card_words.specs.Row.{flagsOf, alwaysOf, rowCard, tableCards};
 
 // The flags word: a run exists, an empty run exists, and the number of facts that some run sets or clears last.
 fn flags(run: u64, empty: u64, set: u64, cleared: u64) -> u64

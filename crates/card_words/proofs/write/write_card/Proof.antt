@@ -1,17 +1,17 @@
--- `card::write::write_card` meets its contract: seven stores into a part of seven words.
+-- `card_words::write::write_card` meets its contract: seven stores into a part of seven words.
 -- Assumes nothing.
 use borrow.Author.Needs.{needs}
 use native.Mathlib.Omega.{arith}
 use lib.ListN.{length-set}
 use mathlib.Core.Path.{_∙_}
-use Rattle.card.specs.Row.{rowCard}
-use Rattle.card.proofs.Rows.{seven-stores}
-use Rattle.card.proofs.write.write_card.Statement.{statement}
-use Rattle.card.proofs.write.write_card.Tie as tie
-use Rattle.card.proofs.write.write_card.Reads as reads
-use Rattle.card.proofs.write.write_card.Lts as lts
-use Rattle.card.proofs.write.always.Reads as always-reads
-use Rattle.card.proofs.write.flags.Reads as flags-reads
+use Rattle.card_words.specs.Row.{rowCard}
+use Rattle.card_words.proofs.Rows.{seven-stores}
+use Rattle.card_words.proofs.write.write_card.Statement.{statement}
+use Rattle.card_words.proofs.write.write_card.Tie as tie
+use Rattle.card_words.proofs.write.write_card.Reads as reads
+use Rattle.card_words.proofs.write.write_card.Lts as lts
+use Rattle.card_words.proofs.write.always.Reads as always-reads
+use Rattle.card_words.proofs.write.flags.Reads as flags-reads
 
 shared-slice-read-run : tie.Need-shared-slice-read-run
 shared-slice-read-run c = search needs

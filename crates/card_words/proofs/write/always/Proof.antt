@@ -1,10 +1,10 @@
--- `card::write::always` meets its contract: a run exists, without the two rival outcomes.
+-- `card_words::write::always` meets its contract: a run exists, without the two rival outcomes.
 -- Assumes nothing.
 use borrow.Author.Needs.{needs}
-use Rattle.card.proofs.write.always.Statement.{statement}
-use Rattle.card.proofs.write.always.Tie as tie
-use Rattle.card.proofs.write.always.Reads as reads
-use Rattle.card.proofs.write.always.Lts as lts
+use Rattle.card_words.proofs.write.always.Statement.{statement}
+use Rattle.card_words.proofs.write.always.Tie as tie
+use Rattle.card_words.proofs.write.always.Reads as reads
+use Rattle.card_words.proofs.write.always.Lts as lts
 use Rattle.column.proofs.sets.union.Reads as union-reads
 use Rattle.column.proofs.sets.without.Reads as without-reads
 

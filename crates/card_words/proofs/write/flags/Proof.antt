@@ -1,10 +1,10 @@
--- `card::write::flags` meets its contract: the count is that of the union.
+-- `card_words::write::flags` meets its contract: the count is that of the union.
 -- Assumes nothing.
 use borrow.Author.Needs.{needs}
-use Rattle.card.proofs.write.flags.Statement.{statement}
-use Rattle.card.proofs.write.flags.Tie as tie
-use Rattle.card.proofs.write.flags.Reads as reads
-use Rattle.card.proofs.write.flags.Lts as lts
+use Rattle.card_words.proofs.write.flags.Statement.{statement}
+use Rattle.card_words.proofs.write.flags.Tie as tie
+use Rattle.card_words.proofs.write.flags.Reads as reads
+use Rattle.card_words.proofs.write.flags.Lts as lts
 use Rattle.column.proofs.sets.count.Reads as count-reads
 use Rattle.column.proofs.sets.union.Reads as union-reads
 
