@@ -9,7 +9,6 @@ use lib.Dec.{ltb}
 use Rattle.image.specs.Answer.{refusalAnswer}
 use Rattle.reader.specs.Checked.{checked}
 use Rattle.library.specs.Library.{libraryOf}
-use Rattle.image.specs.declared.answer.Head.{Head}
 use Rattle.image.specs.declared.answer.Refusal.the-variants.{CardArea}
 use Rattle.image.specs.declared.answer.Checked.{Checked}
 use Rattle.card.specs.Card.{cardWords, cards}
@@ -38,10 +37,6 @@ cardArea image area = areaAfter (cardsOf image area) image area
 abbrev pub cardsAnswer : Cards → ℕ
 cardsAnswer (Cards.Filled n) = n
 cardsAnswer (Cards.Refused r) = refusalAnswer r
-
--- the check accepts the image with this head
-abbrev pub accepts : List ℕ → Head → Type 0
-accepts image h = checked image ≡ Checked.Accepted h
 
 -- what the card call does: its answer, and the area after it
 pub record Called (image before : List ℕ) (found : Cards) (after : List ℕ) : Type 0 where

@@ -13,7 +13,8 @@ ghost use lib.ListN.{length, drop};
 ghost use Rattle.library.specs.Library.{libraryOf};
 ghost use Rattle.outcome.specs.Area.{TableAsked};
 ghost use Rattle.card.specs.Card.{cards};
-ghost use Rattle.card.specs.Answer.{Called, accepts};
+ghost use Rattle.reader.specs.Checked.{accepts};
+ghost use Rattle.card.specs.Answer.{Called};
 
 // Fills the cards of an accepted image by way of its outcome table, in an area that has room for it.
 fn fill_by(h: Head, image: &[u32], table: &mut [u64], area: &mut [u64])

@@ -20,7 +20,8 @@ ghost use Rattle.rank.specs.Answer.{answer};
 ghost use Rattle.rank.specs.Tables.{Steppable, Visitable, Ranked};
 ghost use Rattle.link.specs.Choice.{Choosable, answerIn};
 ghost use Rattle.chain.specs.Described.{FindAsked, Made, TablesAsked, questionBy};
-ghost use Rattle.link.specs.Reply.{accepts, Answered, Called};
+ghost use Rattle.reader.specs.Checked.{accepts};
+ghost use Rattle.link.specs.Reply.{Answered, Called};
 
 // Ranks the steps by one question and the sequences by another, in a table that has no rank yet.
 fn rank(

@@ -60,11 +60,18 @@ fn fold(s: u32) -> u32
     std::num::wrapping_add_u32(s, s / 268435456) % 268435456
 }
 
+// The payload of the sum word after these words.
+pub fn sum_of(words: &[u32]) -> u32
+    ensures { λ r. ⌜ r ≡ folded (wrappedSum (now (words .entry))) ⌝ }
+{
+    fold(wrapped_sum(words))
+}
+
 // Whether `w` is the sum word after the words `earlier`.
 pub fn sum_right(earlier: &[u32], w: u32) -> bool
     ensures { λ r. ⌜ r ≡ sumRight (now (earlier .entry)) w ⌝ }
 {
-    let s = fold(wrapped_sum(earlier));
+    let s = sum_of(earlier);
     (w / 268435456 == 15) & (w % 268435456 == s)
 }
 

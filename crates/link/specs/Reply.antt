@@ -4,9 +4,6 @@ use mathlib.Core.Path.{_≡_}
 use mathlib.Core.List.{List}
 use lib.ListN.{length}
 use Rattle.image.specs.Answer.{refusalAnswer}
-use Rattle.reader.specs.Checked.{checked}
-use Rattle.image.specs.declared.answer.Head.{Head}
-use Rattle.image.specs.declared.answer.Checked.the-variants.{Accepted}
 use Rattle.rank.specs.Answer.{Answer, none, shown}
 use Rattle.rank.specs.Call.{Reply, refused, answered, inArea, chained, areaAfter}
 use Rattle.link.specs.declared.answer.Chained.{Chained}
@@ -32,10 +29,6 @@ replyNumber r = chainAnswer (chainedAs r)
 pub record Answered (a : Answer) (before : List ℕ) (found : Chained) (after : List ℕ) : Type 0 where
   pub answer : found ≡ chainedAs (inArea (length before) a)
   pub area : after ≡ areaAfter (inArea (length before) a) before
-
--- the check accepts the image with this head
-abbrev pub accepts : List ℕ → Head → Type 0
-accepts image h = checked image ≡ Accepted h
 
 -- what the chain call does: its answer, and the area after it
 pub record Called (image : List ℕ) (c q f : ℕ) (before : List ℕ) (found : Chained) (after : List ℕ) : Type 0 where

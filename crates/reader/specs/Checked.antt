@@ -1,6 +1,7 @@
 -- The check's answer: refusals 1 to 7 in their order, with their positions, or acceptance (document 01, "Turned down, in
 -- checking order").
 use Prim.Native.Nat.{ℕ, _+_, _-_}
+use mathlib.Core.Path.{_≡_}
 use mathlib.Core.Bool.{cond, _&&_, _||_}
 use mathlib.Core.List.{List, [], _∷_, _++_}
 use lib.ListN.{length, getD, take, drop}
@@ -57,3 +58,7 @@ checked image =
     (Refused HeadWord))
     (Refused (SumWord (length image - 1))))
     (Refused Length)
+
+-- an image that the check accepts, and what its head counts
+abbrev pub accepts : List ℕ → Head → Type 0
+accepts image h = checked image ≡ Accepted h

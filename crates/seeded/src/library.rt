@@ -3,6 +3,7 @@ use crate::random::between;
 use crate::random::chance;
 use crate::random::draw;
 use crate::shape::Shape;
+use image::word::sum_of;
 ghost use Prim.Native.Nat.{_≤_};
 ghost use lib.ListN.{length};
 
@@ -185,23 +186,12 @@ fn put_sequences(state: &mut [u64], s: Shape, words: &mut [u32], n: usize) -> us
     m
 }
 
-// The sum of the words with wrap at 2^32, folded into 28 bits.
-fn sum(words: &[u32]) -> u32 {
-    let mut s = 0;
-    let mut i = 0;
-    while i < words.len() {
-        s = std::num::wrapping_add_u32(s, words[i]);
-        i += 1;
-    }
-    std::num::wrapping_add_u32(s, s / 268435456) % 268435456
-}
-
 // Writes the sum word after the first `n`.
 fn put_sum(words: &mut [u32], n: usize) -> usize {
     if words.len() < n {
         return 0;
     }
-    let w = sum(&words[..n]);
+    let w = sum_of(&words[..n]);
     put(words, n, 0xf0000000 | w)
 }
 

@@ -1,17 +1,14 @@
--- `image::word::sum_right` meets its contract, by those of the sum and of the fold.
+-- `image::word::sum_right` meets its contract.
 -- Assumes nothing.
 use borrow.Author.Needs.{needs}
 use Rattle.image.proofs.word.sum_right.Statement.{statement}
 use Rattle.image.proofs.word.sum_right.Tie as tie
 
-wrapped-sum-requires : tie.Need-wrapped-sum-requires
-wrapped-sum-requires c κs = search needs
-
-fold-requires : tie.Need-fold-requires
-fold-requires c κs = search needs
+sum-of-requires : tie.Need-sum-of-requires
+sum-of-requires c κs = search needs
 
 returns : tie.Need-returns
-returns c = simp (c .fold .ensures, c .before .wrapped-sum .ensures)
+returns c = simp (c .sum-of .ensures)
 
 pub sum-right-spec : {M : Type 1} → statement M
-sum-right-spec = tie.close (tie.spec wrapped-sum-requires fold-requires returns)
+sum-right-spec = tie.close (tie.spec sum-of-requires returns)

@@ -10,14 +10,14 @@ use Rattle.seeded.proofs.library.put_sum.Tie as tie
 returns : tie.Need-returns
 returns c = search needs
 
-slice-reshare-prefix-sum : tie.Need-slice-reshare-prefix-sum
-slice-reshare-prefix-sum c = search needs
+slice-reshare-prefix-sum-of : tie.Need-slice-reshare-prefix-sum-of
+slice-reshare-prefix-sum-of c = search needs
 
-slice-aggregate-sum : tie.Need-slice-aggregate-sum
-slice-aggregate-sum c = sym (length-take-le _ _ (omega arith))
+slice-aggregate-sum-of : tie.Need-slice-aggregate-sum-of
+slice-aggregate-sum-of c = sym (length-take-le _ _ (omega arith))
 
-sum-requires : tie.Need-sum-requires
-sum-requires c κs = search needs
+sum-of-requires : tie.Need-sum-of-requires
+sum-of-requires c κs = search needs
 
 put-requires : tie.Need-put-requires
 put-requires c κs = search needs
@@ -33,9 +33,9 @@ put-sum-spec =
     tie.close
     (tie.spec
     returns
-    slice-reshare-prefix-sum
-    slice-aggregate-sum
-    sum-requires
+    slice-reshare-prefix-sum-of
+    slice-aggregate-sum-of
+    sum-of-requires
     put-requires
     same-length
     returns-2)
