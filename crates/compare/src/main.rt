@@ -13,16 +13,16 @@
 // changed past a chain or on "none". What it would not catch: a mistake in the reading of images, which both engines share, and what shows in
 // no card and no chain.
 //
-// Tried: the engine was broken on a copy, built without its proofs and run; each was reported, with so many differences in all.
-//   outcome, an alternative counts where one of two entries has a run (`x.run | y.run`): card words and chains, 42,812
-//   outcome, a touch counts though a later entry always touches (`x.present & x.present`): card words, 2,165
-//   outcome, a pass says that nothing changed (`visit(..) & changed`): card words and chains, 2,707
-//   card, a run may leave an always set fact untouched (`union(rival, rival)`): card words, 62,458
-//   chain, a link with one link more after it is taken (`t.rank <= k + 1`): a link's entry is no step with the touch, 7,329
-//   chain, a link is taken though a later entry touches (`quiet <= next` left out): a link does not stand, 7,828
-//   chain, a rank that an entry behind should rule out is kept (`least(best, ..)`): a chain, and no run has the outcome, 11,596
-// Two more gave no report: bits above F in the outcome table (`facts - facts`), which show in no card and no chain, ran with 0 differences; the
-// empty-run flag written for "untouched" (`table[at + 4] = r.empty`) makes an engine that does not end, and this program with it.
+// Tried: the engine was broken on a copy and run without its proofs (`rt try compare`). Each break was reported, first by the words after it.
+//   runs, an alternative counts where one of two entries has a run (`x.run | y.run`): a card word differs
+//   runs, a touch counts though a later entry always touches (`x.present & x.present`): a card word differs
+//   outcome, callers are stale where a visit changed nothing, and not where it did (`if !changed`): a card word differs
+//   card_words, a run may leave an always set fact untouched (`union(rival, rival)`): a card word differs
+//   link, a link with one link more after it is taken (`t.rank <= k + 1`): a link's entry is no step with the touch
+//   link, a link is taken though a later entry touches (`quiet <= next` left out): a link does not stand
+//   rank, an entry behind the position is held to what is asked of one ahead (`passes(none, ahead, w)`): the links are not the fewest
+// Bits above F in the outcome table show in no card and no chain, so they would not be reported; and an engine that does not end takes this
+// program with it.
 mod ask;
 mod names;
 mod tally;

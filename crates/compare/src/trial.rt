@@ -8,7 +8,7 @@ use image::answer::Checked;
 use image::answer::Head;
 use library::parts::sequences_part;
 use library::parts::steps_part;
-use seeded::library::put_library;
+use seeded::made::put_library;
 use seeded::shape::of_kind;
 ghost use Prim.Native.Nat.{_≤_};
 ghost use lib.ListN.{length};

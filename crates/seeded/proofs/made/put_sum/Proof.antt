@@ -1,11 +1,11 @@
--- `seeded::library::put_sum` is safe.
+-- `seeded::made::put_sum` is safe.
 -- Assumes nothing.
 use native.Mathlib.Omega.{arith}
 use mathlib.Core.Path.{sym}
 use lib.Seq.{length-take-le}
 use borrow.Author.Needs.{needs}
-use Rattle.seeded.proofs.library.put_sum.Statement.{statement}
-use Rattle.seeded.proofs.library.put_sum.Tie as tie
+use Rattle.seeded.proofs.made.put_sum.Statement.{statement}
+use Rattle.seeded.proofs.made.put_sum.Tie as tie
 
 returns : tie.Need-returns
 returns c = search needs

@@ -1,11 +1,11 @@
--- `seeded::library::put_facts` is safe and ends.
+-- `seeded::made::put_facts` is safe and ends.
 -- Assumes nothing.
 use Prim.Native.Nat.{_-_}
 use mathlib.Core.Path.{_≡_}
 use lib.ListN.{length}
 use borrow.Author.Needs.{needs}
-use Rattle.seeded.proofs.library.put_facts.Statement.{statement}
-use Rattle.seeded.proofs.library.put_facts.Tie as tie
+use Rattle.seeded.proofs.made.put_facts.Statement.{statement}
+use Rattle.seeded.proofs.made.put_facts.Tie as tie
 
 abbrev Inv-loop : tie.InvT-loop
 Inv-loop state₀ s words₀ n a most m₀ i₀ state words m i = (length state ≡ length state₀) × (length words ≡ length words₀)

@@ -1,10 +1,10 @@
--- `seeded::library::put_entries` is safe and ends.
+-- `seeded::made::put_entries` is safe and ends.
 -- Assumes nothing.
 use mathlib.Core.Path.{_≡_}
 use lib.ListN.{length}
 use borrow.Author.Needs.{needs}
-use Rattle.seeded.proofs.library.put_entries.Statement.{statement}
-use Rattle.seeded.proofs.library.put_entries.Tie as tie
+use Rattle.seeded.proofs.made.put_entries.Statement.{statement}
+use Rattle.seeded.proofs.made.put_entries.Tie as tie
 
 abbrev Inv-loop : tie.InvT-loop
 Inv-loop state₀ s words₀ n c m₀ left₀ state words m left = (length state ≡ length state₀) × (length words ≡ length words₀)

@@ -1,26 +1,29 @@
--- `seeded::library::put_sequences` is safe and ends.
+-- `seeded::made::put_steps` is safe and ends.
 -- Assumes nothing.
 use Prim.Native.Nat.{_-_}
 use mathlib.Core.Path.{_≡_}
 use lib.ListN.{length}
 use borrow.Author.Needs.{needs}
-use Rattle.seeded.proofs.library.put_sequences.Statement.{statement}
-use Rattle.seeded.proofs.library.put_sequences.Tie as tie
+use Rattle.seeded.proofs.made.put_steps.Statement.{statement}
+use Rattle.seeded.proofs.made.put_steps.Tie as tie
 
 abbrev Inv-loop : tie.InvT-loop
-Inv-loop state₀ s words₀ n sequences m₀ c₀ state words m c = (length state ≡ length state₀) × (length words ≡ length words₀)
+Inv-loop state₀ s words₀ n steps m₀ a₀ state words m a = (length state ≡ length state₀) × (length words ≡ length words₀)
 
 abbrev μ-loop : tie.MeasureT-loop
-μ-loop state₀ s words₀ n sequences m₀ c₀ state words m c = sequences - c
+μ-loop state₀ s words₀ n steps m₀ a₀ state words m a = steps - a
 
 loop-holds : tie.Need-loop-holds Inv-loop μ-loop
 loop-holds c = search needs
 
-put-sequence-requires : tie.Need-put-sequence-requires Inv-loop μ-loop
-put-sequence-requires c κs = search needs
+put-requires : tie.Need-put-requires Inv-loop μ-loop
+put-requires c κs = search needs
 
-add-c : tie.Need-add-c Inv-loop μ-loop
-add-c c = search needs
+put-facts-requires : tie.Need-put-facts-requires Inv-loop μ-loop
+put-facts-requires c κs = search needs
+
+add-a : tie.Need-add-a Inv-loop μ-loop
+add-a c = search needs
 
 loop-less : tie.Need-loop-less Inv-loop μ-loop
 loop-less c = search needs
@@ -37,15 +40,16 @@ same-length-2 c = search needs
 returns : tie.Need-returns Inv-loop μ-loop
 returns c = search needs
 
-pub put-sequences-spec : {M : Type 1} → statement M
-put-sequences-spec =
+pub put-steps-spec : {M : Type 1} → statement M
+put-steps-spec =
     tie.close
     (tie.spec
     Inv-loop
     μ-loop
     loop-holds
-    put-sequence-requires
-    add-c
+    put-requires
+    put-facts-requires
+    add-a
     loop-less
     loop-again
     same-length

@@ -1,10 +1,10 @@
--- `seeded::library::put_sequence` is safe and ends.
+-- `seeded::made::put_sequence` is safe and ends.
 -- Assumes nothing.
 use mathlib.Core.Path.{_≡_}
 use lib.ListN.{length}
 use borrow.Author.Needs.{needs}
-use Rattle.seeded.proofs.library.put_sequence.Statement.{statement}
-use Rattle.seeded.proofs.library.put_sequence.Tie as tie
+use Rattle.seeded.proofs.made.put_sequence.Statement.{statement}
+use Rattle.seeded.proofs.made.put_sequence.Tie as tie
 
 abbrev Inv-loop : tie.InvT-loop
 Inv-loop state₀ s words₀ n c m₀ left₀ state words m left = (length state ≡ length state₀) × (length words ≡ length words₀)
