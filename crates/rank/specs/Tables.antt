@@ -1,6 +1,6 @@
 -- What tables of words say of an entry of an alternative, for the question that is asked: its rank, and whether it passes as one ahead of
--- the position or behind it. A table of ranks has a word for each sequence and, from word `none` on, one for each step. `proofs/Describes`
--- shows that the tables of an accepted image say what `Ranks` says of its library.
+-- the position or behind it. A table of ranks has a word for each sequence and, from word `none` on, one for each step. Crate `chain`
+-- (proofs/Describes) shows that the tables of an accepted image say what `Ranks` says of its library.
 use Prim.Native.Nat.{ℕ, _+_, _*_, _≤_, _<_}
 use mathlib.Core.Path.{_≡_}
 use mathlib.Core.Bool.{Bool, true, false, cond, _||_}

@@ -1,5 +1,5 @@
 -- The scan of `Checked` in the form that a loop follows: in place of the words before a word it carries what the rules ask of
--- them, and the position. Readers of document 01 need not look at it: `Laws` proves that it is the scan.
+-- them, and the position. Readers of document 01 need not look at it: `scan-walk` (proofs/Walk) proves that it is the scan.
 use Prim.Native.Nat.{ℕ, suc, _+_, _≤_, _<_}
 use mathlib.Core.Path.{_≡_}
 use lib.ListN.{length, getD, drop}
