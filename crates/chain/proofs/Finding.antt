@@ -103,7 +103,7 @@ module _ (image : List ℕ) (h : Head) (accepted : checked image ≡ Accepted h)
 
   -- the areas for the masks and the places are what their makers ask
   pub tables-asked : (first part ms : List ℕ) → first ≡ stepsPart image → part ≡ sequencesPart image → Blank ms → 3 * h .steps ≤ length ms
-      → StepsAsked h first ms × SequencesAsked h part (replicate 256 0) × (h .sequences ≤ 256)
+      → StepsAsked h first ms × SequencesAsked h part (replicate 256 0) × (h .sequences ≤ 256) × (h .sequences ≤ 256)
   tables-asked first part ms p q blank wide =
       let area = replicate {A = ℕ} 2048 0 in
       let zeros = replicate {A = ℕ} 256 0 in

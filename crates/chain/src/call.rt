@@ -15,7 +15,7 @@ ghost use mathlib.Core.Bool.{false};
 ghost use Prim.Native.Nat.{_*_, _^_, _≤_, _<_};
 ghost use lib.ListN.{length};
 ghost use Rattle.library.specs.Library.{libraryOf};
-ghost use Rattle.visits.specs.Passes.{Blank};
+ghost use Rattle.visits.specs.Passes.{Blank, Complete};
 ghost use Rattle.rank.specs.Answer.{answer};
 ghost use Rattle.rank.specs.Tables.{Steppable, Visitable, Ranked};
 ghost use Rattle.link.specs.Choice.{Choosable, answerIn};
@@ -37,7 +37,7 @@ fn rank(
     ranks: &mut [u32],
     n: usize,
 )
-    requires { ⌜ Steppable p (now masks) (now ranks) × Visitable q n (now ahead) (now behind) (now ranks) (now part) (now places) ⌝ }
+    requires { ⌜ Steppable p (now masks) (now ranks) × Visitable q n (now ahead) (now behind) (now ranks) (now part) (now places) × Complete (now order) n ⌝ }
     ensures { λ _. ⌜ Ranked any p q n (now (masks .entry)) (now (ahead .entry)) (now (behind .entry)) (now (part .entry)) (now (places .entry)) (now (ranks .entry)) (now (ranks .exit)) ⌝ }
 {
     write_step_ranks(any, p, masks, ranks);
@@ -58,7 +58,7 @@ fn link(
     n: usize,
     c: u32,
 ) -> Chained
-    requires { ⌜ Steppable q (now masks) (now links) × Visitable q n (now ahead) (now behind) (now links) (now part) (now places) × Choosable q (now ahead) (now behind) (now links) (now part) (now places) × (c < 2 ^ 28) × (c < length (now links)) ⌝ }
+    requires { ⌜ Steppable q (now masks) (now links) × Visitable q n (now ahead) (now behind) (now links) (now part) (now places) × Complete (now order) n × Choosable q (now ahead) (now behind) (now links) (now part) (now places) × (c < 2 ^ 28) × (c < length (now links)) ⌝ }
     ensures { λ r. ⌜ Ranked false q q n (now (masks .entry)) (now (ahead .entry)) (now (behind .entry)) (now (part .entry)) (now (places .entry)) (now (links .entry)) (now (links .exit)) × Answered (answerIn q (now (ahead .entry)) (now (behind .entry)) (now (links .exit)) (now (part .entry)) (now (places .entry)) c) (now (area .entry)) r (now (area .exit)) ⌝ }
 {
     rank(
@@ -92,7 +92,7 @@ fn find_by(
     links: &mut [u32],
     area: &mut [u32],
 ) -> Chained
-    requires { ⌜ FindAsked h (now image) q c × Made (now image) h (now masks) (now places) × TablesAsked h q (now stays) (now runs) (now links) ⌝ }
+    requires { ⌜ FindAsked h (now image) q c × Made (now image) h (now masks) (now places) × TablesAsked h q (now stays) (now runs) (now links) × Complete (now order) (h .sequences) ⌝ }
     ensures { λ r. ⌜ Answered (answer (libraryOf (now (image .entry))) (questionBy q) c (q .fact)) (now (area .entry)) r (now (area .exit)) ⌝ }
 {
     let n = h.sequences as usize;
@@ -181,7 +181,7 @@ fn find_by(
     )
 }
 
-// So in lent areas, in which the masks, the places and the finishing order are made first.
+// So in lent areas, in which the masks, the places and the order of visits are made first.
 fn find_in(
     h: Head,
     image: &[u32],

@@ -38,11 +38,12 @@ pub areas-asked : (h : Head) (m : ℕ) → 3 * h .steps ≤ m → Areas h (repli
 areas-asked h m l = record { blank = blank-zeros m; wide = omega (arith, length-replicate {A = ℕ} m 0); narrow = refl; long = refl }
 
 pub prepare-asked : (h : Head) (steps sequences table ms ps order : List ℕ) → FillAsked h steps sequences table → Areas h ms ps order
-    → StepsAsked h steps ms × SequencesAsked h sequences ps × (h .sequences ≤ 256)
+    → StepsAsked h steps ms × SequencesAsked h sequences ps × (h .sequences ≤ 256) × (h .sequences ≤ length order)
 prepare-asked h steps sequences table ms ps order asked areas = (
   record { facts = asked .high; words = asked .steps; numbered = asked .steps-numbered; opened = asked .steps-opened; room = areas .wide },
   record { short = asked .short; numbered = asked .sequences-numbered; opened = asked .sequences-opened; room = omega (arith, asked .sequences-high, areas .narrow) },
   asked .sequences-high,
+  omega (arith, asked .sequences-high, areas .long),
 )
 
 module _ (h : Head) (steps sequences table : List ℕ) (asked : FillAsked h steps sequences table) (ms₀ rs₀ : List ℕ) (areas : RowsAsked h ms₀ rs₀)

@@ -64,7 +64,7 @@ pub record Prepared (h : Head) (first second masks-before places-before ms ps : 
   pub masked : ms ≡ masks (stepsFrom first) ++ drop (3 * h .steps) masks-before
   pub placed : ps ≡ placesFrom 0 second ++ drop (h .sequences) places-before
 
--- the areas that are lent for them and for the finishing order
+-- the areas that are lent for them and for the order of visits
 pub record Areas (h : Head) (ms ps order : List ℕ) : Type 0 where
   pub blank : Blank ms
   pub wide : 3 * h .steps ≤ length ms

@@ -1,6 +1,5 @@
 // Passes over the table until nothing changes, in an order that makes them few and against it in turn. A sequence is visited again only where
-// one that it calls has changed. A pass that changes nothing then shows that the table has all that is possible; so it is tested first that
-// the order names all sequences.
+// one that it calls has changed. The order names all sequences, so a pass that changes nothing shows that the table has all that is possible.
 use crate::read::read_sequence;
 use runs::row::put_row;
 use runs::row::row_at;
@@ -9,7 +8,6 @@ use runs::row::united;
 use visits::callers::is_stale;
 use visits::callers::remove;
 use visits::callers::unite;
-use visits::named::complete;
 use visits::named::place_of;
 ghost use mathlib.Core.Bool.{true, false};
 ghost use Prim.Native.Nat.{_+_, _*_, _≤_, _<_};
@@ -36,27 +34,6 @@ fn visit(
     let new = united(old, read_sequence(all, steps, table, part, at));
     put_row(table, c, new);
     !same(old, new)
-}
-
-// Visits every sequence once, in the order of their numbers. Answers whether anything changed.
-fn plain_pass(
-    all: u64,
-    steps: &[u64],
-    part: &[u32],
-    places: &[u32],
-    table: &mut [u64],
-    n: usize,
-) -> bool
-    requires { ⌜ Visitable n (now steps) (now part) (now places) (now table) ⌝ }
-    ensures { λ r. ⌜ Pass (visited all (now (steps .entry)) (now (part .entry)) (now (places .entry))) lacking n (now (table .entry)) (now (table .exit)) r ⌝ }
-{
-    let mut changed = false;
-    let mut c = 0;
-    while c < n {
-        changed = visit(all, steps, part, places, table, n, c) | changed;
-        c += 1;
-    }
-    changed
 }
 
 // Visits sequence `c`, which then is fresh; where its row changed, its callers are stale.
@@ -114,7 +91,7 @@ fn pass(
 }
 
 // Passes in the order and against it, in turn, until one changes nothing. At first every sequence is stale.
-fn settle_in_order(
+pub fn settle(
     all: u64,
     steps: &[u64],
     part: &[u32],
@@ -142,41 +119,5 @@ fn settle_in_order(
         n,
     ) {
         forward = !forward;
-    }
-}
-
-// Passes in the order of the numbers until one changes nothing.
-fn settle_plainly(
-    all: u64,
-    steps: &[u64],
-    part: &[u32],
-    places: &[u32],
-    table: &mut [u64],
-    n: usize,
-)
-    requires { ⌜ Visitable n (now steps) (now part) (now places) (now table) ⌝ }
-    ensures { λ _. ⌜ Pass (visited all (now (steps .entry)) (now (part .entry)) (now (places .entry))) lacking n (now (table .entry)) (now (table .exit)) false ⌝ }
-{
-    while plain_pass(all, steps, part, places, table, n) {}
-}
-
-// Passes until nothing changes.
-pub fn settle(
-    all: u64,
-    steps: &[u64],
-    part: &[u32],
-    places: &[u32],
-    callers: &[u64],
-    order: &[usize],
-    table: &mut [u64],
-    n: usize,
-)
-    requires { ⌜ Visitable n (now steps) (now part) (now places) (now table) × (n ≤ 256) × (4 * n ≤ length (now callers)) × CallersWritten n (now part) (now places) (now callers) ⌝ }
-    ensures { λ _. ⌜ Pass (visited all (now (steps .entry)) (now (part .entry)) (now (places .entry))) lacking n (now (table .entry)) (now (table .exit)) false ⌝ }
-{
-    if complete(order, n) {
-        settle_in_order(all, steps, part, places, callers, order, table, n);
-    } else {
-        settle_plainly(all, steps, part, places, table, n);
     }
 }

@@ -8,16 +8,16 @@ use library::tables::write_masks;
 use library::tables::write_places;
 use runs::row::all_facts;
 use visits::callers::write_callers;
-use visits::order::finishing_order;
+use visits::order::visiting_order;
 ghost use mathlib.Core.Path.{_≡_};
 ghost use mathlib.Core.List.{_++_};
 ghost use Prim.Native.Nat.{_+_, _*_, _≤_, _<_};
-ghost use lib.ListN.{length, drop};
+ghost use lib.ListN.{length, take, drop};
 ghost use Rattle.library.specs.Library.{libraryOf};
 ghost use Rattle.library.specs.Tables.{StepsAsked, SequencesAsked};
 ghost use Rattle.visits.specs.Stale.{CallersWritten};
 ghost use Rattle.outcome.specs.Area.{outcomes, TableAsked, FillAsked, RowsAsked, Areas, Prepared, libraryIn};
-ghost use Rattle.visits.specs.Passes.{Blank};
+ghost use Rattle.visits.specs.Passes.{Blank, Complete};
 
 // Clears an area.
 fn clear(area: &mut [u64])
@@ -41,15 +41,14 @@ fn prepare_by(
     callers: &mut [u64],
     order: &mut [usize],
 )
-    requires { ⌜ StepsAsked h (now steps) (now masks) × SequencesAsked h (now sequences) (now places) × (h .sequences ≤ 256) ⌝ }
-    ensures { λ _. ⌜ Prepared h (now (steps .entry)) (now (sequences .entry)) (now (masks .entry)) (now (places .entry)) (now (masks .exit)) (now (places .exit)) × CallersWritten (h .sequences) (now (sequences .entry)) (now (places .exit)) (now (callers .exit)) ⌝ }
+    requires { ⌜ StepsAsked h (now steps) (now masks) × SequencesAsked h (now sequences) (now places) × (h .sequences ≤ 256) × (h .sequences ≤ length (now order)) ⌝ }
+    ensures { λ _. ⌜ Prepared h (now (steps .entry)) (now (sequences .entry)) (now (masks .entry)) (now (places .entry)) (now (masks .exit)) (now (places .exit)) × Complete (take (h .sequences) (now (order .exit))) (h .sequences) × CallersWritten (h .sequences) (now (sequences .entry)) (now (places .exit)) (now (callers .exit)) ⌝ }
 {
-    let mut stack = [0usize; 256];
     let n = h.sequences as usize;
     write_masks(h, steps, masks);
     write_places(h, sequences, places);
     write_callers(sequences, places, callers, n);
-    finishing_order(callers, &mut stack, order, n);
+    visiting_order(callers, order, n);
 }
 
 // So without the callers.
@@ -61,8 +60,8 @@ pub fn prepare(
     places: &mut [u32],
     order: &mut [usize],
 )
-    requires { ⌜ StepsAsked h (now steps) (now masks) × SequencesAsked h (now sequences) (now places) × (h .sequences ≤ 256) ⌝ }
-    ensures { λ _. ⌜ Prepared h (now (steps .entry)) (now (sequences .entry)) (now (masks .entry)) (now (places .entry)) (now (masks .exit)) (now (places .exit)) ⌝ }
+    requires { ⌜ StepsAsked h (now steps) (now masks) × SequencesAsked h (now sequences) (now places) × (h .sequences ≤ 256) × (h .sequences ≤ length (now order)) ⌝ }
+    ensures { λ _. ⌜ Prepared h (now (steps .entry)) (now (sequences .entry)) (now (masks .entry)) (now (places .entry)) (now (masks .exit)) (now (places .exit)) × Complete (take (h .sequences) (now (order .exit))) (h .sequences) ⌝ }
 {
     let mut callers = [0u64; 1024];
     prepare_by(h, steps, sequences, masks, places, &mut callers, order);

@@ -1,7 +1,6 @@
 // Ranks lowered in place until no visit changes them, by passes like those of the outcome table.
 use crate::entry::Asked;
 use crate::read::lowered_rank;
-use visits::named::complete;
 use visits::named::place_of;
 ghost use mathlib.Core.Bool.{false};
 ghost use Prim.Native.Nat.{_<_};
@@ -28,28 +27,6 @@ fn visit(
     let new = lowered_rank(q, ahead, behind, ranks, part, at, old);
     ranks[c] = new;
     new < old
-}
-
-// Visits every sequence once, in the order of their numbers. Answers whether a rank fell.
-fn plain_pass(
-    q: Asked,
-    ahead: &[u32],
-    behind: &[u32],
-    part: &[u32],
-    places: &[u32],
-    ranks: &mut [u32],
-    n: usize,
-) -> bool
-    requires { ⌜ Visitable q n (now ahead) (now behind) (now ranks) (now part) (now places) ⌝ }
-    ensures { λ r. ⌜ Pass (visitedRanks q (now (ahead .entry)) (now (behind .entry)) (now (part .entry)) (now (places .entry))) total n (now (ranks .entry)) (now (ranks .exit)) r ⌝ }
-{
-    let mut changed = false;
-    let mut c = 0;
-    while c < n {
-        changed = visit(q, ahead, behind, part, places, ranks, n, c) | changed;
-        c += 1;
-    }
-    changed
 }
 
 // Visits the sequences that `order` names, first to last or last to first; other numbers are passed over. Answers whether anything changed.
@@ -80,7 +57,7 @@ fn pass(
 }
 
 // Passes in the order and against it, in turn, until one changes nothing.
-fn settle_in_order(
+pub fn settle(
     q: Asked,
     ahead: &[u32],
     behind: &[u32],
@@ -96,42 +73,5 @@ fn settle_in_order(
     let mut forward = true;
     while pass(q, ahead, behind, part, places, order, forward, ranks, n) {
         forward = !forward;
-    }
-}
-
-// Passes in the order of the numbers until one changes nothing.
-fn settle_plainly(
-    q: Asked,
-    ahead: &[u32],
-    behind: &[u32],
-    part: &[u32],
-    places: &[u32],
-    ranks: &mut [u32],
-    n: usize,
-)
-    requires { ⌜ Visitable q n (now ahead) (now behind) (now ranks) (now part) (now places) ⌝ }
-    ensures { λ _. ⌜ Pass (visitedRanks q (now (ahead .entry)) (now (behind .entry)) (now (part .entry)) (now (places .entry))) total n (now (ranks .entry)) (now (ranks .exit)) false ⌝ }
-{
-    while plain_pass(q, ahead, behind, part, places, ranks, n) {}
-}
-
-// Passes until nothing changes.
-pub fn settle(
-    q: Asked,
-    ahead: &[u32],
-    behind: &[u32],
-    part: &[u32],
-    places: &[u32],
-    order: &[usize],
-    ranks: &mut [u32],
-    n: usize,
-)
-    requires { ⌜ Visitable q n (now ahead) (now behind) (now ranks) (now part) (now places) ⌝ }
-    ensures { λ _. ⌜ Pass (visitedRanks q (now (ahead .entry)) (now (behind .entry)) (now (part .entry)) (now (places .entry))) total n (now (ranks .entry)) (now (ranks .exit)) false ⌝ }
-{
-    if complete(order, n) {
-        settle_in_order(q, ahead, behind, part, places, order, ranks, n);
-    } else {
-        settle_plainly(q, ahead, behind, part, places, ranks, n);
     }
 }

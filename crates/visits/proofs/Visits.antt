@@ -5,12 +5,11 @@ use native.Mathlib.Omega.{arith}
 use mathlib.Core.Path.{_≡_, refl, sym, ap, _∙_, subst}
 use mathlib.Core.Bool.{Bool, true, false, not, _||_, false≢true, true≢false}
 use mathlib.Core.List.{List}
-use lib.ListN.{length, replicate, getD, set}
-use lib.Seq.{getD-set-other}
+use lib.ListN.{length, replicate, getD, set, take}
+use lib.Seq.{getD-set-same, getD-set-other, getD-take, length-take-le}
 use native.Mathlib.Decide.{ℕ-discrete}
 use borrow.Author.Count.{below-none, below-more}
-use Rattle.visits.specs.Passes.{Blank}
-use Rattle.visits.specs.Passes.{Visit, Reached, here, next, Pass, Swept, Complete, Marked, placeOf}
+use Rattle.visits.specs.Passes.{Blank, Visit, Reached, here, next, Pass, Swept, Complete, Marked, InTurn, placeOf}
 
 -- what the laws ask of a visit: it keeps the length, and does not raise the weight of a table that has the room
 pub record Lowers (visit : List ℕ → ℕ → List ℕ) (weight : List ℕ → ℕ) (n room : ℕ) : Type 0 where
@@ -27,14 +26,6 @@ reached-same visit visit′ n same {t} (next {table = s} c l r) =
 pub reached-on : {visit : List ℕ → ℕ → List ℕ} {n : ℕ} {t s u : List ℕ} → Reached visit n t s → Reached visit n s u → Reached visit n t u
 reached-on r here = r
 reached-on r (next c l q) = next c l (reached-on r q)
-
--- what holds at the head of the loop over all numbers
-pub record Passing (visit : List ℕ → ℕ → List ℕ) (weight : List ℕ → ℕ) (n : ℕ) (t₀ t : List ℕ) (changed : Bool) (c : ℕ) : Type 0 where
-  pub within : c ≤ n
-  pub reached : Reached visit n t₀ t
-  pub falls : changed ≡ true → weight t < weight t₀
-  pub stays : changed ≡ false → t ≡ t₀
-  pub settled : changed ≡ false → (k : ℕ) → k < c → visit t₀ k ≡ t₀
 
 -- what holds at the head of the loop over an order, first to last or last to first
 pub record Sweeping (visit : List ℕ → ℕ → List ℕ) (weight : List ℕ → ℕ) (n : ℕ) (order : List ℕ) (forward : Bool) (t₀ t : List ℕ) (changed : Bool) (i : ℕ)
@@ -102,24 +93,6 @@ module _ {visit : List ℕ → ℕ → List ℕ} {weight : List ℕ → ℕ} {n 
   pub reached-visit : {t : List ℕ} (s : List ℕ) (c : ℕ) (u : List ℕ) (b : Bool) → c < n → Reached visit n t s → Visit visit weight s c u b → Reached visit n t u
   reached-visit {t} s c u b l r v = subst (Reached visit n t) (sym (v .done)) (next c l r)
 
-  pub passing-start : (t : List ℕ) → Passing visit weight n t t false 0
-  passing-start t =
-      record {
-        within = omega arith;
-        reached = here;
-        falls = λ e. absurd (false≢true e);
-        stays = λ e. refl;
-        settled = λ e. below-none (λ (k : ℕ). visit t k ≡ t);
-      }
-
-  pub passing-end : (t₀ t : List ℕ) (changed : Bool) (c : ℕ) → c ≡ n → Passing visit weight n t₀ t changed c → Pass visit weight n t₀ t changed
-  passing-end t₀ t changed c e p =
-      record {
-        reached = p .reached;
-        falls = p .falls;
-        settled = λ u k l. subst (λ (s : List ℕ). visit s k ≡ s) (sym (p .stays u)) (p .settled u k (omega arith));
-      }
-
 module _ {visit : List ℕ → ℕ → List ℕ} {weight : List ℕ → ℕ} {n room : ℕ} (laws : Lowers visit weight n room) where
   pub reached-length : {t s : List ℕ} → Reached visit n t s → length s ≡ length t
   reached-length here = refl
@@ -129,27 +102,6 @@ module _ {visit : List ℕ → ℕ → List ℕ} {weight : List ℕ → ℕ} {n 
   reached-least long here = omega arith
   reached-least long (next {table = s} c l r) =
       omega (arith, laws .lowers s c l (omega (arith, reached-length r)), reached-least long r)
-
-  pub passing-turn : (t₀ t : List ℕ) (changed : Bool) (c : ℕ) (t′ : List ℕ) (b : Bool) → room ≤ length t₀ → c < n → Passing visit weight n t₀ t changed c
-      → Visit visit weight t c t′ b → Passing visit weight n t₀ t′ (b || changed) (c + 1)
-  passing-turn t₀ t changed c t′ true long l p v =
-      record {
-        within = omega arith;
-        reached = reached-visit t c t′ true l (p .reached) v;
-        falls = λ e. omega (arith, v .falls refl, reached-least long (p .reached));
-        stays = λ e. absurd (true≢false e);
-        settled = λ e. absurd (true≢false e);
-      }
-  passing-turn t₀ t changed c t′ false long l p v =
-      let same = v .stays refl in
-      record {
-        within = omega arith;
-        reached = reached-visit t c t′ false l (p .reached) v;
-        falls = λ e. rw same (p .falls e);
-        stays = λ e. same ∙ p .stays e;
-        settled = λ e.
-            below-more (λ (k : ℕ). visit t₀ k ≡ t₀) c (p .settled e) (subst (λ (s : List ℕ). visit s c ≡ s) (p .stays e) (sym (v .done) ∙ same));
-      }
 
   -- ---- the loop over an order
 
@@ -197,6 +149,16 @@ marked-turn order seen i l marked c e =
 
 pub marked-start : (order seen : List ℕ) → Blank seen → Marked order seen
 marked-start order seen blank c e = absurd (omega (arith, blank c))
+
+-- number c at place c
+pub in-turn-next : (order : List ℕ) (c : ℕ) → c < length order → InTurn order c → InTurn (set order c c) (c + 1)
+in-turn-next order c l so-far =
+    below-more (λ (k : ℕ). getD (set order c c) k 0 ≡ k) c (λ k lt. getD-set-other order c k c 0 (λ e. omega arith) ∙ so-far k lt) (getD-set-same order c c 0 l)
+
+-- the numbers in turn are all named
+pub in-turn-complete : (order : List ℕ) (n : ℕ) → n ≤ length order → InTurn order n → Complete (take n order) n
+in-turn-complete order n room numbers c l =
+    record { place = c; within = omega (arith, length-take-le n order room); number = getD-take n order c 0 l ∙ numbers c l }
 
 pub blank-zeros : (n : ℕ) → Blank (replicate n 0)
 blank-zeros zero k = refl

@@ -48,6 +48,10 @@ pub record Named (order : List ℕ) (c : ℕ) : Type 0 where
 abbrev pub Complete : List ℕ → ℕ → Type 0
 Complete order n = (c : ℕ) → c < n → Named order c
 
+-- the numbers below n in turn
+abbrev pub InTurn : List ℕ → ℕ → Type 0
+InTurn order n = (c : ℕ) → c < n → getD order c 0 ≡ c
+
 -- the marks of numbers: each that is marked is named
 abbrev pub Marked : List ℕ → List ℕ → Type 0
 Marked order seen = (c : ℕ) → getD seen c 0 ≡ 1 → Named order c

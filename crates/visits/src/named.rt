@@ -1,9 +1,9 @@
 // Orders of visits: whether an order names every number, which is tested at run time, and the turns in it and against it.
 ghost use mathlib.Core.Path.{_≡_};
 ghost use mathlib.Core.Bool.{true, false};
-ghost use Prim.Native.Nat.{_+_, _<_};
-ghost use lib.ListN.{set};
-ghost use Rattle.visits.specs.Passes.{Complete, Marked, AllMarked, placeOf, Blank};
+ghost use Prim.Native.Nat.{_+_, _≤_, _<_};
+ghost use lib.ListN.{length, set};
+ghost use Rattle.visits.specs.Passes.{Complete, Marked, AllMarked, InTurn, placeOf, Blank};
 
 // Marks number `c` where it has a mark.
 fn mark_one(seen: &mut [u32], c: usize)
@@ -50,6 +50,18 @@ pub fn complete(order: &[usize], n: usize) -> bool
     let mut seen = [0u32; 256];
     mark(order, &mut seen);
     all_marked(&seen, n)
+}
+
+// Names the numbers below `n` in turn.
+pub fn write_numbers(order: &mut [usize], n: usize)
+    requires { ⌜ n ≤ length (now order) ⌝ }
+    ensures { λ _. ⌜ InTurn (now (order .exit)) n ⌝ }
+{
+    let mut c = 0;
+    while c < n {
+        order[c] = c;
+        c += 1;
+    }
 }
 
 // The place in an order of `len` numbers that comes at turn `i`: first to last, or last to first.

@@ -31,7 +31,7 @@ rank-requires c κs =
     let asked = start .pre .0 in
     let made = start .pre .1 in
     let tables = start .pre .2 in
-    (tables-steppable (a .image .now) (a .h) (asked .accepted) (a .masks .now) (a .places .now) made _ (part .sequences-part .ensures) (quietly (a .q)) (asked .fact) (asked .none) _ (tables .0 .long), tables-visitable (a .image .now) (a .h) (asked .accepted) (a .masks .now) (a .places .now) made _ (part .sequences-part .ensures) (quietly (a .q)) (asked .fact) (asked .none) _ _ _ (tables .2 .long) (tables .2 .long) (tables .0 .long))
+    (tables-steppable (a .image .now) (a .h) (asked .accepted) (a .masks .now) (a .places .now) made _ (part .sequences-part .ensures) (quietly (a .q)) (asked .fact) (asked .none) _ (tables .0 .long), tables-visitable (a .image .now) (a .h) (asked .accepted) (a .masks .now) (a .places .now) made _ (part .sequences-part .ensures) (quietly (a .q)) (asked .fact) (asked .none) _ _ _ (tables .2 .long) (tables .2 .long) (tables .0 .long), start .pre .3)
 
 write-chain-requires : tie.Need-write-chain-requires
 write-chain-requires c κs =
@@ -73,7 +73,7 @@ rank-requires-2 c κs =
     let asked = start .pre .0 in
     let made = start .pre .1 in
     let tables = start .pre .2 in
-    (tables-steppable (a .image .now) (a .h) (asked .accepted) (a .masks .now) (a .places .now) made _ (part .sequences-part .ensures) (quietly (a .q)) (asked .fact) (asked .none) _ (tables .0 .long), tables-visitable (a .image .now) (a .h) (asked .accepted) (a .masks .now) (a .places .now) made _ (part .sequences-part .ensures) (whether (a .q)) (asked .fact) (asked .none) _ _ _ (tables .2 .long) (tables .2 .long) (tables .0 .long))
+    (tables-steppable (a .image .now) (a .h) (asked .accepted) (a .masks .now) (a .places .now) made _ (part .sequences-part .ensures) (quietly (a .q)) (asked .fact) (asked .none) _ (tables .0 .long), tables-visitable (a .image .now) (a .h) (asked .accepted) (a .masks .now) (a .places .now) made _ (part .sequences-part .ensures) (whether (a .q)) (asked .fact) (asked .none) _ _ _ (tables .2 .long) (tables .2 .long) (tables .0 .long), start .pre .3)
 
 rank-requires-3 : tie.Need-rank-requires-3
 rank-requires-3 c κs =
@@ -83,7 +83,7 @@ rank-requires-3 c κs =
     let asked = start .pre .0 in
     let made = start .pre .1 in
     let tables = start .pre .2 in
-    (tables-steppable (a .image .now) (a .h) (asked .accepted) (a .masks .now) (a .places .now) made _ (part .sequences-part .ensures) (quietly (a .q)) (asked .fact) (asked .none) _ (tables .1 .long), tables-visitable (a .image .now) (a .h) (asked .accepted) (a .masks .now) (a .places .now) made _ (part .sequences-part .ensures) (whether (a .q)) (asked .fact) (asked .none) _ _ _ (tables .2 .long) (tables .2 .long) (tables .1 .long))
+    (tables-steppable (a .image .now) (a .h) (asked .accepted) (a .masks .now) (a .places .now) made _ (part .sequences-part .ensures) (quietly (a .q)) (asked .fact) (asked .none) _ (tables .1 .long), tables-visitable (a .image .now) (a .h) (asked .accepted) (a .masks .now) (a .places .now) made _ (part .sequences-part .ensures) (whether (a .q)) (asked .fact) (asked .none) _ _ _ (tables .2 .long) (tables .2 .long) (tables .1 .long), start .pre .3)
 
 link-requires : tie.Need-link-requires
 link-requires c κs =
@@ -97,6 +97,7 @@ link-requires c κs =
     let run = c .before .before .before .before .before .before .before in (
       tables-steppable (a .image .now) (a .h) (asked .accepted) (a .masks .now) (a .places .now) made _ (part .sequences-part .ensures) (a .q) (asked .fact) (asked .none) _ (tables .2 .long),
       tables-visitable (a .image .now) (a .h) (asked .accepted) (a .masks .now) (a .places .now) made _ (part .sequences-part .ensures) (a .q) (asked .fact) (asked .none) _ _ _ (omega (arith, stay .rank2 .kept, tables .0 .long)) (omega (arith, run .rank3 .kept, tables .1 .long)) (tables .2 .long),
+      start .pre .3,
       tables-choosable (a .image .now) (a .h) (asked .accepted) (a .masks .now) (a .places .now) made _ (part .sequences-part .ensures) (a .q) (asked .fact) (asked .none) _ _ _ (omega (arith, stay .rank2 .kept, tables .0 .long)) (omega (arith, run .rank3 .kept, tables .1 .long)) (tables .2 .long) (omega (arith, asked .sequence)),
       omega (arith, asked .sequence, few-sequences (a .image .now) (a .h) (asked .accepted)),
       omega (arith, tables .2 .long, asked .sequence, asked .none),
@@ -141,6 +142,7 @@ link-requires-2 c κs =
     let run = c .before .before .before .before .before .before .before in (
       tables-steppable (a .image .now) (a .h) (asked .accepted) (a .masks .now) (a .places .now) made _ (part .sequences-part .ensures) (a .q) (asked .fact) (asked .none) _ (tables .2 .long),
       tables-visitable (a .image .now) (a .h) (asked .accepted) (a .masks .now) (a .places .now) made _ (part .sequences-part .ensures) (a .q) (asked .fact) (asked .none) _ _ _ (omega (arith, run .rank3 .kept, tables .1 .long)) (omega (arith, stay .rank2 .kept, tables .0 .long)) (tables .2 .long),
+      start .pre .3,
       tables-choosable (a .image .now) (a .h) (asked .accepted) (a .masks .now) (a .places .now) made _ (part .sequences-part .ensures) (a .q) (asked .fact) (asked .none) _ _ _ (omega (arith, run .rank3 .kept, tables .1 .long)) (omega (arith, stay .rank2 .kept, tables .0 .long)) (tables .2 .long) (omega (arith, asked .sequence)),
       omega (arith, asked .sequence, few-sequences (a .image .now) (a .h) (asked .accepted)),
       omega (arith, tables .2 .long, asked .sequence, asked .none),

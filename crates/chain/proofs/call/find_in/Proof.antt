@@ -61,7 +61,7 @@ find-by-requires c κs =
     let start = c .before .before .before .before .before .before .before .before .before .before .before .before .before .before .before .before .before .before .before .before .before .before .before .before in
     let a = start .args in
     let tables = c .before .before .before .before .before .before .before .before .before .before .before in
-    (start .pre .0, made-of (a .image .now) (a .h) _ _ _ _ _ (first .steps-part .ensures) (part .sequences-part .ensures) (start .pre .1) (start .pre .2) (tables .prepare .ensures) (omega (arith, tables .prepare .kept)) (omega (arith, tables .prepare .kept)), start .pre .3)
+    (start .pre .0, made-of (a .image .now) (a .h) _ _ _ _ _ (first .steps-part .ensures) (part .sequences-part .ensures) (start .pre .1) (start .pre .2) (tables .prepare .ensures .0) (omega (arith, tables .prepare .kept)) (omega (arith, tables .prepare .kept)), start .pre .3, tables .prepare .ensures .1)
 
 same-length : tie.Need-same-length
 same-length c = search needs

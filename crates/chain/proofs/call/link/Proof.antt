@@ -17,8 +17,8 @@ write-chain-requires : tie.Need-write-chain-requires
 write-chain-requires c κs =
     let ranked = c .before .before .before .before in
     let start = c .before .before .before .before .before .before .before .before .before .before .before .before .before .before in
-    let choosable = start .pre .2 in
-    (record { readable = readable-at _ (omega (arith, ranked .rank .kept)) (choosable .readable); within = choosable .within; short = choosable .short }, start .pre .3, omega (arith, ranked .rank .kept, start .pre .4))
+    let choosable = start .pre .3 in
+    (record { readable = readable-at _ (omega (arith, ranked .rank .kept)) (choosable .readable); within = choosable .within; short = choosable .short }, start .pre .4, omega (arith, ranked .rank .kept, start .pre .5))
 
 same-length : tie.Need-same-length
 same-length c = search needs

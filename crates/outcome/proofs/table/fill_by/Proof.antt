@@ -63,9 +63,10 @@ settle-requires c κs =
           (prepared .prepare-by .last .1 .1 .1 .0) _ (rows .write-step-rows .last .1 .1 .1 .0) (prepared .prepare-by .last .1 .1 .1 .1 .0) _ (prepared .prepare-by .ensures .0 .masked) (rows .write-step-rows .ensures)
           (omega (arith, rows .write-step-rows .kept)) (omega (arith, prepared .prepare-by .kept, start .pre .1 .narrow)) (prepared .prepare-by .ensures .0 .placed)
           (cleared .clear .last .0) (omega (arith, cleared .clear .kept)),
+      prepared .prepare-by .ensures .1,
       start .pre .0 .sequences-high,
       omega (arith, prepared .prepare-by .kept, start .pre .3),
-      prepared .prepare-by .ensures .1,
+      prepared .prepare-by .ensures .2,
     )
 
 same-length : tie.Need-same-length

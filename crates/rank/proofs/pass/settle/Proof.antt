@@ -1,43 +1,59 @@
--- `rank::pass::settle` meets its contract, by the order where it is complete.
+-- `rank::pass::settle` meets its contract: each pass that changes something lowers the sum of the ranks.
 -- Assumes nothing.
-use borrow.Author.Needs.{needs}
+use mathlib.Core.Path.{subst}
+use Rattle.visits.specs.Passes.{Reached, here, Pass}
+use Rattle.visits.proofs.Visits.{reached-length, reached-on, pass-after, swept-pass}
+use Rattle.rank.specs.Scan.{total}
+use Rattle.rank.specs.Tables.{visitedRanks}
+use Rattle.rank.proofs.Settling.{visits-lower, visitable-at}
 use Rattle.rank.proofs.pass.settle.Statement.{statement}
 use Rattle.rank.proofs.pass.settle.Tie as tie
 use Rattle.rank.proofs.pass.settle.Reads as reads
 use Rattle.rank.proofs.pass.settle.Lts as lts
-use Rattle.rank.proofs.pass.settle_in_order.Reads as settle-in-order-reads
-use Rattle.rank.proofs.pass.settle_plainly.Reads as settle-plainly-reads
-use Rattle.visits.proofs.named.complete.Reads as complete-reads
+use Rattle.rank.proofs.pass.pass.Reads as pass-reads
 
-complete-requires : tie.Need-complete-requires
-complete-requires c κs = search needs
+abbrev Inv-loop : tie.InvT-loop
+Inv-loop q ahead behind part places order ranks₀ n forward₀ ranks forward =
+    Reached (visitedRanks q ahead behind part places) n ranks₀ ranks
 
-settle-in-order-requires : tie.Need-settle-in-order-requires
-settle-in-order-requires c κs = (c .before .before .before .before .before .before .before .before .before .pre, c .before .before .complete .ensures (c .before .if1 .taken))
+abbrev μ-loop : tie.MeasureT-loop
+μ-loop q ahead behind part places order ranks₀ n forward₀ ranks forward = total ranks
 
-settle-plainly-requires : tie.Need-settle-plainly-requires
-settle-plainly-requires c κs = search needs
+loop-holds : tie.Need-loop-holds Inv-loop μ-loop
+loop-holds c = here
 
-same-length : tie.Need-same-length
-same-length c = search needs
+pass-requires : tie.Need-pass-requires Inv-loop μ-loop
+pass-requires c κs =
+    let at-loop = c .before in
+    let start = at-loop .before .before .before .before .before .before .before in
+    let a = start .args in
+    visitable-at (at-loop .loop .ranks) (reached-length (visits-lower (a .q) (a .ahead .now) (a .behind .now) (a .part .now) (a .places .now) (a .n)) (at-loop .loop .inv)) (start .pre .0)
 
-returns : tie.Need-returns
-returns c = search needs
+loop-less : tie.Need-loop-less Inv-loop μ-loop
+loop-less c = c .before .before .before .pass .ensures .falls (c .if1 .taken)
 
-same-length-2 : tie.Need-same-length-2
-same-length-2 c = search needs
+loop-again : tie.Need-loop-again Inv-loop μ-loop
+loop-again c =
+    let turn = c .before .before .before in
+    reached-on (turn .before .before .loop .inv) (turn .pass .ensures .reached)
 
-returns-2 : tie.Need-returns-2
-returns-2 c = search needs
+same-length : tie.Need-same-length Inv-loop μ-loop
+same-length c =
+    let turn = c .before .before .before in
+    let at-loop = turn .before .before in
+    let a = at-loop .before .before .before .before .before .before .before .args in
+    reached-length (visits-lower (a .q) (a .ahead .now) (a .behind .now) (a .part .now) (a .places .now) (a .n)) (reached-on (at-loop .loop .inv) (turn .pass .ensures .reached))
+
+returns : tie.Need-returns Inv-loop μ-loop
+returns c =
+    let turn = c .before .before .before in
+    let at-loop = turn .before .before in
+    let start = at-loop .before .before .before .before .before .before .before in
+    let a = start .args in
+    subst (Pass (visitedRanks (a .q) (a .ahead .now) (a .behind .now) (a .part .now) (a .places .now)) total (a .n) (a .ranks .now) (turn .pass .last .1 .1 .1 .1 .1 .1 .1 .0)) (c .if1 .left)
+    (pass-after (visits-lower (a .q) (a .ahead .now) (a .behind .now) (a .part .now) (a .places .now) (a .n)) (a .ranks .now) (at-loop .loop .ranks) (turn .pass .last .1 .1 .1 .1 .1 .1 .1 .0) (turn .pass .result) (start .pre .0 .ranked) (at-loop .loop .inv) (swept-pass (a .order .now) (at-loop .loop .ranks) (turn .pass .last .1 .1 .1 .1 .1 .1 .1 .0) (turn .pass .result) (start .pre .1) (turn .pass .ensures)))
 
 pub settle-spec : {M : Type 1} → statement M
 settle-spec =
     tie.close
-    (tie.spec
-    complete-requires
-    settle-in-order-requires
-    settle-plainly-requires
-    same-length
-    returns
-    same-length-2
-    returns-2)
+    (tie.spec Inv-loop μ-loop loop-holds pass-requires loop-less loop-again same-length returns)

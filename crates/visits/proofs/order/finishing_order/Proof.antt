@@ -1,4 +1,4 @@
--- `visits::order::finishing_order` is safe, ends and keeps the areas' lengths.
+-- `visits::order::finishing_order` is safe and ends.
 -- Assumes nothing.
 use borrow.Author.Needs.{needs}
 use mathlib.Core.Path.{_≡_}

@@ -1,4 +1,4 @@
--- `visits::order::next_caller` is safe and ends.
+-- `visits::order::next_caller` meets its contract: a word has 64 bits, and there are four.
 -- Assumes nothing.
 use borrow.Author.Needs.{needs}
 use Prim.Native.Nat.{_-_, _≤_}
@@ -17,17 +17,8 @@ abbrev μ-loop : tie.MeasureT-loop
 returns : tie.Need-returns Inv-loop μ-loop
 returns c = search needs
 
-returns-2 : tie.Need-returns-2 Inv-loop μ-loop
-returns-2 c = search needs
-
 mul-at : tie.Need-mul-at Inv-loop μ-loop
 mul-at c = search needs
-
-add-if3 : tie.Need-add-if3 Inv-loop μ-loop
-add-if3 c = search needs
-
-returns-3 : tie.Need-returns-3 Inv-loop μ-loop
-returns-3 c = search needs
 
 loop-holds : tie.Need-loop-holds Inv-loop μ-loop
 loop-holds c = search needs
@@ -47,17 +38,17 @@ mul-x-2 c = search needs
 shared-slice-read-x-2 : tie.Need-shared-slice-read-x-2 Inv-loop μ-loop
 shared-slice-read-x-2 c = search needs
 
-mul-t18 : tie.Need-mul-t18 Inv-loop μ-loop
-mul-t18 c = search needs
+mul-result : tie.Need-mul-result Inv-loop μ-loop
+mul-result c = search needs
 
 lowest-requires : tie.Need-lowest-requires Inv-loop μ-loop
 lowest-requires c κs = search needs
 
-add-t20 : tie.Need-add-t20 Inv-loop μ-loop
-add-t20 c = search needs
+add-result : tie.Need-add-result Inv-loop μ-loop
+add-result c = search needs
 
-returns-4 : tie.Need-returns-4 Inv-loop μ-loop
-returns-4 c = search needs
+returns-2 : tie.Need-returns-2 Inv-loop μ-loop
+returns-2 c = search needs
 
 add-k : tie.Need-add-k Inv-loop μ-loop
 add-k c = search needs
@@ -68,8 +59,8 @@ loop-less c = search needs
 loop-again : tie.Need-loop-again Inv-loop μ-loop
 loop-again c = search needs
 
-returns-5 : tie.Need-returns-5 Inv-loop μ-loop
-returns-5 c = search needs
+returns-3 : tie.Need-returns-3 Inv-loop μ-loop
+returns-3 c = search needs
 
 pub next-caller-spec : {M : Type 1} → statement M
 next-caller-spec =
@@ -78,21 +69,18 @@ next-caller-spec =
     Inv-loop
     μ-loop
     returns
-    returns-2
     mul-at
-    add-if3
-    returns-3
     loop-holds
     add-x
     mul-x
     shared-slice-read-x
     mul-x-2
     shared-slice-read-x-2
-    mul-t18
+    mul-result
     lowest-requires
-    add-t20
-    returns-4
+    add-result
+    returns-2
     add-k
     loop-less
     loop-again
-    returns-5)
+    returns-3)
