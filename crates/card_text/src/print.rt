@@ -25,6 +25,17 @@ pub fn put_answer(text: &mut [u8], at: usize, found: Cards, cards: &[u64]) -> us
 }
 
 // Puts the text of an image at the end of the text area.
+fn print_cards_of(image: &[u32], text: &mut [u8]) -> usize
+    requires { ⌜ 33280 ≤ length (now text) ⌝ }
+    ensures { λ r. ⌜ InFront (now (text .entry)) (length (now (text .entry))) (now (text .exit)) r (imageText (checked (now (image .entry))) (now (image .entry))) ⌝ }
+{
+    let mut area = [0u64; 1792];
+    let found = cards(image, &mut area);
+    let at = text.len();
+    put_answer(text, at, found, &area)
+}
+
+// So for the image that bytes hold.
 fn print_words(bytes: &[u8], text: &mut [u8]) -> usize
     requires { ⌜ (length (now bytes) ≤ 32768) × (33280 ≤ length (now text)) ⌝ }
     ensures { λ r. ⌜ InFront (now (text .entry)) (length (now (text .entry))) (now (text .exit)) r (imageText (checked (wordsOf (now (bytes .entry)))) (wordsOf (now (bytes .entry)))) ⌝ }
@@ -32,10 +43,7 @@ fn print_words(bytes: &[u8], text: &mut [u8]) -> usize
     let mut words = [0u32; 8192];
     write_words(bytes, &mut words);
     let n = bytes.len() / 4;
-    let mut area = [0u64; 1792];
-    let found = cards(&words[..n], &mut area);
-    let at = text.len();
-    put_answer(text, at, found, &area)
+    print_cards_of(&words[..n], text)
 }
 
 // Puts what the program prints for the bytes of its input at the end of the text area, and says where it begins.
