@@ -1,5 +1,5 @@
-// Runs the check, the card call, the chain call and the outcome table on samples: those of document 01 that are not starred, and more for each
-// refusal and each column. Each table has a file of its own, with the expected value of each row worked out from document 01 in a comment.
+// Runs the check, the card call and the chain call on samples: those of document 01 that are not starred, and more for each refusal. Each table
+// has a file of its own, with the expected value of each row worked out from document 01 in a comment.
 mod accepted;
 mod answer;
 mod card_area;
@@ -11,7 +11,6 @@ mod libraries;
 mod links;
 mod long;
 mod missing;
-mod outcomes;
 mod payload;
 mod row;
 mod sum_word;
@@ -21,7 +20,7 @@ mod word_runs;
 use crate::row::Tally;
 
 // A line about a table, `NAME: R samples, D differ`.
-pub fn print_group(name: &[u8], here: Tally) {
+fn print_group(name: &[u8], here: Tally) {
     io::write_all(1, name);
     io::write_all(1, b": ");
     here.print();
@@ -57,6 +56,5 @@ fn main() {
     print_group(b"card area", areas);
     let chains = links::walked();
     print_group(b"chains", chains);
-    t = outcomes::walked(t);
     print_group(b"total", t.joined(areas).joined(chains));
 }
