@@ -10,7 +10,7 @@
  * Tried: on a copy, bit 0 of an expected word was changed, in eight words of
  * each table, one at a time. All 56 changes were reported, 47 by a card, 40 by
  * a question, and four by questions alone: as first set of sequence 2 in row 5
- * of calls, which shows in no card, since the fact may stay untouched there too.
+ * of calls, which shows in no card since the fact may stay untouched there too.
  */
 #include "harness.h"
 
