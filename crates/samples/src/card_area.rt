@@ -2,6 +2,7 @@
 use crate::libraries::L;
 use crate::row::CARD_AREA;
 use crate::row::NEVER;
+use crate::row::NONE;
 use crate::row::Tally;
 use card::answer::cards_answer;
 use card::call::cards;
@@ -82,7 +83,7 @@ fn expected(lent: usize) -> u64 {
 
 // Document 01: "card area 20 words gets 8, 21 suffices". A longer area keeps its last words. A row for each length from 0 words to 24.
 pub fn walked() -> Tally {
-    let mut t = Tally::new();
+    let mut t = NONE;
     let mut lent = 0;
     while lent <= 24 {
         t = t.judged(CARD_AREA, expected(lent), given(lent));

@@ -3,11 +3,12 @@ use crate::libraries::CHOICES;
 use crate::libraries::L;
 use crate::row::CHAINS;
 use crate::row::NEVER;
+use crate::row::NONE;
 use crate::row::Tally;
+use crate::row::long;
 use chain::call::chain;
 use link::answer::chain_answer;
 ghost use Prim.Native.Nat.{_≤_};
-ghost use lib.ListN.{length};
 
 // A word that no chain has, in every word of the area before a call.
 const STAYS: u32 = 0x5afe5afe;
@@ -155,10 +156,6 @@ fn room_of(words: u64) -> usize
     8
 }
 
-fn long(x: u32) -> u64 {
-    x as u64
-}
-
 // What word `i` of the area is to hold after: the row's words, two a link, and past them what it held before.
 fn due(row: &[u64; 11], i: usize) -> u64
     requires { ⌜ i ≤ 7 ⌝ }
@@ -207,12 +204,12 @@ fn given_on(row: &[u64; 11]) -> u64 {
 
 // The answer that the row expects.
 fn expected(row: &[u64; 11]) -> u64 {
-    std::num::wrapping_add_u64(row[5] << 32, row[6])
+    row[5] << 32 | row[6]
 }
 
 // Runs each row.
 fn walked_in(rows: &[[u64; 11]; 36]) -> Tally {
-    let mut t = Tally::new();
+    let mut t = NONE;
     let mut i = 0;
     while i < 36 {
         t = t.judged(CHAINS, expected(&rows[i]), given_on(&rows[i]));

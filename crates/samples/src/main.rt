@@ -17,37 +17,30 @@ mod table;
 mod word_runs;
 
 use crate::row::CARD_AREA;
-use crate::row::CHAINS;
 use crate::row::LONG_IMAGES;
+use crate::row::NONE;
 use crate::row::TOTAL;
 use crate::row::Tally;
 
-// Runs the rows of a table about the words between head and sum word.
-fn walked_between(table: u32) -> Tally {
-    match table {
-        4 => table::walked(table, &kind::ROWS),
-        5 => table::walked(table, &payload::ROWS),
-        6 => table::walked(table, &fact_order::ROWS),
-        _ => table::walked(table, &missing::ROWS),
-    }
-}
-
 // Runs the rows of a table.
-fn walked(table: u32) -> Tally {
+fn walked(table: usize) -> Tally {
     match table {
         0 => table::walked(table, &accepted::ROWS),
         1 => table::walked(table, &length::ROWS),
         2 => table::walked(table, &sum_word::ROWS),
         3 => table::walked(table, &head_word::ROWS),
+        4 => table::walked(table, &kind::ROWS),
+        5 => table::walked(table, &payload::ROWS),
+        6 => table::walked(table, &fact_order::ROWS),
+        7 => table::walked(table, &missing::ROWS),
         LONG_IMAGES => table::walked(table, &long::ROWS),
         CARD_AREA => card_area::walked(),
-        CHAINS => links::walked(),
-        _ => walked_between(table),
+        _ => links::walked(),
     }
 }
 
 fn main() {
-    let mut t = Tally::new();
+    let mut t = NONE;
     let mut table = 0;
     while table < TOTAL {
         let here = walked(table);

@@ -5,18 +5,25 @@
 pub const NEVER: u64 = 0xffffffffffffffff;
 
 // The tables by number. 0 to 7 are those of refusal 0, which is none, to refusal 7.
-pub const LONG_IMAGES: u32 = 8;
+pub const LONG_IMAGES: usize = 8;
 
-pub const CARD_AREA: u32 = 9;
+pub const CARD_AREA: usize = 9;
 
-pub const CHAINS: u32 = 10;
+pub const CHAINS: usize = 10;
 
-pub const TOTAL: u32 = 11;
+pub const TOTAL: usize = 11;
 
 // How many samples ran, and how many of them differ from what was expected.
 pub struct Tally {
     pub ran: u32,
     pub differ: u32,
+}
+
+// No sample.
+pub const NONE: Tally = Tally { ran: 0, differ: 0 };
+
+pub fn long(x: u32) -> u64 {
+    x as u64
 }
 
 // A number with the words before it.
@@ -31,42 +38,33 @@ fn print_answer(text: &[u8], answer: u64) {
     io::print_hex(1, answer, 1);
 }
 
-// The name of a table.
-fn print_name(table: u32) {
-    match table {
-        0 => {
-            io::write_all(1, b"accepted");
-        }
-        LONG_IMAGES => {
-            io::write_all(1, b"long images");
-        }
-        CARD_AREA => {
-            io::write_all(1, b"card area");
-        }
-        CHAINS => {
-            io::write_all(1, b"chains");
-        }
-        TOTAL => {
-            io::write_all(1, b"total");
-        }
-        _ => print_count(b"refusal ", table),
+// The name with number `n`, of names that have 12 bytes each.
+fn print_nth(names: &[u8], n: usize) {
+    if n < names.len() / 12 {
+        let at = 12 * n;
+        let end = at + 12;
+        io::write_all(1, &names[at..end]);
     }
 }
 
+// The name of a table.
+fn print_name(table: usize) {
+    print_nth(
+        b"accepted    refusal 1   refusal 2   refusal 3   refusal 4   refusal 5   refusal 6   refusal 7   long images card area   chains      total       ",
+        table,
+    );
+}
+
 // A line about row `number` of a table.
-fn print_difference(table: u32, number: u32, expected: u64, given: u64) {
+fn print_difference(table: usize, number: u32, expected: u64, given: u64) {
     print_name(table);
-    print_count(b", row ", number);
+    print_count(b"row ", number);
     print_answer(b": expected ", expected);
     print_answer(b", answered ", given);
     io::write_all(1, b"\n");
 }
 
 impl Tally {
-    pub fn new() -> Self {
-        Tally { ran: 0, differ: 0 }
-    }
-
     // With so many more.
     pub fn more(self, ran: u32, differ: u32) -> Self {
         Tally {
@@ -75,16 +73,16 @@ impl Tally {
         }
     }
 
-    // A line about a table, `NAME: R samples, D differ`.
-    pub fn print(self, table: u32) {
+    // A line about a table, `NAME R samples, D differ`.
+    pub fn print(self, table: usize) {
         print_name(table);
-        print_count(b": ", self.ran);
+        print_count(b"", self.ran);
         print_count(b" samples, ", self.differ);
         io::write_all(1, b" differ\n");
     }
 
     // With the next row of a table, by the answer expected and the one given.
-    pub fn judged(self, table: u32, expected: u64, given: u64) -> Self {
+    pub fn judged(self, table: usize, expected: u64, given: u64) -> Self {
         if expected != given {
             print_difference(table, self.ran, expected, given);
         }

@@ -2,7 +2,9 @@
 // number of words that follow, and these words: an image, or in a table of long images the runs of words that it is written as.
 use crate::row::LONG_IMAGES;
 use crate::row::NEVER;
+use crate::row::NONE;
 use crate::row::Tally;
+use crate::row::long;
 use crate::word_runs::put_runs;
 use image::answer::checked_answer;
 use reader::check::check;
@@ -11,10 +13,6 @@ ghost use lib.ListN.{length};
 
 fn wide(x: u32) -> usize {
     x as usize
-}
-
-fn long(x: u32) -> u64 {
-    x as u64
 }
 
 // Where the row that starts at `at` ends. A row that is cut short ends with the table.
@@ -46,7 +44,7 @@ fn expected(row: &[u32]) -> u64 {
     if row.len() < 3 {
         return NEVER;
     }
-    std::num::wrapping_add_u64(long(row[0]) << 32, long(row[1]))
+    long(row[0]) << 32 | long(row[1])
 }
 
 // The check's answer to an image.
@@ -61,7 +59,7 @@ fn answer_to_runs(words: &mut [u32], runs: &[u32]) -> u64 {
 }
 
 // Its answer to the image of a row of a table.
-fn given(table: u32, row: &[u32]) -> u64 {
+fn given(table: usize, row: &[u32]) -> u64 {
     if table == LONG_IMAGES {
         let mut words = [0u32; 8193];
         return answer_to_runs(&mut words, row_words(row));
@@ -70,8 +68,8 @@ fn given(table: u32, row: &[u32]) -> u64 {
 }
 
 // Runs each row of a table.
-pub fn walked(table: u32, rows: &[u32]) -> Tally {
-    let mut t = Tally::new();
+pub fn walked(table: usize, rows: &[u32]) -> Tally {
+    let mut t = NONE;
     let mut at = 0;
     while at < rows.len() {
         let end = row_end(rows, at);

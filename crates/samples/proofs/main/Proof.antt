@@ -11,9 +11,6 @@ Inv-loop t₀ table₀ t table = table ≤ 11
 abbrev μ-loop : tie.MeasureT-loop
 μ-loop t₀ table₀ t table = 11 - table
 
-new-requires : tie.Need-new-requires Inv-loop μ-loop
-new-requires c κs = search needs
-
 loop-holds : tie.Need-loop-holds Inv-loop μ-loop
 loop-holds c = search needs
 
@@ -47,7 +44,6 @@ main-spec =
     (tie.spec
     Inv-loop
     μ-loop
-    new-requires
     loop-holds
     walked-requires
     print-requires

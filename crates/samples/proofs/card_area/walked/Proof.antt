@@ -11,9 +11,6 @@ Inv-loop t₀ lent₀ t lent = lent ≤ 25
 abbrev μ-loop : tie.MeasureT-loop
 μ-loop t₀ lent₀ t lent = 25 - lent
 
-new-requires : tie.Need-new-requires Inv-loop μ-loop
-new-requires c κs = search needs
-
 loop-holds : tie.Need-loop-holds Inv-loop μ-loop
 loop-holds c = search needs
 
@@ -44,7 +41,6 @@ walked-spec =
     (tie.spec
     Inv-loop
     μ-loop
-    new-requires
     loop-holds
     expected-requires
     given-requires

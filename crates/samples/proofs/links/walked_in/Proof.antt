@@ -11,9 +11,6 @@ Inv-loop rows t₀ i₀ t i = i ≤ 36
 abbrev μ-loop : tie.MeasureT-loop
 μ-loop rows t₀ i₀ t i = 36 - i
 
-new-requires : tie.Need-new-requires Inv-loop μ-loop
-new-requires c κs = search needs
-
 loop-holds : tie.Need-loop-holds Inv-loop μ-loop
 loop-holds c = search needs
 
@@ -56,7 +53,6 @@ walked-in-spec =
     (tie.spec
     Inv-loop
     μ-loop
-    new-requires
     loop-holds
     mul-expected
     index-1-expected

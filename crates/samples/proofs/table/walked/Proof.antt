@@ -12,9 +12,6 @@ Inv-loop table rows t₀ at₀ t at = at ≤ length rows
 abbrev μ-loop : tie.MeasureT-loop
 μ-loop table rows t₀ at₀ t at = length rows - at
 
-new-requires : tie.Need-new-requires Inv-loop μ-loop
-new-requires c κs = search needs
-
 loop-holds : tie.Need-loop-holds Inv-loop μ-loop
 loop-holds c = search needs
 
@@ -57,7 +54,6 @@ walked-spec =
     (tie.spec
     Inv-loop
     μ-loop
-    new-requires
     loop-holds
     row-end-requires
     mul-here
