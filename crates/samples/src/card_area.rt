@@ -1,40 +1,18 @@
 // The cards of L with card areas of several lengths: 7 words for each of its three sequences are needed, and 20 words get refusal 8.
-use crate::answer;
-use crate::answer::Answer;
 use crate::libraries::L;
+use crate::row::CARD_AREA;
+use crate::row::NEVER;
+use crate::row::NONE;
 use crate::row::Tally;
-use card::answer::Cards;
-
-// Its cards, as document 01 prints them: 0 103 0 0 1 0 0 0, 1 201 0 1 3 0 2 0, 2 0 0 0 0 0 0 0.
-const CARDS: [u64; 21] = [
-    0x103,
-    0,
-    0,
-    1,
-    0,
-    0,
-    0,
-    0x201,
-    0,
-    1,
-    3,
-    0,
-    2,
-    0,
-    0,
-    0,
-    0,
-    0,
-    0,
-    0,
-    0,
-];
+use card::answer::cards_answer;
+use card::call::cards;
+ghost use Prim.Native.Nat.{_<_, _≤_};
 
 // A word that no card of L has, in every word of the area before the call.
 const STAYS: u64 = 0x5afe5afe5afe5afe;
 
-// The cards, and three words that stay.
-const LONGER: [u64; 24] = [
+// Its cards, as document 01 prints them: 0 103 0 0 1 0 0 0, 1 201 0 1 3 0 2 0, 2 0 0 0 0 0 0 0; and three words that stay.
+const CARDS: [u64; 24] = [
     0x103,
     0,
     0,
@@ -61,25 +39,21 @@ const LONGER: [u64; 24] = [
     STAYS,
 ];
 
-// The card call's answer: C, or the refusal.
-fn answer_of(found: Cards) -> Answer {
-    match found {
-        Cards::Filled(n) => Answer {
-            number: 0,
-            value: n as u64,
-        },
-        Cards::Refused(refusal) => answer::of_refusal(refusal),
+// What word `i` of the area is to hold after the call with so many words lent.
+fn due(lent: usize, i: usize) -> u64
+    requires { ⌜ i < 24 ⌝ }
+{
+    if lent < 21 {
+        return STAYS;
     }
+    CARDS[i]
 }
 
-// Whether two areas have the same words.
-fn same_words(a: &[u64], b: &[u64]) -> bool {
-    if a.len() != b.len() {
-        return false;
-    }
+// Whether the area is as it is to be after the call with so many words lent.
+fn written(area: &[u64; 24], lent: usize) -> bool {
     let mut i = 0;
-    while i < a.len() {
-        if a[i] != b[i] {
+    while i < 24 {
+        if area[i] != due(lent, i) {
             return false;
         }
         i += 1;
@@ -87,40 +61,33 @@ fn same_words(a: &[u64], b: &[u64]) -> bool {
     true
 }
 
-// Calls with the area and counts, after `t`, whether the answer and the words after the call are as expected.
-fn tried(t: Tally, name: &[u8], area: &mut [u64], expected: Answer, words: &[u64]) -> Tally {
-    let given = answer_of(card::call::cards(&L, area));
-    let right = answer::same(expected, given) & same_words(area, words);
-    if !right {
-        io::write_all(1, name);
-        io::write_all(1, b": answered ");
-        answer::print(given);
-        io::write_all(1, b"\n");
+// The answer with so many words of an area lent, `NEVER` where the area is not as expected afterwards.
+fn given(lent: usize) -> u64
+    requires { ⌜ lent ≤ 24 ⌝ }
+{
+    let mut area = [STAYS; 24];
+    let answer = cards_answer(cards(&L, &mut area[..lent]));
+    if written(&area, lent) {
+        return answer;
     }
-    t.counted(!right)
+    NEVER
 }
 
-fn refused() -> Answer {
-    Answer {
-        number: 8,
-        value: 0,
+// Refusal 8, or C.
+fn expected(lent: usize) -> u64 {
+    if lent < 21 {
+        return 0x800000000;
     }
+    3
 }
 
-fn filled() -> Answer {
-    Answer {
-        number: 0,
-        value: 3,
-    }
-}
-
-// Document 01: "card area 20 words gets 8, 21 suffices". A longer area keeps its last words.
+// Document 01: "card area 20 words gets 8, 21 suffices". A longer area keeps its last words. A row for each length from 0 words to 24.
 pub fn walked() -> Tally {
-    let mut short = [STAYS; 20];
-    let mut exact = [STAYS; 21];
-    let mut longer = [STAYS; 24];
-    let mut t = Tally::new();
-    t = tried(t, b"20 words", &mut short, refused(), &[STAYS; 20]);
-    t = tried(t, b"21 words", &mut exact, filled(), &CARDS);
-    tried(t, b"24 words", &mut longer, filled(), &LONGER)
+    let mut t = NONE;
+    let mut lent = 0;
+    while lent <= 24 {
+        t = t.judged(CARD_AREA, expected(lent), given(lent));
+        lent += 1;
+    }
+    t
 }

@@ -1,14 +1,14 @@
 // Chain calls on L and on the library `CHOICES`, with areas of several lengths: a table.
-use crate::answer;
-use crate::answer::Answer;
 use crate::libraries::CHOICES;
 use crate::libraries::L;
+use crate::row::CHAINS;
+use crate::row::NEVER;
+use crate::row::NONE;
 use crate::row::Tally;
 use crate::row::long;
-use link::answer::Chained;
-ghost use mathlib.Core.Path.{_≡_};
+use chain::call::chain;
+use link::answer::chain_answer;
 ghost use Prim.Native.Nat.{_≤_};
-ghost use lib.ListN.{length};
 
 // A word that no chain has, in every word of the area before a call.
 const STAYS: u32 = 0x5afe5afe;
@@ -146,43 +146,34 @@ const ROWS: [[u64; 11]; 36] = [
     [1, 3, 5, 0, 8, 0, 0, 0, 0, 0, 0],
 ];
 
-// The chain call's answer: the number of links, 0 for "none", or the refusal.
-fn answer_of(found: Chained) -> Answer {
-    match found {
-        Chained::Shown(shown) => Answer {
-            number: 0,
-            value: shown.count as u64,
-        },
-        Chained::None => Answer {
-            number: 0,
-            value: 0,
-        },
-        Chained::Refused(refusal) => answer::of_refusal(refusal),
+// How many words of the area are lent.
+fn room_of(words: u64) -> usize
+    ensures { λ r. ⌜ r ≤ 8 ⌝ }
+{
+    if words < 8 {
+        return words as usize;
     }
+    8
 }
 
-// How many words so many links have, of which a row has two at the most.
-fn words_of(links: u64) -> usize
-    ensures { λ r. ⌜ r ≤ 4 ⌝ }
+// What word `i` of the area is to hold after: the row's words, two a link, and past them what it held before.
+fn due(row: &[u64; 11], i: usize) -> u64
+    requires { ⌜ i ≤ 7 ⌝ }
 {
-    if links == 0 {
-        return 0;
+    if 4 <= i {
+        return STAYS as u64;
     }
-    if links == 1 {
-        return 2;
+    if row[6] <= (i / 2) as u64 {
+        return STAYS as u64;
     }
-    4
+    row[7 + i]
 }
 
-// Whether the area begins with the row's words, two a link, and every word past them stayed.
-fn written(area: &[u32], row: &[u64]) -> bool
-    requires { ⌜ length (now row) ≡ 11 ⌝ }
-{
-    let words = words_of(row[6]);
+// Whether the area is as the row says.
+fn written(area: &[u32; 8], row: &[u64; 11]) -> bool {
     let mut i = 0;
-    while i < area.len() {
-        let expected = if i < words { row[7 + i] } else { STAYS as u64 };
-        if long(area[i]) != expected {
+    while i < 8 {
+        if long(area[i]) != due(row, i) {
             return false;
         }
         i += 1;
@@ -190,63 +181,44 @@ fn written(area: &[u32], row: &[u64]) -> bool
     true
 }
 
-// The answer with the first words of the area lent, as many as the row says, or all of them where it has no more.
-fn given_in(image: &[u32], row: &[u64], area: &mut [u32]) -> Answer
-    requires { ⌜ length (now row) ≡ 11 ⌝ }
-{
-    let room = row[4] as usize;
-    if area.len() <= room {
-        return answer_of(chain::call::chain(image, row[1], row[2], row[3], area));
-    }
-    answer_of(chain::call::chain(image, row[1], row[2], row[3], &mut area[..room]))
-}
-
-// Asks what the row asks, and counts, after `t`, whether the answer and the 8 words after the call are as expected.
-fn tried(t: Tally, image: &[u32], row: &[u64]) -> Tally
-    requires { ⌜ length (now row) ≡ 11 ⌝ }
-{
+// The answer to what the row asks, `NEVER` where the area is not as expected afterwards.
+fn given(image: &[u32], row: &[u64; 11]) -> u64 {
     let mut area = [STAYS; 8];
-    let given = given_in(image, row, &mut area);
-    let expected = Answer {
-        number: row[5],
-        value: row[6],
-    };
-    let right = answer::same(expected, given) & written(&area, row);
-    if !right {
-        print_difference(t.ran, given);
+    let room = room_of(row[4]);
+    let answer = chain_answer(chain(image, row[1], row[2], row[3], &mut area[..room]));
+    if written(&area, row) {
+        return answer;
     }
-    t.counted(!right)
-}
-
-// A line about row `number`.
-fn print_difference(number: u32, given: Answer) {
-    io::write_all(1, b"chains, row ");
-    io::print_decimal(1, number as u64);
-    io::write_all(1, b": answered ");
-    answer::print(given);
-    io::write_all(1, b"\n");
+    NEVER
 }
 
 // The same with the image that the row names.
-fn tried_on(t: Tally, row: &[u64]) -> Tally
-    requires { ⌜ length (now row) ≡ 11 ⌝ }
-{
-    if row[0] == 0 {
-        return tried(t, &L, row);
+fn given_on(row: &[u64; 11]) -> u64 {
+    let image = row[0];
+    match image {
+        0 => given(&L, row),
+        1 => given(&CHOICES, row),
+        _ => given(&NO_FACT, row),
     }
-    if row[0] == 1 {
-        return tried(t, &CHOICES, row);
+}
+
+// The answer that the row expects.
+fn expected(row: &[u64; 11]) -> u64 {
+    row[5] << 32 | row[6]
+}
+
+// Runs each row.
+fn walked_in(rows: &[[u64; 11]; 36]) -> Tally {
+    let mut t = NONE;
+    let mut i = 0;
+    while i < 36 {
+        t = t.judged(CHAINS, expected(&rows[i]), given_on(&rows[i]));
+        i += 1;
     }
-    tried(t, &NO_FACT, row)
+    t
 }
 
 // All chain calls.
 pub fn walked() -> Tally {
-    let mut t = Tally::new();
-    let mut i = 0;
-    while i < 36 {
-        t = tried_on(t, &ROWS[i]);
-        i += 1;
-    }
-    t
+    walked_in(&ROWS)
 }

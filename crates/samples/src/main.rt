@@ -1,7 +1,6 @@
-// Runs the check, the card call, the chain call and the outcome table on samples: those of document 01 that are not starred, and more for each
-// refusal and each column. Each table has a file of its own, with the expected value of each row worked out from document 01 in a comment.
+// Runs the check, the card call and the chain call on samples: those of document 01 that are not starred, and more for each refusal. Each table
+// has a file of its own, with the expected value of each row worked out from document 01 in a comment.
 mod accepted;
-mod answer;
 mod card_area;
 mod fact_order;
 mod head_word;
@@ -11,52 +10,43 @@ mod libraries;
 mod links;
 mod long;
 mod missing;
-mod outcomes;
 mod payload;
 mod row;
 mod sum_word;
 mod table;
 mod word_runs;
 
+use crate::row::CARD_AREA;
+use crate::row::LONG_IMAGES;
+use crate::row::NONE;
+use crate::row::TOTAL;
 use crate::row::Tally;
 
-// A line about a table, `NAME: R samples, D differ`.
-pub fn print_group(name: &[u8], here: Tally) {
-    io::write_all(1, name);
-    io::write_all(1, b": ");
-    here.print();
-}
-
-// Runs the rows of one table, after `t`.
-fn group(t: Tally, name: &[u8], rows: &[u32]) -> Tally {
-    let here = table::walked(name, rows);
-    print_group(name, here);
-    t.joined(here)
-}
-
-// Runs the rows of a table of long images, after `t`.
-fn long_group(t: Tally, name: &[u8], rows: &[u32]) -> Tally {
-    let mut words = [0u32; 8193];
-    let here = word_runs::walked(name, rows, &mut words);
-    print_group(name, here);
-    t.joined(here)
+// Runs the rows of a table.
+fn walked(table: usize) -> Tally {
+    match table {
+        0 => table::walked(table, &accepted::ROWS),
+        1 => table::walked(table, &length::ROWS),
+        2 => table::walked(table, &sum_word::ROWS),
+        3 => table::walked(table, &head_word::ROWS),
+        4 => table::walked(table, &kind::ROWS),
+        5 => table::walked(table, &payload::ROWS),
+        6 => table::walked(table, &fact_order::ROWS),
+        7 => table::walked(table, &missing::ROWS),
+        LONG_IMAGES => table::walked(table, &long::ROWS),
+        CARD_AREA => card_area::walked(),
+        _ => links::walked(),
+    }
 }
 
 fn main() {
-    let mut t = Tally::new();
-    t = group(t, b"accepted", &accepted::ROWS);
-    t = group(t, b"refusal 1", &length::ROWS);
-    t = group(t, b"refusal 2", &sum_word::ROWS);
-    t = group(t, b"refusal 3", &head_word::ROWS);
-    t = group(t, b"refusal 4", &kind::ROWS);
-    t = group(t, b"refusal 5", &payload::ROWS);
-    t = group(t, b"refusal 6", &fact_order::ROWS);
-    t = group(t, b"refusal 7", &missing::ROWS);
-    t = long_group(t, b"long images", &long::ROWS);
-    let areas = card_area::walked();
-    print_group(b"card area", areas);
-    let chains = links::walked();
-    print_group(b"chains", chains);
-    t = outcomes::walked(t);
-    print_group(b"total", t.joined(areas).joined(chains));
+    let mut t = NONE;
+    let mut table = 0;
+    while table < TOTAL {
+        let here = walked(table);
+        here.print(table);
+        t = t.more(here.ran, here.differ);
+        table += 1;
+    }
+    t.print(TOTAL);
 }

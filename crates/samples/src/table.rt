@@ -1,7 +1,13 @@
 // A table of samples: rows one after the other. A row is the refusal's number or 0, its position or the head's payload, the
-// number of words that follow, and these words.
-use crate::row;
+// number of words that follow, and these words: an image, or in a table of long images the runs of words that it is written as.
+use crate::row::LONG_IMAGES;
+use crate::row::NEVER;
+use crate::row::NONE;
 use crate::row::Tally;
+use crate::row::long;
+use crate::word_runs::put_runs;
+use image::answer::checked_answer;
+use reader::check::check;
 ghost use Prim.Native.Nat.{_<_, _≤_};
 ghost use lib.ListN.{length};
 
@@ -10,7 +16,7 @@ fn wide(x: u32) -> usize {
 }
 
 // Where the row that starts at `at` ends. A row that is cut short ends with the table.
-pub fn row_end(rows: &[u32], at: usize) -> usize
+fn row_end(rows: &[u32], at: usize) -> usize
     requires { ⌜ at < length (now rows) ⌝ }
     ensures { λ r. ⌜ (at < r) × (r ≤ length (now (rows .entry))) ⌝ }
 {
@@ -26,21 +32,49 @@ pub fn row_end(rows: &[u32], at: usize) -> usize
 }
 
 // The words after a row's first three.
-pub fn row_words(row: &[u32]) -> &[u32] {
+fn row_words(row: &[u32]) -> &[u32] {
     if row.len() < 3 {
         return row;
     }
     &row[3..]
 }
 
-// Runs each row of the table `name`.
-pub fn walked(name: &[u8], rows: &[u32]) -> Tally {
-    let mut t = Tally::new();
+// The answer that a row expects.
+fn expected(row: &[u32]) -> u64 {
+    if row.len() < 3 {
+        return NEVER;
+    }
+    long(row[0]) << 32 | long(row[1])
+}
+
+// The check's answer to an image.
+fn answer_to(image: &[u32]) -> u64 {
+    checked_answer(check(image))
+}
+
+// Its answer to an image that is given by runs of words, and written into `words`.
+fn answer_to_runs(words: &mut [u32], runs: &[u32]) -> u64 {
+    let n = put_runs(words, runs);
+    answer_to(&words[..n])
+}
+
+// Its answer to the image of a row of a table.
+fn given(table: usize, row: &[u32]) -> u64 {
+    if table == LONG_IMAGES {
+        let mut words = [0u32; 8193];
+        return answer_to_runs(&mut words, row_words(row));
+    }
+    answer_to(row_words(row))
+}
+
+// Runs each row of a table.
+pub fn walked(table: usize, rows: &[u32]) -> Tally {
+    let mut t = NONE;
     let mut at = 0;
     while at < rows.len() {
         let end = row_end(rows, at);
         let here = &rows[at..end];
-        t = row::tried(t, name, here, row_words(here));
+        t = t.judged(table, expected(here), given(table, here));
         at = end;
     }
     t

@@ -1,7 +1,4 @@
-// A table of long images, written as runs of words.
-use crate::row;
-use crate::row::Tally;
-use crate::table;
+// Long images, written as runs of words.
 ghost use Prim.Native.Nat.{_≤_};
 ghost use lib.ListN.{length};
 
@@ -27,7 +24,7 @@ fn put_run(words: &mut [u32], from: usize, count: u32, first: u32, more: u32) ->
 }
 
 // Writes the words of all runs, three words a run: count, first word, what is added. Answers how many words there are.
-fn put_runs(words: &mut [u32], runs: &[u32]) -> usize
+pub fn put_runs(words: &mut [u32], runs: &[u32]) -> usize
     ensures { λ r. ⌜ r ≤ length (now (words .exit)) ⌝ }
 {
     let mut n = 0;
@@ -40,22 +37,4 @@ fn put_runs(words: &mut [u32], runs: &[u32]) -> usize
         at += 3;
     }
     n
-}
-
-// Runs one row of the table `name`, after `t`, its image written into `words`.
-fn tried(t: Tally, name: &[u8], row: &[u32], words: &mut [u32]) -> Tally {
-    let n = put_runs(words, table::row_words(row));
-    row::tried(t, name, row, &words[..n])
-}
-
-// Runs each row of the table `name` of long images.
-pub fn walked(name: &[u8], rows: &[u32], words: &mut [u32]) -> Tally {
-    let mut t = Tally::new();
-    let mut at = 0;
-    while at < rows.len() {
-        let end = table::row_end(rows, at);
-        t = tried(t, name, &rows[at..end], words);
-        at = end;
-    }
-    t
 }

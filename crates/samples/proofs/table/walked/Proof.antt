@@ -7,13 +7,10 @@ use Rattle.samples.proofs.table.walked.Statement.{statement}
 use Rattle.samples.proofs.table.walked.Tie as tie
 
 abbrev Inv-loop : tie.InvT-loop
-Inv-loop name rows t₀ at₀ t at = at ≤ length rows
+Inv-loop table rows t₀ at₀ t at = at ≤ length rows
 
 abbrev μ-loop : tie.MeasureT-loop
-μ-loop name rows t₀ at₀ t at = length rows - at
-
-new-requires : tie.Need-new-requires Inv-loop μ-loop
-new-requires c κs = search needs
+μ-loop table rows t₀ at₀ t at = length rows - at
 
 loop-holds : tie.Need-loop-holds Inv-loop μ-loop
 loop-holds c = search needs
@@ -33,11 +30,14 @@ part-here-start c = search needs
 part-here-end : tie.Need-part-here-end Inv-loop μ-loop
 part-here-end c = search needs
 
-row-words-requires : tie.Need-row-words-requires Inv-loop μ-loop
-row-words-requires c κs = search needs
+expected-requires : tie.Need-expected-requires Inv-loop μ-loop
+expected-requires c κs = search needs
 
-tried-requires : tie.Need-tried-requires Inv-loop μ-loop
-tried-requires c κs = search needs
+given-requires : tie.Need-given-requires Inv-loop μ-loop
+given-requires c κs = search needs
+
+judged-requires : tie.Need-judged-requires Inv-loop μ-loop
+judged-requires c κs = search needs
 
 loop-less : tie.Need-loop-less Inv-loop μ-loop
 loop-less c = search needs
@@ -54,15 +54,15 @@ walked-spec =
     (tie.spec
     Inv-loop
     μ-loop
-    new-requires
     loop-holds
     row-end-requires
     mul-here
     sub-here
     part-here-start
     part-here-end
-    row-words-requires
-    tried-requires
+    expected-requires
+    given-requires
+    judged-requires
     loop-less
     loop-again
     returns)
