@@ -1,275 +1,155 @@
-// Algorithm 4 of 001, "Auxiliary Functions", and DECOMPOSITIONREACHABILITY, which 001 gives by its definition.
+// Algorithm 4 of 001, "Auxiliary Functions", and DECOMPOSITIONREACHABILITY, which 001 gives by its definition. Both go by rounds: a compound task
+// that round r finds has rank r, and the round looks at lower ranks only. A rank of 0 says that the task is not found.
+use crate::book;
+use crate::book::get;
+use crate::book::number;
+use crate::book::place;
+use crate::book::put;
+use crate::book::tasks;
+use crate::book::words;
 use crate::domain::action;
-use crate::domain::number;
-use crate::domain::place;
-use crate::sets::clear;
-use crate::sets::has;
-use crate::sets::put;
-use crate::sets::put_word;
-use crate::sets::word;
+use crate::domain::kept;
 use image::word::is_entry;
 use image::word::is_kind;
 ghost use mathlib.Core.Path.{_≡_};
-ghost use mathlib.Core.Bool.{true, false, _||_};
-ghost use Prim.Native.Nat.{_≤_};
+ghost use Prim.Native.Nat.{_≤_, _<_};
 ghost use lib.ListN.{length};
-ghost use Rattle.image.specs.Word.{isKind};
 
-// Whether a word opens a sequence or an alternative, where the task network before it ends.
-fn opens(w: u32) -> bool
-    ensures { λ r. ⌜ r ≡ (isKind 6 w || isKind 7 w) ⌝ }
-{
-    (w / 268435456 == 6) | (w / 268435456 == 7)
-}
+// To the next task of a task network, and to the one before: what is added to an index, with wrap.
+pub const ON: usize = 1;
 
-// t ∈ C_ε. A task that is left out is no hindrance; an action is in no set of compound tasks.
-fn in_empty(t: u32, empty: &[bool]) -> bool
-    ensures { λ r. ⌜ (isKind 8 t ≡ true → r ≡ false) ⌝ }
-{
-    if is_kind(8, t) {
-        return false;
-    }
-    if is_kind(9, t) {
-        return has(empty, number(t));
-    }
-    true
-}
+pub const BACK: usize = 18446744073709551615;
 
-// Line 13, ∀ i : t_i ∈ C_ε, for the task network whose tasks begin at index `from`; of an empty one it holds, as line 5 has it.
-fn all_in_empty(domain: &[u32], from: usize, empty: &[bool]) -> bool
-    ensures { λ r. ⌜ (length (now (domain .entry)) ≤ from → r ≡ true) ⌝ }
+// Line 13, ∀ i : t_i ∈ C_ε, for the tasks of a task network on one side of index `from`: the first word there that is no task in C_ε, and is no
+// task at all where line 13 holds. It holds where there are no tasks, as line 5 has it. A task that is left out is no hindrance.
+pub fn hindrance(
+    book: &[u32],
+    domain: usize,
+    empty: usize,
+    round: u32,
+    from: usize,
+    by: usize,
+) -> u32
+    ensures { λ r. ⌜ r < 4294967296 ⌝ }
 {
+    let mut left: usize = 8192;
     let mut i = from;
-    while i < domain.len() {
-        let w = domain[i];
-        if opens(w) {
-            return true;
+    while 0 < left {
+        left -= 1;
+        i = std::num::wrapping_add_usize(i, by);
+        let t = get(book, domain, i);
+        let d = get(book, empty, number(t));
+        let fits = (t == 0) | (is_kind(9, t) & (0 < d) & (d < round));
+        if !fits {
+            return t;
         }
-        if !in_empty(w, empty) {
-            return false;
+    }
+    0
+}
+
+// Whether word `i` of a domain gives its compound task a rank in a round: the rank, or 0. With a touch, which is what an action does, it is an
+// action with the touch, or a compound task of the rank before. Without a touch it opens a method whose tasks are all in C_ε.
+fn given(book: &[u32], domain: usize, ranks: usize, touch: u32, round: u32, i: usize) -> u32
+    ensures { λ r. ⌜ r ≤ round ⌝ }
+{
+    let t = get(book, domain, i);
+    if is_kind(7, t) & (touch == 0) {
+        return kept(
+            !is_entry(hindrance(book, domain, ranks, round, i, ON)),
+            round,
+        );
+    }
+    let d = get(book, ranks, number(t));
+    let acts = (round == 1) & (action(book, t) & touch != 0);
+    let calls = is_kind(9, t)
+        & (touch != 0)
+        & (0 < d)
+        & (std::num::wrapping_add_u32(d, 1) == round);
+    kept(acts | calls, round)
+}
+
+// The first word of compound task `c` that gives it a rank in a round: its index, or 8192.
+pub fn lowest(book: &[u32], domain: usize, ranks: usize, touch: u32, round: u32, c: usize) -> usize
+    ensures { λ r. ⌜ r < 4294967296 ⌝ }
+{
+    let end = place(book, std::num::wrapping_add_usize(c, 1));
+    let mut i = place(book, c);
+    while i < end {
+        if given(book, domain, ranks, touch, round, i) != 0 {
+            return i;
         }
         i += 1;
     }
-    true
+    8192
 }
 
-// Lines 13 to 16 for the word `w` before index `from`, if it opens a method of `c`. Answers whether the set has changed.
-fn extend(domain: &[u32], w: u32, from: usize, c: usize, empty: &mut [bool]) -> bool
-    ensures { λ _. ⌜ length (now (empty .exit)) ≡ length (now (empty .entry)) ⌝ }
+// The rank of compound task `c` after a round. The first round finds no ranks.
+fn ranked(book: &[u32], domain: usize, ranks: usize, touch: u32, round: u32, c: usize) -> u32
+    ensures { λ r. ⌜ r < 4294967296 ⌝ }
 {
-    if !is_kind(7, w) {
-        return false;
+    let before = get(book, ranks, c);
+    if (before != 0) & (round != 1) {
+        return before;
     }
-    if has(empty, c) {
-        return false;
-    }
-    if !all_in_empty(domain, from, empty) {
-        return false;
-    }
-    put(empty, c);
-    true
+    kept(lowest(book, domain, ranks, touch, round, c) != 8192, round)
 }
 
-// The compound task that the words from `w` on are about; `c` is the one before.
-fn task_at(c: usize, w: u32) -> usize
-    ensures { λ r. ⌜ (isKind 6 w ≡ false → r ≡ c) ⌝ }
+// One look at each compound task. Answers whether one has got a rank.
+fn look(book: &mut [u32], domain: usize, ranks: usize, touch: u32, round: u32) -> bool
+    ensures { λ _. ⌜ length (now (book .exit)) ≡ length (now (book .entry)) ⌝ }
 {
-    if is_kind(6, w) {
-        return number(w);
-    }
-    c
-}
-
-// Lines 11 to 16: one look at each method.
-fn round(domain: &[u32], empty: &mut [bool]) -> bool
-    ensures { λ _. ⌜ length (now (empty .exit)) ≡ length (now (empty .entry)) ⌝ }
-{
+    let n = tasks(book);
     let mut changed = false;
     let mut c = 0;
-    let mut i = 0;
-    while i < domain.len() {
-        let w = domain[i];
-        i += 1;
-        c = task_at(c, w);
-        let more = extend(domain, w, i, c, empty);
-        changed = changed | more;
+    while c < n {
+        let rank = ranked(book, domain, ranks, touch, round, c);
+        put(book, ranks, c, rank);
+        changed = changed | (rank == round);
+        c += 1;
     }
     changed
 }
 
-// EMPTYREFINEMENTS, lines 2 to 17: C_ε, the compound tasks that admit an empty refinement. Lines 4 to 6 are the first look, since of an empty
-// task network line 13 holds; "Lines 7-9 and 15 are not necessary". Each look but the last puts a task into the set.
-pub fn empty_refinements(domain: &[u32], empty: &mut [bool])
-    ensures { λ _. ⌜ length (now (empty .exit)) ≡ length (now (empty .entry)) ⌝ }
+// Rounds until one finds nothing. Without a touch: EMPTYREFINEMENTS, lines 2 to 17: C_ε, the compound tasks that admit an empty refinement, each
+// with the round of lines 11 to 16 that found it. Lines 4 to 6 are the first round, since of an empty task network line 13 holds; "Lines 7-9
+// and 15 are not necessary". With a touch: the compound tasks c with an action that has it in a method of M_R(c), by DECOMPOSITIONREACHABILITY:
+// M_R(c) = {m | m = (c, tn)} ∪ {m = (c', tn) | ∃ tn' : ⟨c⟩ → tn' ∧ c' ∈ tn'}.
+pub fn rounds(book: &mut [u32], domain: usize, ranks: usize, touch: u32)
+    ensures { λ _. ⌜ length (now (book .exit)) ≡ length (now (book .entry)) ⌝ }
 {
-    clear(empty);
-    let mut i = 0;
-    while i < empty.len() {
-        if !round(domain, empty) {
+    let mut r = 1;
+    while r < 258 {
+        if !look(book, domain, ranks, touch, r) {
             return;
         }
-        i += 1;
+        r += 1;
     }
 }
 
-// What stands in the shortened domain for a word: a task that is cut off is left out.
-fn kept(cut: bool, w: u32) -> u32
-    ensures { λ r. ⌜ r ≤ w ⌝ }
+// Lines 24 to 26 for word `i`: a task is kept where all tasks on one side of it, in its task network, are in C_ε.
+fn shortened(book: &[u32], i: usize, by: usize) -> u32
+    ensures { λ r. ⌜ r < 4294967296 ⌝ }
 {
-    if cut & is_entry(w) {
-        return 0;
+    let w = get(book, book::RESTRICTED, i);
+    if !is_entry(w) {
+        return w;
     }
-    w
+    kept(
+        !is_entry(hindrance(book, book::RESTRICTED, book::EMPTY, 258, i, by)),
+        w,
+    )
 }
 
-// Lines 24 to 26: whether the tasks of the same network after `w`, in the order of the look, are cut off.
-fn cuts(cut: bool, w: u32, empty: &[bool]) -> bool
-    ensures { λ r. ⌜ ((isKind 6 w || isKind 7 w) ≡ true → r ≡ false) ⌝ }
+// SHORTENMETHODSFROMRIGHT, lines 19 to 28, where `by` goes on; and SHORTENMETHODSFROMLEFT, which "mirrors SHORTENMETHODSFROMRIGHT, with the loop
+// in line 23 running from 1 to |tn| instead", where it goes back.
+pub fn shorten_methods(book: &mut [u32], by: usize)
+    ensures { λ _. ⌜ length (now (book .exit)) ≡ length (now (book .entry)) ⌝ }
 {
-    if opens(w) {
-        return false;
-    }
-    cut | !in_empty(w, empty)
-}
-
-// SHORTENMETHODSFROMRIGHT, lines 19 to 28, over all methods from the last word on.
-pub fn shorten_from_right(domain: &[u32], empty: &[bool], out: &mut [u32])
-    ensures { λ _. ⌜ length (now (out .exit)) ≡ length (now (out .entry)) ⌝ }
-{
-    let mut cut = false;
-    let mut i = domain.len();
-    while 0 < i {
-        i -= 1;
-        let w = word(domain, i);
-        put_word(out, i, kept(cut, w));
-        cut = cuts(cut, w, empty);
-    }
-}
-
-// SHORTENMETHODSFROMLEFT, which "mirrors SHORTENMETHODSFROMRIGHT, with the loop in line 23 running from 1 to |tn| instead".
-pub fn shorten_from_left(domain: &[u32], empty: &[bool], out: &mut [u32])
-    ensures { λ _. ⌜ length (now (out .exit)) ≡ length (now (out .entry)) ⌝ }
-{
-    let mut cut = false;
+    let n = words(book);
     let mut i = 0;
-    while i < domain.len() {
-        let w = domain[i];
-        put_word(out, i, kept(cut, w));
-        cut = cuts(cut, w, empty);
+    while i < n {
+        let w = shortened(book, i, by);
+        put(book, book::SHORT, i, w);
         i += 1;
     }
-}
-
-// Puts `d` behind the `n` tasks of the queue, unless it was reached before or is no task. Answers how many there are.
-fn enter(reached: &mut [bool], queue: &mut [usize], n: usize, d: usize) -> usize
-    ensures { λ r. ⌜ (length (now (reached .exit)) ≡ length (now (reached .entry))) × (length (now (queue .exit)) ≡ length (now (queue .entry))) ⌝ }
-{
-    if reached.len() <= d {
-        return n;
-    }
-    if queue.len() <= n {
-        return n;
-    }
-    if reached[d] {
-        return n;
-    }
-    reached[d] = true;
-    queue[n] = d;
-    n + 1
-}
-
-// Enters the task of `w`, if it is a compound one.
-fn enter_call(reached: &mut [bool], queue: &mut [usize], n: usize, w: u32) -> usize
-    ensures { λ r. ⌜ (length (now (reached .exit)) ≡ length (now (reached .entry))) × (length (now (queue .exit)) ≡ length (now (queue .entry))) ⌝ }
-{
-    if is_kind(9, w) {
-        return enter(reached, queue, n, number(w));
-    }
-    n
-}
-
-// Enters the compound tasks in the methods that begin at index `from`, behind the `n` that are in the queue.
-fn enter_all(
-    domain: &[u32],
-    from: usize,
-    reached: &mut [bool],
-    queue: &mut [usize],
-    n: usize,
-) -> usize
-    ensures { λ r. ⌜ (length (now (reached .exit)) ≡ length (now (reached .entry))) × (length (now (queue .exit)) ≡ length (now (queue .entry))) ⌝ }
-{
-    let mut m = n;
-    let mut i = from;
-    while i < domain.len() {
-        let w = domain[i];
-        if is_kind(6, w) {
-            return m;
-        }
-        m = enter_call(reached, queue, m, w);
-        i += 1;
-    }
-    m
-}
-
-// DECOMPOSITIONREACHABILITY: M_R(c) = {m | m = (c, tn)} ∪ {m = (c', tn) | ∃ tn' : ⟨c⟩ → tn' ∧ c' ∈ tn'}. The queue gets the tasks whose methods
-// these are, `c` first; `reached` has none at the beginning. Answers how many there are.
-pub fn reachable(
-    domain: &[u32],
-    places: &[usize],
-    c: usize,
-    reached: &mut [bool],
-    queue: &mut [usize],
-) -> usize
-    ensures { λ r. ⌜ (length (now (reached .exit)) ≡ length (now (reached .entry))) × (length (now (queue .exit)) ≡ length (now (queue .entry))) ⌝ }
-{
-    let mut n = enter(reached, queue, 0, c);
-    let mut i = 0;
-    while i < queue.len() {
-        if n <= i {
-            return n;
-        }
-        n = enter_all(domain, place(places, queue[i]), reached, queue, n);
-        i += 1;
-    }
-    n
-}
-
-// What the actions in the methods that begin at index `from` do, with what is `seen` before.
-fn does(domain: &[u32], from: usize, actions: &[u32], seen: u32) -> u32
-    ensures { λ r. ⌜ (length (now (domain .entry)) ≤ from → r ≡ seen) ⌝ }
-{
-    let mut all = seen;
-    let mut i = from;
-    while i < domain.len() {
-        let w = domain[i];
-        if is_kind(6, w) {
-            return all;
-        }
-        all = all | action(actions, w);
-        i += 1;
-    }
-    all
-}
-
-// What the actions in the methods of the first `n` tasks of the queue do: ∃ (c', ⟨t_1 .. t_n⟩) ∈ M_R(c), i : f ∈ add(t_i), and the same of del
-// and prec.
-pub fn reached_actions(
-    domain: &[u32],
-    places: &[usize],
-    queue: &[usize],
-    n: usize,
-    actions: &[u32],
-) -> u32
-    ensures { λ r. ⌜ (n ≡ 0 → r ≡ 0) ⌝ }
-{
-    let mut all = 0;
-    let mut i = 0;
-    while i < queue.len() {
-        if n <= i {
-            return all;
-        }
-        all = does(domain, place(places, queue[i]), actions, all);
-        i += 1;
-    }
-    all
 }

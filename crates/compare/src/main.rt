@@ -10,7 +10,7 @@
 // chain where none has; a link about another sequence, or with an alternative or a position that does not exist; one whose entry is not a step
 // with the touch or the sequence of the next link, or beside whose entry another touches the fact that must not, or has no run; an untouched
 // link whose alternative cannot stay untouched; more links than the fewest or than there are sequences; a choice that is not the lowest; words
-// changed past a chain or on "none". What it would not catch: a mistake in the reading of images, which both engines share, and what shows in
+// changed past a chain or on "none". What it would not catch: a mistake in the check of images, which both engines share, and what shows in
 // no card and no chain.
 //
 // Tried: the engine was broken on a copy and run without its proofs (`rt try compare`). Each break was reported, first by the words after it.
@@ -28,6 +28,12 @@ mod names;
 mod tally;
 mod trial;
 
+use tally::Tally;
+use tally::added;
+use tally::begun;
+use tally::print_group;
+use trial::try_library;
+
 // How many libraries of a kind are tried.
 fn libraries(kind: u32) -> u32 {
     match kind {
@@ -43,30 +49,40 @@ fn libraries(kind: u32) -> u32 {
 }
 
 // Tries the libraries of a kind.
-fn group(tally: &mut [u64], state: &mut [u64], words: &mut [u32], kind: u32) {
+fn group(t: Tally, words: &mut [u32], kind: u32) -> Tally {
+    let mut now = t;
     let mut left = libraries(kind);
     while 0 < left {
         left -= 1;
-        trial::try_library(tally, state, kind, words);
+        now = try_library(now, kind, words);
     }
-    tally::print_group(tally, kind);
+    print_group(now, kind);
+    now
 }
 
 // Tries the libraries of all kinds.
-fn groups(tally: &mut [u64], total: &mut [u64], state: &mut [u64], words: &mut [u32]) {
+fn groups(start: Tally, words: &mut [u32]) {
+    let mut total = start;
     let mut kind = 0;
     while kind < 15 {
-        group(tally, state, words, kind);
-        tally::close_group(tally, total);
+        total = added(total, group(begun(total), words, kind));
         kind += 1;
     }
-    tally::print_group(total, kind);
+    print_group(total, kind);
 }
 
 fn main() {
-    let mut tally = [0u64; 8];
-    let mut total = [0u64; 8];
-    let mut state = [0x2545f4914f6cdd1du64; 1];
     let mut words = [0u32; 8192];
-    groups(&mut tally, &mut total, &mut state, &mut words);
+    let start = Tally {
+        libraries: 0,
+        sequences: 0,
+        words: 0,
+        questions: 0,
+        chains: 0,
+        links: 0,
+        differences: 0,
+        printed: 0,
+        state: 0x2545f4914f6cdd1d,
+    };
+    groups(start, &mut words);
 }

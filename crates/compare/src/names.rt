@@ -1,4 +1,4 @@
-// What is printed of the kinds of libraries and of what can be wrong: lines of a text, counted from 0.
+// What is printed: lines of a text, counted from 0.
 ghost use Prim.Native.Nat.{_≤_};
 ghost use lib.ListN.{length};
 
@@ -35,7 +35,7 @@ fn line_end(text: &[u8], from: usize) -> usize
     i
 }
 
-fn print_line(text: &[u8], k: u32) {
+pub fn print_line(text: &[u8], k: u32) {
     let from = line_start(text, k);
     let end = line_end(text, from);
     io::write_all(1, &text[from..end]);
@@ -49,10 +49,12 @@ pub fn print_kind(kind: u32) {
     );
 }
 
-// What is wrong, in the order of the faults of `tally`.
+// The end of a line about a difference: what is wrong, in the order of the faults of `judge` and then of `tally`.
 pub fn print_fault(fault: u32) {
+    io::write_all(1, b": ");
     print_line(
         b"nothing\na link does not stand\na link's entry is no step with the touch, or no sequence\na link is not the lowest choice\nthe links are not the fewest\na chain, and no run has the outcome\na chain of more links than there are sequences\nwords past the chain are changed\nnone, and a run has the outcome\nrefused\nthe columns of the second engine differ from its rounds\na card word differs\nthe card call answers another number\nthe second engine answers another number",
         fault,
     );
+    io::write_all(1, b"\n");
 }

@@ -1,42 +1,10 @@
-// What was counted, in a table of numbers, and the lines that are printed.
+// What was counted, and the lines that are printed.
 use crate::names::print_fault;
 use crate::names::print_kind;
+use crate::names::print_line;
+use judge::answers::RIGHT;
 
-pub const LIBRARIES: usize = 0;
-
-pub const SEQUENCES: usize = 1;
-
-pub const WORDS: usize = 2;
-
-pub const QUESTIONS: usize = 3;
-
-pub const CHAINS: usize = 4;
-
-pub const LINKS: usize = 5;
-
-pub const DIFFERENCES: usize = 6;
-// Differences of all groups: from a dozen on they are counted and not printed.
-pub const PRINTED: usize = 7;
-
-// What can be wrong.
-pub const RIGHT: u32 = 0;
-
-pub const LINK_FALLS: u32 = 1;
-
-pub const ENTRY_WRONG: u32 = 2;
-
-pub const NOT_LOWEST: u32 = 3;
-
-pub const NOT_FEWEST: u32 = 4;
-
-pub const SHOWN: u32 = 5;
-
-pub const TOO_LONG: u32 = 6;
-
-pub const CHANGED: u32 = 7;
-
-pub const MISSED: u32 = 8;
-
+// What can be wrong besides what `judge` names.
 pub const REFUSED: u32 = 9;
 
 pub const ROUNDS_DIFFER: u32 = 10;
@@ -47,87 +15,121 @@ pub const CARD_COUNT: u32 = 12;
 
 pub const SECOND_COUNT: u32 = 13;
 
-pub fn get(tally: &[u64], k: usize) -> u64 {
-    if k < tally.len() {
-        return tally[k];
+// The counts of a group of libraries; the differences of all groups, of which a dozen are printed; and the state of the random numbers.
+pub struct Tally {
+    pub libraries: u64,
+    pub sequences: u64,
+    pub words: u64,
+    pub questions: u64,
+    pub chains: u64,
+    pub links: u64,
+    pub differences: u64,
+    pub printed: u64,
+    pub state: u64,
+}
+
+// Nothing counted yet in a group that comes after the groups of `total`.
+pub fn begun(total: Tally) -> Tally {
+    Tally {
+        libraries: 0,
+        sequences: 0,
+        words: 0,
+        questions: 0,
+        chains: 0,
+        links: 0,
+        differences: 0,
+        printed: total.printed,
+        state: total.state,
     }
-    0
 }
 
-pub fn put(tally: &mut [u64], k: usize, n: u64) {
-    if k < tally.len() {
-        tally[k] = n;
+pub fn sum(a: u64, b: u64) -> u64 {
+    std::num::wrapping_add_u64(a, b)
+}
+
+// The counts of all groups with those of one more.
+pub fn added(total: Tally, t: Tally) -> Tally {
+    Tally {
+        libraries: sum(total.libraries, t.libraries),
+        sequences: sum(total.sequences, t.sequences),
+        words: sum(total.words, t.words),
+        questions: sum(total.questions, t.questions),
+        chains: sum(total.chains, t.chains),
+        links: sum(total.links, t.links),
+        differences: sum(total.differences, t.differences),
+        printed: t.printed,
+        state: t.state,
     }
 }
 
-// Counts `n` more.
-pub fn count(tally: &mut [u64], k: usize, n: u64) {
-    if k < tally.len() {
-        tally[k] = std::num::wrapping_add_u64(tally[k], n);
+// The numbers of a line, in their order.
+fn value(t: Tally, k: u32) -> u64 {
+    match k {
+        0 => t.libraries,
+        1 => t.sequences,
+        2 => t.words,
+        3 => t.questions,
+        4 => t.chains,
+        5 => t.links,
+        _ => t.differences,
     }
 }
 
-// A number with the word before it.
-fn print(name: &[u8], n: u64) {
-    io::write_all(1, name);
-    io::print_decimal(1, n);
+// Prints the first `n` numbers, each after a line of the text.
+fn print_numbers(text: &[u8], t: Tally, n: u32) {
+    let mut k = 0;
+    while k < n {
+        print_line(text, k);
+        io::print_decimal(1, value(t, k));
+        k += 1;
+    }
 }
 
-// A line about a difference. Of a card, the question is the number of the word.
-fn print_difference(library: u64, c: usize, question: u32, f: u32, fault: u32) {
-    print(b"library ", library);
-    print(b", sequence ", c as u64);
-    print(b", question or word ", question as u64);
-    print(b", fact ", f as u64);
-    io::write_all(1, b": ");
+// A line about a difference in a library: the sequence, the question or, of a card, the word, and the fact.
+fn print_difference(t: Tally, c: usize, question: u32, f: usize, fault: u32) {
+    let mut at = begun(t);
+    at.libraries = t.libraries;
+    at.sequences = c as u64;
+    at.words = question as u64;
+    at.questions = f as u64;
+    print_numbers(
+        b"library \n, sequence \n, question or word \n, fact ",
+        at,
+        4,
+    );
     print_fault(fault);
-    io::write_all(1, b"\n");
 }
 
-// Prints a difference, where it is one of the first dozen.
-fn report(tally: &[u64], c: usize, question: u32, f: u32, fault: u32) {
-    if get(tally, PRINTED) <= 12 {
-        print_difference(get(tally, LIBRARIES), c, question, f, fault);
-    }
-}
-
-// Counts a difference, if there is a fault, with a line that says where.
-pub fn judge(tally: &mut [u64], c: usize, question: u32, f: u32, fault: u32) {
+// Counts a difference, if there is a fault, with a line that says where. From a dozen on they are counted and not printed.
+pub fn judged(t: Tally, c: usize, question: u32, f: usize, fault: u32) -> Tally {
     if fault == RIGHT {
-        return;
+        return t;
     }
-    count(tally, DIFFERENCES, 1);
-    count(tally, PRINTED, 1);
-    report(tally, c, question, f, fault);
+    if t.printed < 12 {
+        print_difference(t, c, question, f, fault);
+    }
+    let mut more = t;
+    more.differences = sum(t.differences, 1);
+    more.printed = sum(t.printed, 1);
+    more
 }
 
 // Counts a question and the links of its answer.
-pub fn note(tally: &mut [u64], c: usize, question: u32, f: u32, links: u32, fault: u32) {
-    count(tally, QUESTIONS, 1);
-    count(tally, CHAINS, (0 < links) as u64);
-    count(tally, LINKS, links as u64);
-    judge(tally, c, question, f, fault);
+pub fn noted(t: Tally, c: usize, question: u32, f: usize, links: u64, fault: u32) -> Tally {
+    let mut more = t;
+    more.questions = sum(t.questions, 1);
+    more.chains = sum(t.chains, (0 < links) as u64);
+    more.links = sum(t.links, links);
+    judged(more, c, question, f, fault)
 }
 
 // The counts of a group on a line.
-pub fn print_group(tally: &[u64], kind: u32) {
+pub fn print_group(t: Tally, kind: u32) {
     print_kind(kind);
-    print(b": libraries ", get(tally, LIBRARIES));
-    print(b", sequences ", get(tally, SEQUENCES));
-    print(b", card words ", get(tally, WORDS));
-    print(b", questions ", get(tally, QUESTIONS));
-    print(b", chains ", get(tally, CHAINS));
-    print(b", links ", get(tally, LINKS));
-    print(b", differences ", get(tally, DIFFERENCES));
+    print_numbers(
+        b": libraries \n, sequences \n, card words \n, questions \n, chains \n, links \n, differences ",
+        t,
+        7,
+    );
     io::write_all(1, b"\n");
-}
-
-// Adds the counts of a group to those of all, and begins the next.
-pub fn close_group(tally: &mut [u64], total: &mut [u64]) {
-    let mut k = 0;
-    while k < 7 {
-        count(total, k, get(tally, k));
-        put(tally, k, 0);
-        k += 1;
-    }
 }

@@ -1,181 +1,88 @@
-// Looks at the links of a chain, one after the other, against the words of the library.
+// Looks at a link of a chain, against the words of the library. What a link names is an index: of an entry, or without a touch of the opener of
+// an alternative.
+use crate::questions::side;
+use crate::questions::touch;
+use algorithms::book;
+use algorithms::book::get;
+use algorithms::book::number;
+use algorithms::book::place;
 use algorithms::domain::action;
-use algorithms::domain::number;
-use algorithms::domain::place;
-use algorithms::sets::has;
-use algorithms::sets::word;
 use image::word::is_entry;
 use image::word::is_kind;
 
-// Where the entries of alternative `alternative` of the sequence whose words begin at `from` begin, or 8192 where there is no such alternative.
-pub fn alternative_at(part: &[u32], from: usize, alternative: u32) -> usize {
+// Where alternative `alternative` of sequence `c` is opened, or 8192 where there is none.
+fn alternative_at(book: &[u32], c: usize, alternative: u32) -> usize {
+    let end = place(book, std::num::wrapping_add_usize(c, 1));
     let mut left = alternative;
-    let mut i = from;
-    while i < part.len() {
-        let w = part[i];
+    let mut i = place(book, c);
+    while i < end {
+        let opens = is_kind(7, get(book, book::IMAGE, i));
+        if opens & (left == 0) {
+            return i;
+        }
+        left = std::num::wrapping_sub_u32(left, opens as u32);
         i += 1;
-        if is_kind(6, w) {
-            return 8192;
-        }
-        if is_kind(7, w) {
-            if left == 0 {
-                return i;
-            }
-            left -= 1;
-        }
     }
     8192
 }
 
-// How many entries the alternative whose entries begin at `from` has.
-pub fn entries(part: &[u32], from: usize) -> usize {
-    let mut n: usize = 0;
+// Whether an entry is as a link wants it: it can stay untouched, a step that does nothing of the side, or a sequence that admits a refinement
+// without it; or it has a run.
+fn entry_right(book: &[u32], w: u32, stays: bool, side: u32) -> bool {
+    if is_kind(8, w) {
+        return !stays | (action(book, w) & side == 0);
+    }
+    if stays {
+        return get(book, book::EMPTY, number(w)) != 0;
+    }
+    get(book, book::RUN, number(w)) != 0
+}
+
+// Where the entries of the alternative that is opened at `from` end, if each but the one at `at` is right: those ahead of it, on the first side,
+// or behind it stay untouched, and the others have a run. 0 if one is not.
+fn right_end(book: &[u32], from: usize, at: usize, first: bool, side: u32) -> usize {
     let mut i = from;
-    while i < part.len() {
-        if !is_entry(part[i]) {
-            return n;
-        }
-        n = std::num::wrapping_add_usize(n, 1);
+    while i < 8192 {
         i += 1;
-    }
-    n
-}
-
-// Whether an entry can stay untouched: a step that does nothing of `side`, or a sequence that admits a refinement without it.
-fn can_stay(w: u32, actions: &[u32], side: u32, empty: &[bool]) -> bool {
-    if is_kind(8, w) {
-        return action(actions, w) & side == 0;
-    }
-    has(empty, number(w))
-}
-
-// Whether an entry has a run.
-fn can_run(w: u32, run: &[bool]) -> bool {
-    if is_kind(8, w) {
-        return true;
-    }
-    has(run, number(w))
-}
-
-// Whether entry `j` is as a link with position `p` wants it: those on one side of the position stay untouched, those on the other have a run.
-fn entry_right(
-    w: u32,
-    j: usize,
-    p: usize,
-    first: bool,
-    actions: &[u32],
-    side: u32,
-    run: &[bool],
-    empty: &[bool],
-) -> bool {
-    if j == p {
-        return true;
-    }
-    if (j < p) == first {
-        return can_stay(w, actions, side, empty);
-    }
-    can_run(w, run)
-}
-
-// Whether all entries but the one at the position are.
-pub fn others_right(
-    part: &[u32],
-    from: usize,
-    p: usize,
-    first: bool,
-    actions: &[u32],
-    side: u32,
-    run: &[bool],
-    empty: &[bool],
-) -> bool {
-    let mut j: usize = 0;
-    let mut i = from;
-    while i < part.len() {
-        let w = part[i];
+        let w = get(book, book::IMAGE, i);
         if !is_entry(w) {
-            return true;
+            return i;
         }
-        if !entry_right(w, j, p, first, actions, side, run, empty) {
-            return false;
+        if (i != at) & !entry_right(book, w, (i < at) == first, side) {
+            return 0;
         }
-        j = std::num::wrapping_add_usize(j, 1);
-        i += 1;
     }
-    true
+    0
 }
 
-// The entry at a position, or 0 where there is none.
-pub fn entry_at(part: &[u32], from: usize, p: usize) -> u32 {
-    if entries(part, from) <= p {
-        return 0;
+// What the second word of a link names in the alternative that is opened at `from`: of kind 11 an entry, of kind 12 the alternative itself, since
+// all its entries stay untouched; 8192 where it is not the word that the question wants.
+fn named(question: u32, from: usize, w: u32) -> usize {
+    if touch(question) == 0 {
+        if w == 0xc0000000 {
+            return from;
+        }
+        return 8192;
     }
-    word(part, std::num::wrapping_add_usize(from, p))
+    if is_kind(11, w) {
+        return std::num::wrapping_add_usize(std::num::wrapping_add_usize(from, 1), number(w));
+    }
+    8192
 }
 
 // Whether the first word of a link is of kind 10 and about sequence `c`, with an alternative in bits 8 to 20 and zeros above.
-pub fn opens_link(w: u32, c: usize) -> bool {
+fn opens_link(w: u32, c: usize) -> bool {
     is_kind(10, w) & (number(w) % 256 == c) & (number(w) / 256 < 8192)
 }
 
-// The alternative in the first word of a link.
-pub fn alternative_of(w: u32) -> u32 {
-    w / 256 % 8192
-}
-
-// Whether a kind 12 link stands: the alternative exists, and each of its entries can stay untouched.
-pub fn quiet_right(
-    part: &[u32],
-    places: &[usize],
-    c: usize,
-    first_word: u32,
-    second_word: u32,
-    actions: &[u32],
-    side: u32,
-    run: &[bool],
-    empty: &[bool],
-) -> bool {
-    let from = alternative_at(part, place(places, c), alternative_of(first_word));
-    if part.len() < from {
-        return false;
+// What a link with these words about sequence `c` names, or 8192 where it does not stand: it is about another sequence, its alternative or its
+// position does not exist, or another entry is not right.
+pub fn link_at(book: &[u32], question: u32, c: usize, one: u32, two: u32) -> usize {
+    let from = alternative_at(book, c, one / 256 % 8192);
+    let at = named(question, from, two);
+    let first = (2 < question) & (touch(question) != 0);
+    if opens_link(one, c) & (at < right_end(book, from, at, first, side(question))) {
+        return at;
     }
-    // with the position after all entries, those before it stay untouched
-    opens_link(first_word, c)
-        & (second_word == 0xc0000000)
-        & others_right(part, from, 8192, true, actions, side, run, empty)
-}
-
-// Whether a kind 11 link stands, but for what its entry is: the alternative and the position exist, and the other entries are right.
-pub fn link_right(
-    part: &[u32],
-    places: &[usize],
-    c: usize,
-    first_word: u32,
-    second_word: u32,
-    first: bool,
-    actions: &[u32],
-    side: u32,
-    run: &[bool],
-    empty: &[bool],
-) -> bool {
-    let from = alternative_at(part, place(places, c), alternative_of(first_word));
-    let p = number(second_word);
-    if part.len() < from {
-        return false;
-    }
-    opens_link(first_word, c)
-        & is_kind(11, second_word)
-        & is_entry(entry_at(part, from, p))
-        & others_right(part, from, p, first, actions, side, run, empty)
-}
-
-// The entry that a kind 11 link names.
-pub fn named_entry(
-    part: &[u32],
-    places: &[usize],
-    c: usize,
-    first_word: u32,
-    second_word: u32,
-) -> u32 {
-    let from = alternative_at(part, place(places, c), alternative_of(first_word));
-    entry_at(part, from, number(second_word))
+    8192
 }

@@ -2,26 +2,50 @@
 use crate::random::between;
 use crate::random::chance;
 use crate::random::draw;
+use crate::random::next;
 use crate::shape::Shape;
 use image::word::sum_of;
 ghost use Prim.Native.Nat.{_≤_};
 ghost use lib.ListN.{length};
 
-// Writes a word after the first `n`. Answers how many there are.
-fn put(words: &mut [u32], n: usize, w: u32) -> usize {
+// A word of a kind.
+fn word(kind: u32, payload: u32) -> u32 {
+    (kind << 28) | payload
+}
+
+// How far the writing is: the state of the random numbers, and how many words there are.
+pub struct Pen {
+    pub state: u64,
+    pub words: usize,
+}
+
+// The same after a number is drawn.
+fn after(pen: Pen) -> Pen {
+    Pen {
+        state: next(pen.state),
+        words: pen.words,
+    }
+}
+
+// Writes a word after those that there are. The word 0 is none.
+fn put(pen: Pen, words: &mut [u32], w: u32) -> Pen {
+    let n = pen.words;
+    if w == 0 {
+        return pen;
+    }
     if n < words.len() {
         words[n] = w;
-        return n + 1;
+        return Pen {
+            state: pen.state,
+            words: n + 1,
+        };
     }
-    n
+    pen
 }
 
 // Whether there is room for one more word, with the openers and the sum word that are still to come.
-fn room(words: &[u32], n: usize) -> bool {
-    if words.len() < 300 {
-        return false;
-    }
-    n < words.len() - 300
+fn room(pen: Pen) -> bool {
+    pen.words < 7892
 }
 
 // How likely step `a` has a fact word. Where no other step touches a fact, step 0 does.
@@ -32,43 +56,40 @@ fn touching(s: Shape, a: u32) -> u32 {
     s.touching
 }
 
-// Writes one fact word of step `a`, if the step is to have it: `i` counts the facts three times over, for needs, sets and clears.
-fn put_fact(state: &mut [u64], s: Shape, words: &mut [u32], n: usize, a: u32, i: u32) -> usize {
-    if s.facts == 0 {
-        return n;
+// A fact word of step `a`, if the step is to have it: `i` counts the facts three times over, for needs, sets and clears.
+fn fact(pen: Pen, s: Shape, a: u32, i: u32) -> u32 {
+    let facts = s.facts;
+    if facts == 0 {
+        return 0;
     }
-    if !chance(state, touching(s, a)) {
-        return n;
+    if !chance(pen.state, touching(s, a)) | (3000 < pen.words) {
+        return 0;
     }
-    if 3000 < n {
-        return n;
-    }
-    let kind = std::num::wrapping_add_u32(i / s.facts, 2);
-    put(words, n, (kind << 28) | (i % s.facts))
+    word(std::num::wrapping_add_u32(i / facts, 2), i % facts)
 }
 
 // Writes the fact words of a step, needs first, then sets, then clears.
-fn put_facts(state: &mut [u64], s: Shape, words: &mut [u32], n: usize, a: u32) -> usize {
+fn put_facts(pen: Pen, s: Shape, words: &mut [u32], a: u32) -> Pen {
     let most = std::num::wrapping_add_u32(s.facts, std::num::wrapping_add_u32(s.facts, s.facts));
-    let mut m = n;
+    let mut p = pen;
     let mut i = 0;
     while i < most {
-        m = put_fact(state, s, words, m, a, i);
+        p = put(after(p), words, fact(p, s, a, i));
         i += 1;
     }
-    m
+    p
 }
 
-fn put_steps(state: &mut [u64], s: Shape, words: &mut [u32], n: usize) -> usize {
+fn put_steps(pen: Pen, s: Shape, words: &mut [u32]) -> Pen {
     let steps = s.steps;
-    let mut m = n;
+    let mut p = pen;
     let mut a = 0;
     while a < steps {
-        m = put(words, m, 0x50000000 | a);
-        m = put_facts(state, s, words, m, a);
+        p = put(p, words, word(5, a));
+        p = put_facts(p, s, words, a);
         a += 1;
     }
-    m
+    p
 }
 
 // The sequence before `c`, or the number of sequences where there is none.
@@ -79,12 +100,12 @@ fn before(c: u32, n: u32) -> u32 {
     c - 1
 }
 
-// A sequence that sequence `c` calls, or a number that is not below the number of sequences.
-fn callee(state: &mut [u64], s: Shape, c: u32) -> u32 {
+// A sequence that sequence `c` calls, or a number that is not below the number of sequences. Two numbers are drawn.
+fn callee(state: u64, s: Shape, c: u32) -> u32 {
     let n = s.sequences;
     let any = draw(state, n);
-    let which = draw(state, 4);
-    let next = std::num::wrapping_add_u32(c, 1);
+    let which = draw(next(state), 4);
+    let after = std::num::wrapping_add_u32(c, 1);
     let how = s.callee;
     match how {
         1 => {
@@ -93,20 +114,20 @@ fn callee(state: &mut [u64], s: Shape, c: u32) -> u32 {
             }
             c
         }
-        2 => next,
+        2 => after,
         3 => before(c, n),
         4 => {
             if which < 2 {
                 return before(c, n);
             }
-            next
+            after
         }
         _ => any,
     }
 }
 
 // A step for an entry. Where step 0 alone touches a fact, it is kept for a sequence that calls no other, `last`.
-fn step_for(state: &mut [u64], s: Shape, last: bool) -> u32 {
+fn step_for(state: u64, s: Shape, last: bool) -> u32 {
     if s.touching != 0 {
         return draw(state, s.steps);
     }
@@ -117,95 +138,130 @@ fn step_for(state: &mut [u64], s: Shape, last: bool) -> u32 {
 }
 
 // An entry that names a step, or sequence `c` where there is no step.
-fn step_entry(state: &mut [u64], s: Shape, c: u32, last: bool) -> u32 {
+fn step_entry(state: u64, s: Shape, c: u32, last: bool) -> u32 {
     let n = s.steps;
     if n == 0 {
-        return 0x90000000 | c;
+        return word(9, c);
     }
-    0x80000000 | step_for(state, s, last) % n
+    word(8, step_for(state, s, last) % n)
+}
+
+// A word, and the state after it is drawn.
+struct Drawn {
+    word: u32,
+    state: u64,
 }
 
 // An entry of an alternative of sequence `c`.
-fn entry(state: &mut [u64], s: Shape, c: u32) -> u32 {
+fn entry(state: u64, s: Shape, c: u32) -> Drawn {
     let d = callee(state, s, c);
-    let calls = chance(state, s.calls);
-    if calls & (d < s.sequences) {
-        return 0x90000000 | d;
+    let then = next(next(state));
+    let end = next(then);
+    let last = s.sequences <= d;
+    if chance(then, s.calls) & !last {
+        return Drawn {
+            word: word(9, d),
+            state: end,
+        };
     }
-    step_entry(state, s, c, s.sequences <= d)
+    let w = step_entry(end, s, c, last);
+    if (s.steps == 0) | ((s.touching == 0) & last) {
+        return Drawn {
+            word: w,
+            state: end,
+        };
+    }
+    Drawn {
+        word: w,
+        state: next(end),
+    }
 }
 
-// Writes an entry, if there is room.
-fn put_entry(state: &mut [u64], s: Shape, words: &mut [u32], n: usize, c: u32) -> usize {
-    let w = entry(state, s, c);
-    if room(words, n) {
-        return put(words, n, w);
-    }
-    n
-}
-
-fn put_entries(state: &mut [u64], s: Shape, words: &mut [u32], n: usize, c: u32) -> usize {
-    let mut m = n;
-    let mut left = between(state, 1, s.entries);
-    while 0 < left {
-        m = put_entry(state, s, words, m, c);
-        left -= 1;
-    }
-    m
-}
-
-fn put_alternative(state: &mut [u64], s: Shape, words: &mut [u32], n: usize, c: u32) -> usize {
-    if !room(words, n) {
-        return n;
-    }
-    let m = put(words, n, 0x70000000);
-    if chance(state, s.empty) {
-        return m;
-    }
-    put_entries(state, s, words, m, c)
-}
-
-fn put_sequence(state: &mut [u64], s: Shape, words: &mut [u32], n: usize, c: u32) -> usize {
-    let mut m = put(words, n, 0x60000000 | c);
-    let mut left = between(state, s.alternatives, s.more);
-    while 0 < left {
-        m = put_alternative(state, s, words, m, c);
-        left -= 1;
-    }
-    m
-}
-
-fn put_sequences(state: &mut [u64], s: Shape, words: &mut [u32], n: usize) -> usize {
-    let sequences = s.sequences;
-    let mut m = n;
-    let mut c = 0;
-    while c < sequences {
-        m = put_sequence(state, s, words, m, c);
-        c += 1;
-    }
-    m
-}
-
-// Writes the sum word after the first `n`.
-fn put_sum(words: &mut [u32], n: usize) -> usize {
-    if words.len() < n {
-        return 0;
-    }
-    let w = sum_of(&words[..n]);
-    put(words, n, 0xf0000000 | w)
-}
-
-// Writes the image of a library of this shape. Answers how many words it has.
-pub fn put_library(state: &mut [u64], s: Shape, words: &mut [u32]) -> usize
-    ensures { λ r. ⌜ r ≤ length (now (words .exit)) ⌝ }
-{
-    let head = 0x10000000 | s.facts | (s.steps << 7) | (s.sequences << 18);
-    let mut n = put(words, 0, head);
-    n = put_steps(state, s, words, n);
-    n = put_sequences(state, s, words, n);
-    n = put_sum(words, n);
-    if n <= words.len() {
-        return n;
+// A word, if there is room for it.
+fn fitting(pen: Pen, w: u32) -> u32 {
+    if room(pen) {
+        return w;
     }
     0
+}
+
+// Writes `n` entries, as far as there is room.
+fn put_entries(pen: Pen, s: Shape, words: &mut [u32], c: u32, n: u32) -> Pen {
+    let mut p = pen;
+    let mut i = 0;
+    while i < n {
+        let d = entry(p.state, s, c);
+        let then = Pen {
+            state: d.state,
+            words: p.words,
+        };
+        p = put(then, words, fitting(p, d.word));
+        i += 1;
+    }
+    p
+}
+
+fn put_alternative(pen: Pen, s: Shape, words: &mut [u32], c: u32) -> Pen {
+    if !room(pen) {
+        return pen;
+    }
+    let p = put(pen, words, word(7, 0));
+    let q = after(p);
+    if chance(p.state, s.empty) {
+        return q;
+    }
+    put_entries(after(q), s, words, c, between(q.state, 1, s.entries))
+}
+
+fn put_sequence(pen: Pen, s: Shape, words: &mut [u32], c: u32) -> Pen {
+    let mut p = put(pen, words, word(6, c));
+    let n = between(p.state, s.alternatives, s.more);
+    p = after(p);
+    let mut i = 0;
+    while i < n {
+        p = put_alternative(p, s, words, c);
+        i += 1;
+    }
+    p
+}
+
+fn put_sequences(pen: Pen, s: Shape, words: &mut [u32]) -> Pen {
+    let sequences = s.sequences;
+    let mut p = pen;
+    let mut c = 0;
+    while c < sequences {
+        p = put_sequence(p, s, words, c);
+        c += 1;
+    }
+    p
+}
+
+// Writes the words before the sum word.
+fn put_parts(s: Shape, words: &mut [u32]) -> Pen {
+    let head = word(1, s.facts | (s.steps << 7) | (s.sequences << 18));
+    let start = Pen {
+        state: s.state,
+        words: 0,
+    };
+    let p = put(start, words, head);
+    put_sequences(put_steps(p, s, words), s, words)
+}
+
+// Writes the image of a library of this shape.
+pub fn put_library(s: Shape, words: &mut [u32]) -> Pen
+    ensures { λ r. ⌜ r .words ≤ length (now (words .exit)) ⌝ }
+{
+    let p = put_parts(s, words);
+    let n = p.words;
+    if words.len() <= n {
+        return Pen {
+            state: p.state,
+            words: 0,
+        };
+    }
+    words[n] = word(15, sum_of(&words[..n]));
+    Pen {
+        state: p.state,
+        words: n + 1,
+    }
 }

@@ -1,5 +1,6 @@
 -- `compare::group` is safe and ends.
 -- Assumes nothing.
+use Prim.Native.Nat.{_<_}
 use mathlib.Core.Path.{_≡_}
 use lib.ListN.{length}
 use borrow.Author.Needs.{needs}
@@ -7,10 +8,10 @@ use Rattle.compare.proofs.group.Statement.{statement}
 use Rattle.compare.proofs.group.Tie as tie
 
 abbrev Inv-loop : tie.InvT-loop
-Inv-loop tally₀ state₀ words₀ kind left₀ tally state words left = (length tally ≡ length tally₀) × (length state ≡ length state₀) × (length words ≡ length words₀)
+Inv-loop words₀ kind now₀ left₀ words now left = (length words ≡ length words₀) × (left < 4294967296)
 
 abbrev μ-loop : tie.MeasureT-loop
-μ-loop tally₀ state₀ words₀ kind left₀ tally state words left = left
+μ-loop words₀ kind now₀ left₀ words now left = left
 
 libraries-requires : tie.Need-libraries-requires Inv-loop μ-loop
 libraries-requires c κs = search needs
@@ -36,12 +37,6 @@ print-group-requires c κs = search needs
 same-length : tie.Need-same-length Inv-loop μ-loop
 same-length c = search needs
 
-same-length-2 : tie.Need-same-length-2 Inv-loop μ-loop
-same-length-2 c = search needs
-
-same-length-3 : tie.Need-same-length-3 Inv-loop μ-loop
-same-length-3 c = search needs
-
 returns : tie.Need-returns Inv-loop μ-loop
 returns c = search needs
 
@@ -59,6 +54,4 @@ group-spec =
     loop-again
     print-group-requires
     same-length
-    same-length-2
-    same-length-3
     returns)

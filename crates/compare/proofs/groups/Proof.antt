@@ -1,6 +1,6 @@
 -- `compare::groups` is safe and ends.
 -- Assumes nothing.
-use Prim.Native.Nat.{_-_}
+use Prim.Native.Nat.{_-_, _<_}
 use mathlib.Core.Path.{_≡_}
 use lib.ListN.{length}
 use borrow.Author.Needs.{needs}
@@ -8,19 +8,22 @@ use Rattle.compare.proofs.groups.Statement.{statement}
 use Rattle.compare.proofs.groups.Tie as tie
 
 abbrev Inv-loop : tie.InvT-loop
-Inv-loop tally₀ total₀ state₀ words₀ kind₀ tally total state words kind = (length tally ≡ length tally₀) × (length total ≡ length total₀) × (length state ≡ length state₀) × (length words ≡ length words₀)
+Inv-loop words₀ total₀ kind₀ words total kind = (length words ≡ length words₀) × (kind < 4294967296)
 
 abbrev μ-loop : tie.MeasureT-loop
-μ-loop tally₀ total₀ state₀ words₀ kind₀ tally total state words kind = 15 - kind
+μ-loop words₀ total₀ kind₀ words total kind = 15 - kind
 
 loop-holds : tie.Need-loop-holds Inv-loop μ-loop
 loop-holds c = search needs
 
+begun-requires : tie.Need-begun-requires Inv-loop μ-loop
+begun-requires c κs = search needs
+
 group-requires : tie.Need-group-requires Inv-loop μ-loop
 group-requires c κs = search needs
 
-close-group-requires : tie.Need-close-group-requires Inv-loop μ-loop
-close-group-requires c κs = search needs
+added-requires : tie.Need-added-requires Inv-loop μ-loop
+added-requires c κs = search needs
 
 add-kind : tie.Need-add-kind Inv-loop μ-loop
 add-kind c = search needs
@@ -37,15 +40,6 @@ print-group-requires c κs = search needs
 same-length : tie.Need-same-length Inv-loop μ-loop
 same-length c = search needs
 
-same-length-2 : tie.Need-same-length-2 Inv-loop μ-loop
-same-length-2 c = search needs
-
-same-length-3 : tie.Need-same-length-3 Inv-loop μ-loop
-same-length-3 c = search needs
-
-same-length-4 : tie.Need-same-length-4 Inv-loop μ-loop
-same-length-4 c = search needs
-
 returns : tie.Need-returns Inv-loop μ-loop
 returns c = search needs
 
@@ -56,14 +50,12 @@ groups-spec =
     Inv-loop
     μ-loop
     loop-holds
+    begun-requires
     group-requires
-    close-group-requires
+    added-requires
     add-kind
     loop-less
     loop-again
     print-group-requires
     same-length
-    same-length-2
-    same-length-3
-    same-length-4
     returns)

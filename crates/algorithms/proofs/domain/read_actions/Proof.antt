@@ -1,4 +1,4 @@
--- `algorithms::domain::read_actions` is safe, ends and keeps the lengths.
+-- `algorithms::domain::read_actions` is safe and ends.
 -- Assumes nothing.
 use Prim.Native.Nat.{_-_}
 use mathlib.Core.Path.{_≡_}
@@ -8,28 +8,28 @@ use Rattle.algorithms.proofs.domain.read_actions.Statement.{statement}
 use Rattle.algorithms.proofs.domain.read_actions.Tie as tie
 
 abbrev Inv-loop : tie.InvT-loop
-Inv-loop part f actions₀ a₀ i₀ actions a i = length actions ≡ length actions₀
+Inv-loop book₀ f n a₀ book a = length book ≡ length book₀
 
 abbrev μ-loop : tie.MeasureT-loop
-μ-loop part f actions₀ a₀ i₀ actions a i = length part - i
+μ-loop book₀ f n a₀ book a = n - a
+
+get-requires : tie.Need-get-requires Inv-loop μ-loop
+get-requires c κs = search needs
+
+number-requires : tie.Need-number-requires Inv-loop μ-loop
+number-requires c κs = search needs
 
 loop-holds : tie.Need-loop-holds Inv-loop μ-loop
 loop-holds c = search needs
 
-mul-w : tie.Need-mul-w Inv-loop μ-loop
-mul-w c = search needs
+said-requires : tie.Need-said-requires Inv-loop μ-loop
+said-requires c κs = search needs
 
-shared-slice-read-w : tie.Need-shared-slice-read-w Inv-loop μ-loop
-shared-slice-read-w c = search needs
+put-requires : tie.Need-put-requires Inv-loop μ-loop
+put-requires c κs = search needs
 
-step-at-requires : tie.Need-step-at-requires Inv-loop μ-loop
-step-at-requires c κs = search needs
-
-read-word-requires : tie.Need-read-word-requires Inv-loop μ-loop
-read-word-requires c κs = search needs
-
-add-i : tie.Need-add-i Inv-loop μ-loop
-add-i c = search needs
+add-a : tie.Need-add-a Inv-loop μ-loop
+add-a c = search needs
 
 loop-less : tie.Need-loop-less Inv-loop μ-loop
 loop-less c = search needs
@@ -49,12 +49,12 @@ read-actions-spec =
     (tie.spec
     Inv-loop
     μ-loop
+    get-requires
+    number-requires
     loop-holds
-    mul-w
-    shared-slice-read-w
-    step-at-requires
-    read-word-requires
-    add-i
+    said-requires
+    put-requires
+    add-a
     loop-less
     loop-again
     same-length

@@ -1,4 +1,4 @@
--- `algorithms::domain::restrict` is safe, ends and keeps the lengths.
+-- `algorithms::domain::restrict` is safe and ends.
 -- Assumes nothing.
 use Prim.Native.Nat.{_-_}
 use mathlib.Core.Path.{_≡_}
@@ -8,25 +8,22 @@ use Rattle.algorithms.proofs.domain.restrict.Statement.{statement}
 use Rattle.algorithms.proofs.domain.restrict.Tie as tie
 
 abbrev Inv-loop : tie.InvT-loop
-Inv-loop domain actions keep out₀ i₀ out i = length out ≡ length out₀
+Inv-loop book₀ domain keep n i₀ book i = length book ≡ length book₀
 
 abbrev μ-loop : tie.MeasureT-loop
-μ-loop domain actions keep out₀ i₀ out i = length domain - i
+μ-loop book₀ domain keep n i₀ book i = n - i
+
+words-requires : tie.Need-words-requires Inv-loop μ-loop
+words-requires c κs = search needs
 
 loop-holds : tie.Need-loop-holds Inv-loop μ-loop
 loop-holds c = search needs
 
-mul-restricted : tie.Need-mul-restricted Inv-loop μ-loop
-mul-restricted c = search needs
-
-shared-slice-read-restricted : tie.Need-shared-slice-read-restricted Inv-loop μ-loop
-shared-slice-read-restricted c = search needs
-
 restricted-requires : tie.Need-restricted-requires Inv-loop μ-loop
 restricted-requires c κs = search needs
 
-put-word-requires : tie.Need-put-word-requires Inv-loop μ-loop
-put-word-requires c κs = search needs
+put-requires : tie.Need-put-requires Inv-loop μ-loop
+put-requires c κs = search needs
 
 add-i : tie.Need-add-i Inv-loop μ-loop
 add-i c = search needs
@@ -49,11 +46,10 @@ restrict-spec =
     (tie.spec
     Inv-loop
     μ-loop
+    words-requires
     loop-holds
-    mul-restricted
-    shared-slice-read-restricted
     restricted-requires
-    put-word-requires
+    put-requires
     add-i
     loop-less
     loop-again

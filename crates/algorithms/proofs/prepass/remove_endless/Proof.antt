@@ -1,4 +1,4 @@
--- `algorithms::prepass::remove_endless` is safe, ends and keeps the lengths.
+-- `algorithms::prepass::remove_endless` is safe and ends.
 -- Assumes nothing.
 use Prim.Native.Nat.{_-_}
 use mathlib.Core.Path.{_≡_}
@@ -8,31 +8,22 @@ use Rattle.algorithms.proofs.prepass.remove_endless.Statement.{statemen
 use Rattle.algorithms.proofs.prepass.remove_endless.Tie as tie
 
 abbrev Inv-loop : tie.InvT-loop
-Inv-loop part run domain₀ stay₀ i₀ domain stay i = length domain ≡ length domain₀
+Inv-loop book₀ n i₀ book i = length book ≡ length book₀
 
 abbrev μ-loop : tie.MeasureT-loop
-μ-loop part run domain₀ stay₀ i₀ domain stay i = length part - i
+μ-loop book₀ n i₀ book i = n - i
+
+words-requires : tie.Need-words-requires Inv-loop μ-loop
+words-requires c κs = search needs
 
 loop-holds : tie.Need-loop-holds Inv-loop μ-loop
 loop-holds c = search needs
 
-mul-w : tie.Need-mul-w Inv-loop μ-loop
-mul-w c = search needs
+remaining-requires : tie.Need-remaining-requires Inv-loop μ-loop
+remaining-requires c κs = search needs
 
-shared-slice-read-w : tie.Need-shared-slice-read-w Inv-loop μ-loop
-shared-slice-read-w c = search needs
-
-add-stays : tie.Need-add-stays Inv-loop μ-loop
-add-stays c = search needs
-
-stays-requires : tie.Need-stays-requires Inv-loop μ-loop
-stays-requires c κs = search needs
-
-kept-requires : tie.Need-kept-requires Inv-loop μ-loop
-kept-requires c κs = search needs
-
-put-word-requires : tie.Need-put-word-requires Inv-loop μ-loop
-put-word-requires c κs = search needs
+put-requires : tie.Need-put-requires Inv-loop μ-loop
+put-requires c κs = search needs
 
 add-i : tie.Need-add-i Inv-loop μ-loop
 add-i c = search needs
@@ -55,13 +46,10 @@ remove-endless-spec =
     (tie.spec
     Inv-loop
     μ-loop
+    words-requires
     loop-holds
-    mul-w
-    shared-slice-read-w
-    add-stays
-    stays-requires
-    kept-requires
-    put-word-requires
+    remaining-requires
+    put-requires
     add-i
     loop-less
     loop-again

@@ -8,19 +8,22 @@ use Rattle.compare.proofs.ask.ask_facts.Statement.{statement}
 use Rattle.compare.proofs.ask.ask_facts.Tie as tie
 
 abbrev Inv-loop : tie.InvT-loop
-Inv-loop tally₀ image steps part places cards facts run domain f₀ tally f = length tally ≡ length tally₀
+Inv-loop image book₀ n now₀ f₀ book now f = length book ≡ length book₀
 
 abbrev μ-loop : tie.MeasureT-loop
-μ-loop tally₀ image steps part places cards facts run domain f₀ tally f = facts - f
+μ-loop image book₀ n now₀ f₀ book now f = n - f
+
+facts-requires : tie.Need-facts-requires Inv-loop μ-loop
+facts-requires c κs = search needs
 
 loop-holds : tie.Need-loop-holds Inv-loop μ-loop
 loop-holds c = search needs
 
-add-f : tie.Need-add-f Inv-loop μ-loop
-add-f c = search needs
-
 ask-fact-requires : tie.Need-ask-fact-requires Inv-loop μ-loop
 ask-fact-requires c κs = search needs
+
+add-f : tie.Need-add-f Inv-loop μ-loop
+add-f c = search needs
 
 loop-less : tie.Need-loop-less Inv-loop μ-loop
 loop-less c = search needs
@@ -40,9 +43,10 @@ ask-facts-spec =
     (tie.spec
     Inv-loop
     μ-loop
+    facts-requires
     loop-holds
-    add-f
     ask-fact-requires
+    add-f
     loop-less
     loop-again
     same-length

@@ -7,35 +7,29 @@ use borrow.Author.Needs.{needs}
 use Rattle.compare.proofs.ask.ask_sequence.Statement.{statement}
 use Rattle.compare.proofs.ask.ask_sequence.Tie as tie
 
+tasks-requires : tie.Need-tasks-requires
+tasks-requires c κs = search needs
+
 returns : tie.Need-returns
 returns c = search needs
 
 returns-2 : tie.Need-returns-2
 returns-2 c = search needs
 
-mul-words : tie.Need-mul-words
-mul-words c = search needs
-
-word-requires : tie.Need-word-requires
-word-requires c κs = search needs
-
-possible-requires : tie.Need-possible-requires
-possible-requires c κs = search needs
-
-word-requires-2 : tie.Need-word-requires-2
-word-requires-2 c κs = search needs
+row-requires : tie.Need-row-requires
+row-requires c κs = search needs
 
 agrees-requires : tie.Need-agrees-requires
 agrees-requires c κs = search needs
 
-note-requires : tie.Need-note-requires
-note-requires c κs = search needs
-
-same-length : tie.Need-same-length
-same-length c = search needs
+noted-requires : tie.Need-noted-requires
+noted-requires c κs = search needs
 
 returns-3 : tie.Need-returns-3
 returns-3 c = search needs
+
+mul-words : tie.Need-mul-words
+mul-words c = search needs
 
 array-borrow-prefix-area : tie.Need-array-borrow-prefix-area
 array-borrow-prefix-area c = search needs
@@ -46,11 +40,8 @@ slice-aggregate-ask c = sym (length-take-le _ _ (omega arith))
 ask-requires : tie.Need-ask-requires
 ask-requires c κs = search needs
 
-note-requires-2 : tie.Need-note-requires-2
-note-requires-2 c κs = search needs
-
-same-length-2 : tie.Need-same-length-2
-same-length-2 c = search needs
+noted-requires-2 : tie.Need-noted-requires-2
+noted-requires-2 c κs = search needs
 
 returns-4 : tie.Need-returns-4
 returns-4 c = search needs
@@ -59,19 +50,16 @@ pub ask-sequence-spec : {M : Type 1} → statement M
 ask-sequence-spec =
     tie.close
     (tie.spec
+    tasks-requires
     returns
     returns-2
-    mul-words
-    word-requires
-    possible-requires
-    word-requires-2
+    row-requires
     agrees-requires
-    note-requires
-    same-length
+    noted-requires
     returns-3
+    mul-words
     array-borrow-prefix-area
     slice-aggregate-ask
     ask-requires
-    note-requires-2
-    same-length-2
+    noted-requires-2
     returns-4)

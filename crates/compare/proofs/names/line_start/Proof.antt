@@ -1,6 +1,6 @@
 -- `compare::names::line_start` is safe, ends and meets its contract.
 -- Assumes nothing.
-use Prim.Native.Nat.{_≤_, _-_}
+use Prim.Native.Nat.{_-_, _≤_}
 use lib.ListN.{length}
 use borrow.Author.Needs.{needs}
 use Rattle.compare.proofs.names.line_start.Statement.{statement}

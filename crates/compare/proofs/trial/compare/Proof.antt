@@ -1,29 +1,28 @@
 -- `compare::trial::compare` is safe and ends.
 -- Assumes nothing.
-use Prim.Native.Nat.{_-_}
-use mathlib.Core.Path.{_≡_}
+use Prim.Native.Nat.{_-_, _≤_}
 use lib.ListN.{length}
 use borrow.Author.Needs.{needs}
 use Rattle.compare.proofs.trial.compare.Statement.{statement}
 use Rattle.compare.proofs.trial.compare.Tie as tie
 
 abbrev Inv-loop : tie.InvT-loop
-Inv-loop tally₀ cards seconds words i₀ tally i = length tally ≡ length tally₀
+Inv-loop cards seconds words now₀ i₀ now i = 0 ≤ i
 
 abbrev μ-loop : tie.MeasureT-loop
-μ-loop tally₀ cards seconds words i₀ tally i = length cards - i
+μ-loop cards seconds words now₀ i₀ now i = length cards - i
 
 loop-holds : tie.Need-loop-holds Inv-loop μ-loop
 loop-holds c = search needs
 
-cast-judge : tie.Need-cast-judge Inv-loop μ-loop
-cast-judge c = search needs
+cast-judged : tie.Need-cast-judged Inv-loop μ-loop
+cast-judged c = search needs
 
 word-fault-requires : tie.Need-word-fault-requires Inv-loop μ-loop
 word-fault-requires c κs = search needs
 
-judge-requires : tie.Need-judge-requires Inv-loop μ-loop
-judge-requires c κs = search needs
+judged-requires : tie.Need-judged-requires Inv-loop μ-loop
+judged-requires c κs = search needs
 
 add-i : tie.Need-add-i Inv-loop μ-loop
 add-i c = search needs
@@ -33,9 +32,6 @@ loop-less c = search needs
 
 loop-again : tie.Need-loop-again Inv-loop μ-loop
 loop-again c = search needs
-
-same-length : tie.Need-same-length Inv-loop μ-loop
-same-length c = search needs
 
 returns : tie.Need-returns Inv-loop μ-loop
 returns c = search needs
@@ -47,11 +43,10 @@ compare-spec =
     Inv-loop
     μ-loop
     loop-holds
-    cast-judge
+    cast-judged
     word-fault-requires
-    judge-requires
+    judged-requires
     add-i
     loop-less
     loop-again
-    same-length
     returns)

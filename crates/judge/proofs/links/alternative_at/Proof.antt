@@ -1,28 +1,30 @@
 -- `judge::links::alternative_at` is safe and ends.
 -- Assumes nothing.
-use Prim.Native.Nat.{_≤_, _-_}
-use lib.ListN.{length}
+use Prim.Native.Nat.{_-_, _<_}
 use borrow.Author.Needs.{needs}
 use Rattle.judge.proofs.links.alternative_at.Statement.{statement}
 use Rattle.judge.proofs.links.alternative_at.Tie as tie
 
 abbrev Inv-loop : tie.InvT-loop
-Inv-loop part from alternative left₀ i₀ left i = 0 ≤ 1
+Inv-loop book c alternative end left₀ i₀ left i = left < 4294967296
 
 abbrev μ-loop : tie.MeasureT-loop
-μ-loop part from alternative left₀ i₀ left i = length part - i
+μ-loop book c alternative end left₀ i₀ left i = end - i
+
+wrapping-add-usize-requires : tie.Need-wrapping-add-usize-requires Inv-loop μ-loop
+wrapping-add-usize-requires c κs = search needs
+
+place-requires : tie.Need-place-requires Inv-loop μ-loop
+place-requires c κs = search needs
+
+place-requires-2 : tie.Need-place-requires-2 Inv-loop μ-loop
+place-requires-2 c κs = search needs
 
 loop-holds : tie.Need-loop-holds Inv-loop μ-loop
 loop-holds c = search needs
 
-mul-w : tie.Need-mul-w Inv-loop μ-loop
-mul-w c = search needs
-
-shared-slice-read-w : tie.Need-shared-slice-read-w Inv-loop μ-loop
-shared-slice-read-w c = search needs
-
-add-i : tie.Need-add-i Inv-loop μ-loop
-add-i c = search needs
+get-requires : tie.Need-get-requires Inv-loop μ-loop
+get-requires c κs = search needs
 
 is-kind-requires : tie.Need-is-kind-requires Inv-loop μ-loop
 is-kind-requires c κs = search needs
@@ -30,14 +32,14 @@ is-kind-requires c κs = search needs
 returns : tie.Need-returns Inv-loop μ-loop
 returns c = search needs
 
-is-kind-requires-2 : tie.Need-is-kind-requires-2 Inv-loop μ-loop
-is-kind-requires-2 c κs = search needs
+cast-wrapping-sub-u32 : tie.Need-cast-wrapping-sub-u32 Inv-loop μ-loop
+cast-wrapping-sub-u32 c = search needs
 
-returns-2 : tie.Need-returns-2 Inv-loop μ-loop
-returns-2 c = search needs
+wrapping-sub-u32-requires : tie.Need-wrapping-sub-u32-requires Inv-loop μ-loop
+wrapping-sub-u32-requires c κs = search needs
 
-sub-left : tie.Need-sub-left Inv-loop μ-loop
-sub-left c = search needs
+add-i : tie.Need-add-i Inv-loop μ-loop
+add-i c = search needs
 
 loop-less : tie.Need-loop-less Inv-loop μ-loop
 loop-less c = search needs
@@ -45,14 +47,8 @@ loop-less c = search needs
 loop-again : tie.Need-loop-again Inv-loop μ-loop
 loop-again c = search needs
 
-loop-less-2 : tie.Need-loop-less-2 Inv-loop μ-loop
-loop-less-2 c = search needs
-
-loop-again-2 : tie.Need-loop-again-2 Inv-loop μ-loop
-loop-again-2 c = search needs
-
-returns-3 : tie.Need-returns-3 Inv-loop μ-loop
-returns-3 c = search needs
+returns-2 : tie.Need-returns-2 Inv-loop μ-loop
+returns-2 c = search needs
 
 pub alternative-at-spec : {M : Type 1} → statement M
 alternative-at-spec =
@@ -60,17 +56,16 @@ alternative-at-spec =
     (tie.spec
     Inv-loop
     μ-loop
+    wrapping-add-usize-requires
+    place-requires
+    place-requires-2
     loop-holds
-    mul-w
-    shared-slice-read-w
-    add-i
+    get-requires
     is-kind-requires
     returns
-    is-kind-requires-2
-    returns-2
-    sub-left
+    cast-wrapping-sub-u32
+    wrapping-sub-u32-requires
+    add-i
     loop-less
     loop-again
-    loop-less-2
-    loop-again-2
-    returns-3)
+    returns-2)

@@ -1,44 +1,59 @@
--- `second::call::column` is safe and meets its contract.
+-- `second::call::column` is safe and ends.
 -- Assumes nothing.
-use native.Mathlib.Omega.{arith}
-use mathlib.Core.Path.{refl}
+use Prim.Native.Nat.{_-_, _<_}
 use borrow.Author.Needs.{needs}
 use Rattle.second.proofs.call.column.Statement.{statement}
 use Rattle.second.proofs.call.column.Tie as tie
 
-returns : tie.Need-returns
-returns c = λ _. refl
+abbrev Inv-loop : tie.InvT-loop
+Inv-loop book c k n all₀ f₀ all f = all < 18446744073709551616
 
-returns-2 : tie.Need-returns-2
-returns-2 c = λ _. refl
+abbrev μ-loop : tie.MeasureT-loop
+μ-loop book c k n all₀ f₀ all f = n - f
 
-mul-at : tie.Need-mul-at
-mul-at c = search needs
+facts-requires : tie.Need-facts-requires Inv-loop μ-loop
+facts-requires c κs = search needs
 
-add-at : tie.Need-add-at
-add-at c = search needs
+loop-holds : tie.Need-loop-holds Inv-loop μ-loop
+loop-holds c = search needs
 
-mul-result : tie.Need-mul-result
-mul-result c = search needs
+row-requires : tie.Need-row-requires Inv-loop μ-loop
+row-requires c κs = search needs
 
-shared-slice-read-result : tie.Need-shared-slice-read-result
-shared-slice-read-result c = search needs
+get-requires : tie.Need-get-requires Inv-loop μ-loop
+get-requires c κs = search needs
 
-returns-3 : tie.Need-returns-3
-returns-3 c = λ h. absurd (omega arith)
+share-requires : tie.Need-share-requires Inv-loop μ-loop
+share-requires c κs = search needs
 
-returns-4 : tie.Need-returns-4
-returns-4 c = λ _. refl
+wrapping-add-u64-requires : tie.Need-wrapping-add-u64-requires Inv-loop μ-loop
+wrapping-add-u64-requires c κs = search needs
+
+add-f : tie.Need-add-f Inv-loop μ-loop
+add-f c = search needs
+
+loop-less : tie.Need-loop-less Inv-loop μ-loop
+loop-less c = search needs
+
+loop-again : tie.Need-loop-again Inv-loop μ-loop
+loop-again c = search needs
+
+returns : tie.Need-returns Inv-loop μ-loop
+returns c = search needs
 
 pub column-spec : {M : Type 1} → statement M
 column-spec =
     tie.close
     (tie.spec
-    returns
-    returns-2
-    mul-at
-    add-at
-    mul-result
-    shared-slice-read-result
-    returns-3
-    returns-4)
+    Inv-loop
+    μ-loop
+    facts-requires
+    loop-holds
+    row-requires
+    get-requires
+    share-requires
+    wrapping-add-u64-requires
+    add-f
+    loop-less
+    loop-again
+    returns)

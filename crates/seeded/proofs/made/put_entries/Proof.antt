@@ -1,5 +1,6 @@
 -- `seeded::made::put_entries` is safe and ends.
 -- Assumes nothing.
+use Prim.Native.Nat.{_-_}
 use mathlib.Core.Path.{_≡_}
 use lib.ListN.{length}
 use borrow.Author.Needs.{needs}
@@ -7,22 +8,25 @@ use Rattle.seeded.proofs.made.put_entries.Statement.{statement}
 use Rattle.seeded.proofs.made.put_entries.Tie as tie
 
 abbrev Inv-loop : tie.InvT-loop
-Inv-loop state₀ s words₀ n c m₀ left₀ state words m left = (length state ≡ length state₀) × (length words ≡ length words₀)
+Inv-loop s words₀ c n p₀ i₀ words p i = length words ≡ length words₀
 
 abbrev μ-loop : tie.MeasureT-loop
-μ-loop state₀ s words₀ n c m₀ left₀ state words m left = left
-
-between-requires : tie.Need-between-requires Inv-loop μ-loop
-between-requires c κs = search needs
+μ-loop s words₀ c n p₀ i₀ words p i = n - i
 
 loop-holds : tie.Need-loop-holds Inv-loop μ-loop
 loop-holds c = search needs
 
-put-entry-requires : tie.Need-put-entry-requires Inv-loop μ-loop
-put-entry-requires c κs = search needs
+entry-requires : tie.Need-entry-requires Inv-loop μ-loop
+entry-requires c κs = search needs
 
-sub-left : tie.Need-sub-left Inv-loop μ-loop
-sub-left c = search needs
+fitting-requires : tie.Need-fitting-requires Inv-loop μ-loop
+fitting-requires c κs = search needs
+
+put-requires : tie.Need-put-requires Inv-loop μ-loop
+put-requires c κs = search needs
+
+add-i : tie.Need-add-i Inv-loop μ-loop
+add-i c = search needs
 
 loop-less : tie.Need-loop-less Inv-loop μ-loop
 loop-less c = search needs
@@ -33,9 +37,6 @@ loop-again c = search needs
 same-length : tie.Need-same-length Inv-loop μ-loop
 same-length c = search needs
 
-same-length-2 : tie.Need-same-length-2 Inv-loop μ-loop
-same-length-2 c = search needs
-
 returns : tie.Need-returns Inv-loop μ-loop
 returns c = search needs
 
@@ -45,12 +46,12 @@ put-entries-spec =
     (tie.spec
     Inv-loop
     μ-loop
-    between-requires
     loop-holds
-    put-entry-requires
-    sub-left
+    entry-requires
+    fitting-requires
+    put-requires
+    add-i
     loop-less
     loop-again
     same-length
-    same-length-2
     returns)

@@ -8,10 +8,10 @@ use Rattle.seeded.proofs.made.put_facts.Statement.{statement}
 use Rattle.seeded.proofs.made.put_facts.Tie as tie
 
 abbrev Inv-loop : tie.InvT-loop
-Inv-loop state₀ s words₀ n a most m₀ i₀ state words m i = (length state ≡ length state₀) × (length words ≡ length words₀)
+Inv-loop s words₀ a most p₀ i₀ words p i = length words ≡ length words₀
 
 abbrev μ-loop : tie.MeasureT-loop
-μ-loop state₀ s words₀ n a most m₀ i₀ state words m i = most - i
+μ-loop s words₀ a most p₀ i₀ words p i = most - i
 
 wrapping-add-u32-requires : tie.Need-wrapping-add-u32-requires Inv-loop μ-loop
 wrapping-add-u32-requires c κs = search needs
@@ -22,8 +22,14 @@ wrapping-add-u32-requires-2 c κs = search needs
 loop-holds : tie.Need-loop-holds Inv-loop μ-loop
 loop-holds c = search needs
 
-put-fact-requires : tie.Need-put-fact-requires Inv-loop μ-loop
-put-fact-requires c κs = search needs
+after-requires : tie.Need-after-requires Inv-loop μ-loop
+after-requires c κs = search needs
+
+fact-requires : tie.Need-fact-requires Inv-loop μ-loop
+fact-requires c κs = search needs
+
+put-requires : tie.Need-put-requires Inv-loop μ-loop
+put-requires c κs = search needs
 
 add-i : tie.Need-add-i Inv-loop μ-loop
 add-i c = search needs
@@ -37,9 +43,6 @@ loop-again c = search needs
 same-length : tie.Need-same-length Inv-loop μ-loop
 same-length c = search needs
 
-same-length-2 : tie.Need-same-length-2 Inv-loop μ-loop
-same-length-2 c = search needs
-
 returns : tie.Need-returns Inv-loop μ-loop
 returns c = search needs
 
@@ -52,10 +55,11 @@ put-facts-spec =
     wrapping-add-u32-requires
     wrapping-add-u32-requires-2
     loop-holds
-    put-fact-requires
+    after-requires
+    fact-requires
+    put-requires
     add-i
     loop-less
     loop-again
     same-length
-    same-length-2
     returns)

@@ -8,10 +8,10 @@ use Rattle.seeded.proofs.made.put_sequences.Statement.{statement}
 use Rattle.seeded.proofs.made.put_sequences.Tie as tie
 
 abbrev Inv-loop : tie.InvT-loop
-Inv-loop state₀ s words₀ n sequences m₀ c₀ state words m c = (length state ≡ length state₀) × (length words ≡ length words₀)
+Inv-loop s words₀ sequences p₀ c₀ words p c = length words ≡ length words₀
 
 abbrev μ-loop : tie.MeasureT-loop
-μ-loop state₀ s words₀ n sequences m₀ c₀ state words m c = sequences - c
+μ-loop s words₀ sequences p₀ c₀ words p c = sequences - c
 
 loop-holds : tie.Need-loop-holds Inv-loop μ-loop
 loop-holds c = search needs
@@ -31,9 +31,6 @@ loop-again c = search needs
 same-length : tie.Need-same-length Inv-loop μ-loop
 same-length c = search needs
 
-same-length-2 : tie.Need-same-length-2 Inv-loop μ-loop
-same-length-2 c = search needs
-
 returns : tie.Need-returns Inv-loop μ-loop
 returns c = search needs
 
@@ -49,5 +46,4 @@ put-sequences-spec =
     loop-less
     loop-again
     same-length
-    same-length-2
     returns)

@@ -8,13 +8,16 @@ use Rattle.seeded.proofs.made.put_steps.Statement.{statement}
 use Rattle.seeded.proofs.made.put_steps.Tie as tie
 
 abbrev Inv-loop : tie.InvT-loop
-Inv-loop state₀ s words₀ n steps m₀ a₀ state words m a = (length state ≡ length state₀) × (length words ≡ length words₀)
+Inv-loop s words₀ steps p₀ a₀ words p a = length words ≡ length words₀
 
 abbrev μ-loop : tie.MeasureT-loop
-μ-loop state₀ s words₀ n steps m₀ a₀ state words m a = steps - a
+μ-loop s words₀ steps p₀ a₀ words p a = steps - a
 
 loop-holds : tie.Need-loop-holds Inv-loop μ-loop
 loop-holds c = search needs
+
+word-requires : tie.Need-word-requires Inv-loop μ-loop
+word-requires c κs = search needs
 
 put-requires : tie.Need-put-requires Inv-loop μ-loop
 put-requires c κs = search needs
@@ -34,9 +37,6 @@ loop-again c = search needs
 same-length : tie.Need-same-length Inv-loop μ-loop
 same-length c = search needs
 
-same-length-2 : tie.Need-same-length-2 Inv-loop μ-loop
-same-length-2 c = search needs
-
 returns : tie.Need-returns Inv-loop μ-loop
 returns c = search needs
 
@@ -47,11 +47,11 @@ put-steps-spec =
     Inv-loop
     μ-loop
     loop-holds
+    word-requires
     put-requires
     put-facts-requires
     add-a
     loop-less
     loop-again
     same-length
-    same-length-2
     returns)
