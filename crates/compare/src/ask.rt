@@ -12,10 +12,10 @@ use algorithms::effects;
 use algorithms::preconditions;
 use algorithms::sets::has;
 use algorithms::sets::word;
+use chain_words::answer::Chained;
 use image::word::is_kind;
 use judge::links;
 use judge::rounds;
-use link::answer::Chained;
 
 // What each word of the chain area holds before.
 const BEFORE: u32 = 0x5a5a5a5a;

@@ -5,7 +5,7 @@ use crate::libraries::CHOICES;
 use crate::libraries::L;
 use crate::row::Tally;
 use crate::row::long;
-use link::answer::Chained;
+use chain_words::answer::Chained;
 ghost use mathlib.Core.Path.{_≡_};
 ghost use Prim.Native.Nat.{_≤_};
 ghost use lib.ListN.{length};
