@@ -1,13 +1,13 @@
 -- Laws of the chain call: what an accepted image and numbers in range get; that an area of two words a sequence is never too small; and
 -- the area after the call.
-use Prim.Native.Nat.{ℕ, zero, suc, _*_, _%_, _≤_, _<_}
+use Prim.Native.Nat.{ℕ, zero, suc, _+_, _*_, _%_, _≤_, _<_}
 use mathlib.Core.Path.{_≡_, refl, sym, _∙_, ap}
-use mathlib.Core.Bool.{Bool, true, false, cond}
+use mathlib.Core.Bool.{Bool, true, false, cond, _&&_, true≢false}
 use mathlib.Core.List.{List}
 use native.Mathlib.Omega.{arith}
 use lib.ListN.{length, drop, length-append, length-drop}
 use lib.Dec.{leb, ltb}
-use borrow.Author.Tests.{le-leb, lt-leb, lt-ltb, le-ltb, leb-true, ltb-true}
+use borrow.Author.Tests.{le-leb, lt-ltb, leb-true, ltb-true}
 use Rattle.reader.specs.Checked.{checked}
 use Rattle.library.specs.Library.{libraryOf}
 use Rattle.image.specs.declared.answer.Head.{Head}
@@ -19,12 +19,16 @@ use Rattle.library.proofs.Accepted.{counted}
 use Rattle.runs.specs.Run.{Item, Run}
 use Rattle.runs.specs.Touch.{questionOf, HasOutcome}
 use Rattle.runs.specs.Touch as touch
-use Rattle.rank.specs.Link.{Chain, chainWords}
+use Rattle.runs.specs.Tests.{and-parts}
+use Rattle.chain_words.specs.Answer.{told}
+use Rattle.chain_words.specs.Asked.{inRange, outOfRange, questionAsked}
+use Rattle.chain_words.specs.declared.asked.Asked.{Asked}
+use Rattle.chain_words.specs.Link.{Chain, chainWords}
 use Rattle.rank.specs.Answer.{Answer, none, shown, answer}
 use Rattle.rank.specs.Shows.{Shows}
-use Rattle.chain.specs.Described.{questionBy}
-use Rattle.link.specs.Reply.{Answered, Called}
-use Rattle.link.specs.declared.answer.Chained.{Chained}
+use Rattle.chain.specs.Described.{FindAsked, questionBy}
+use Rattle.link.specs.Reply.{Answered, Called, chainedAs}
+use Rattle.chain_words.specs.declared.answer.Chained.{Chained}
 use Rattle.rank.specs.Call.{Reply, refused, answered, inArea, afterCheck, chained, areaAfter}
 use Rattle.rank.proofs.Words.{words-length}
 use Rattle.rank.proofs.Answers.{answer-shows, answer-none}
@@ -143,38 +147,6 @@ call-answered image c q f room a e = go (checked image) refl e
 
 -- ---- what the code does comes to the call
 
-module _ (image : List ℕ) (h : Head) (c q f : ℕ) (area : List ℕ) (accepted : checked image ≡ Accepted h) where
-  -- 9, 10 and 11, in this order
-  pub call-sequence : h .sequences ≤ c → Called image c q f area (Chained.Refused Sequence) area
-  unfolding chained
-  call-sequence le =
-      let e = le-ltb c (h .sequences) le in
-      record { answer = rw (accepted, e); area = rw (accepted, e) }
-
-  pub call-question : c < h .sequences → 5 < q → Called image c q f area (Chained.Refused Question) area
-  unfolding chained
-  call-question lt high =
-      let e = lt-ltb c (h .sequences) lt in
-      let e′ = lt-leb q 5 high in
-      record { answer = rw (accepted, e, e′); area = rw (accepted, e, e′) }
-
-  pub call-fact : c < h .sequences → q ≤ 5 → h .facts ≤ f → Called image c q f area (Chained.Refused Fact) area
-  unfolding chained
-  call-fact lt low le =
-      let e = lt-ltb c (h .sequences) lt in
-      let e′ = le-leb q 5 low in
-      let e″ = le-ltb f (h .facts) le in
-      record { answer = rw (accepted, e, e′, e″); area = rw (accepted, e, e′, e″) }
-
-  -- an answer in its area
-  pub call-found : (Q : touch.Question) (found : Chained) (after : List ℕ) → c < h .sequences → q ≤ 5 → f < h .facts → Q ≡ questionOf q
-      → Answered (answer (libraryOf image) Q c f) area found after → Called image c q f area found after
-  call-found Q found after sequence question fact same told =
-      let asked =
-      call-asked image h c q f (length area) accepted sequence question fact
-      ∙ ap (λ (x : touch.Question). inArea (length area) (answer (libraryOf image) x c f)) (sym same) in
-      record { answer = rw asked (told .answer); area = rw asked (told .area) }
-
 -- 1 to 7
 pub call-refused : (image : List ℕ) (r : Refusal) (c q f : ℕ) (area : List ℕ) → checked image ≡ Refused r → Called image c q f area (Chained.Refused r) area
 unfolding chained
@@ -189,3 +161,56 @@ question-by (suc (suc (suc zero))) fact no-rank l = refl
 question-by (suc (suc (suc (suc zero)))) fact no-rank l = refl
 question-by (suc (suc (suc (suc (suc zero))))) fact no-rank l = refl
 question-by (suc (suc (suc (suc (suc (suc q)))))) fact no-rank l = absurd (omega arith)
+
+-- the tests of the three numbers
+pub in-range : (h : Head) (c q f : ℕ) → inRange h c q f ≡ true → (c < h .sequences) × (q ≤ 5) × (f < h .facts)
+in-range h c q f e =
+    let two = and-parts (ltb c (h .sequences) && leb q 5) (ltb f (h .facts)) e in
+    let one = and-parts (ltb c (h .sequences)) (leb q 5) (two .0) in
+    (ltb-true c (h .sequences) (one .0), leb-true q 5 (one .1), ltb-true f (h .facts) (two .1))
+
+by-tests : (a b d : Bool) (reply : Reply) → ((a && b) && d) ≡ false
+    → cond a (cond b (cond d reply (refused Fact)) (refused Question)) (refused Sequence) ≡ refused (cond a (cond b Fact Question) Sequence)
+by-tests false b d reply e = refl
+by-tests true false d reply e = refl
+by-tests true true false reply e = refl
+by-tests true true true reply e = absurd (true≢false e)
+
+module _ (image : List ℕ) (h : Head) (c q f : ℕ) (area : List ℕ) (accepted : checked image ≡ Accepted h) where
+  -- 9, 10 and 11, in this order
+  pub call-out : (r : Refusal) → inRange h c q f ≡ false → r ≡ outOfRange h c q → Called image c q f area (Chained.Refused r) area
+  unfolding chained
+  call-out r out told =
+      let reply = inArea (length area) (answer (libraryOf image) (questionOf q) c f) in
+      let same : chained image c q f (length area) ≡ refused (outOfRange h c q) =
+      ap (λ (k : Checked). afterCheck k image c q f (length area)) accepted
+      ∙ by-tests (ltb c (h .sequences)) (leb q 5) (ltb f (h .facts)) reply out in
+      record {
+        answer = ap Chained.Refused told ∙ ap chainedAs (sym same);
+        area = ap (λ (k : Reply). areaAfter k area) (sym same);
+      }
+
+  -- the question that the numbers are
+  module _ (within : inRange h c q f ≡ true) (p : Asked) (read : p ≡ questionAsked h q f) where
+    pub find-asked : FindAsked h image p c
+    find-asked =
+        let low = in-range h c q f within in
+        record {
+          accepted = accepted;
+          sequence = low .0;
+          mark = rw read (omega arith);
+          fact = rw read (low .2);
+          none = ap (λ (x : Asked). x .none) read;
+        }
+
+    -- its answer in the area
+    pub call-told : (rank : ℕ) (found : Chained) (after : List ℕ) → found ≡ told p rank (length area)
+        → Answered (answer (libraryOf image) (questionBy p) c (p .fact)) area (told p rank (length area)) after → Called image c q f area found after
+    call-told rank found after is done =
+        let low = in-range h c q f within in
+        let same : answer (libraryOf image) (questionBy p) c (p .fact) ≡ answer (libraryOf image) (questionOf q) c f =
+        ap (λ (x : Asked). answer (libraryOf image) (questionBy x) c (x .fact)) read
+        ∙ ap (λ (x : touch.Question). answer (libraryOf image) x c f) (question-by q f (h .sequences + 2) (low .1)) in
+        let asked : chained image c q f (length area) ≡ inArea (length area) (answer (libraryOf image) (questionBy p) c (p .fact)) =
+        call-asked image h c q f (length area) accepted (low .0) (low .1) (low .2) ∙ ap (inArea (length area)) (sym same) in
+        record { answer = is ∙ done .answer ∙ ap chainedAs (sym asked); area = done .area ∙ ap (λ (k : Reply). areaAfter k area) (sym asked) }

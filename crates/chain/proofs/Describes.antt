@@ -20,16 +20,16 @@ use Rattle.runs.specs.Run.{Item, alternativesOf}
 use Rattle.runs.specs.Execution.{noStep, stepOf}
 use Rattle.runs.specs.Touch.{Side, last, first, Mark, present, absent, untouched, Question, touch, itemTouch}
 use Rattle.runs.specs.Algebra.{sameMark}
-use Rattle.rank.specs.Link.{Link, touchLink, untouchedLink, Chain}
+use Rattle.chain_words.specs.Link.{Link, touchLink, untouchedLink, Chain}
 use Rattle.rank.specs.Scan.{every}
 use Rattle.rank.specs.Stands.{entryAt}
-use Rattle.rank.specs.Ranks.{Ranks, Reached, Linked, Closed, unranked, entryRank, entryPasses, depthLook, passLook, hasMark, canStay, canRun, aheadOf, behindOf, touchLook, untouchedLook}
+use Rattle.rank.specs.Ranks.{Ranks, Reached, Linked, Closed, unranked, entryRank, entryPasses, depthLook, passLook, hasMark, aheadOf, behindOf, touchLook, untouchedLook}
 use Rattle.rank.specs.Answer.{Answer, none, shown, chosenAlternative, followed, linksFrom, touchAnswer, untouchedAnswer}
 use Rattle.rank.specs.Walk.{linkFrom, alternativeFrom, depthFrom, fewestFrom}
 use Rattle.rank.specs.Tables.{entryNumber, inRanks, rankIn, passIn, depthIn, everyIn, fewestIn, lookIn, alternativesAt, stepMark, markIn, stepRank, Stepped}
 use Rattle.link.specs.Choice.{linkIn, linkEntry, linkAt, linksIn, quietLink, answerIn}
-use Rattle.chain.specs.Described.{isFirst, markNumber, sideBy, Asks, Masked, Placed, StepsBy, Described}
-use Rattle.rank.specs.declared.entry.Asked.{Asked}
+use Rattle.chain.specs.Described.{isFirst, markNumber, Asks, Masked, Placed, StepsBy, Described}
+use Rattle.chain_words.specs.declared.asked.Asked.{Asked}
 use Rattle.rank.proofs.Depth.{step-rank, step-passes}
 use Rattle.rank.proofs.Links.{entriesOf, chosenAt, positionAt, chosen, chosen-rank, ranked-listed}
 use Rattle.rank.proofs.Scan.{getD-inside}
@@ -176,11 +176,14 @@ module _ (L : Library) (q : Asked) (Q : Question) (asks : Asks L q Q) where
     lookBy T n b d es = cond b (depthIn n T es) (cond d (everyIn n T es) (fewestIn n ahead behind T es))
 
     -- the depth, by any test of the steps
+    depth-is : (test : Item → Bool) (T : List ℕ) → StepsBy (unranked L) 0 test T → depthIn (unranked L) T ≡ depthLook (unranked L) test (inRanks (unranked L) T)
+    depth-is test T steps =
+        fun-ext (λ es. ap (λ (r : Entry → ℕ). depthFrom r 0 es) (rank-is (unranked L) 0 test T steps) ∙ sym (depth-from (unranked L) test (inRanks (unranked L) T) es))
+
     pub depth-look : Q .mark ≡ untouched → (test : Item → Bool) (T : List ℕ) → StepsBy (unranked L) 0 test T
         → lookIn q ahead behind T ≡ depthLook (unranked L) test (inRanks (unranked L) T)
     depth-look quiet test T steps =
-        ap₂ (λ (n : ℕ) (b : Bool). lookBy T n b (eqb (q .mark) 3)) (asks .none) (two-is true (quiet-number (Q .mark) quiet))
-        ∙ fun-ext (λ es. ap (λ (r : Entry → ℕ). depthFrom r 0 es) (rank-is (unranked L) 0 test T steps) ∙ sym (depth-from (unranked L) test (inRanks (unranked L) T) es))
+        ap₂ (λ (n : ℕ) (b : Bool). lookBy T n b (eqb (q .mark) 3)) (asks .none) (two-is true (quiet-number (Q .mark) quiet)) ∙ depth-is test T steps
 
     -- the links
     pub touch-look : Q .mark ≢ untouched → Described L Q (q .fact) ahead behind → (T : List ℕ) → StepsBy (unranked L) (unranked L) (hasMark L Q (q .fact)) T
@@ -212,11 +215,12 @@ module _ (L : Library) (q : Asked) (Q : Question) (asks : Asks L q Q) where
       unfolding answerIn quietLink untouchedAnswer
       quiet-answer quiet steps c lt =
           let chosen = chosenAlternative (L .sequences) (untouchedLook L Q f) T (pred (T c)) c in
-          let alternative : alternativeFrom (lookIn q ahead behind ranks) (pred (getD ranks c (q .none))) 0 (alternativesAt part places c) ≡ chosen =
-          ap₂ (λ (r : ℕ) (alts : List Alternative). alternativeFrom (lookIn q ahead behind ranks) (pred r) 0 alts) (own c lt) (placed c lt)
-          ∙ ap (λ (v : Alternative → ℕ). alternativeFrom v (pred (T c)) 0 (alternativesOf (L .sequences) c)) (depth-look quiet (hasMark L Q f) ranks steps)
+          let alternative : alternativeFrom (depthIn (q .none) ranks) (pred (getD ranks c (q .none))) 0 (alternativesAt part places c) ≡ chosen =
+          ap₂ (λ (r : ℕ) (alts : List Alternative). alternativeFrom (depthIn (q .none) ranks) (pred r) 0 alts) (own c lt) (placed c lt)
+          ∙ ap (λ (v : Alternative → ℕ). alternativeFrom v (pred (T c)) 0 (alternativesOf (L .sequences) c))
+          (ap (λ (n : ℕ). depthIn n ranks) (asks .none) ∙ depth-is (hasMark L Q f) ranks steps)
           ∙ sym (alternative-from (L .sequences) (untouchedLook L Q f) T (pred (T c)) c) in
-          ap (λ (b : Bool). cond (ltb (getD ranks c (q .none)) (q .none)) (shown (cond b (quietLink q ahead behind ranks part places c ∷ []) (linksIn q ahead behind ranks part places (getD ranks c (q .none)) c))) none)
+          ap (λ (b : Bool). cond (ltb (getD ranks c (q .none)) (q .none)) (shown (cond b (quietLink (q .none) ranks part places c ∷ []) (linksIn (q .none) ahead behind ranks part places (getD ranks c (q .none)) c))) none)
           (two-is true (quiet-number (Q .mark) quiet))
           ∙ ap₂ (λ (r i : ℕ). cond (ltb r (q .none)) (shown (untouchedLink c i ∷ [])) none) (own c lt) alternative
           ∙ ap (λ (n : ℕ). cond (ltb (T c) n) (shown (untouchedLink c chosen ∷ [])) none) (asks .none)
@@ -226,7 +230,7 @@ module _ (L : Library) (q : Asked) (Q : Question) (asks : Asks L q Q) where
       module _ (touch : Q .mark ≢ untouched) (described : Described L Q f ahead behind) (steps : StepsBy (unranked L) (unranked L) (hasMark L Q f) ranks)
           (reached : Reached (Linked L Q f) (unranked L) T) (closed : Closed (L .sequences) (touchLook L Q f) T) where
         link-is : (k c : ℕ) → k < unranked L → c < length (L .sequences)
-            → linkAt q ahead behind ranks part places k c ≡ touchLink c (chosenAt L Q f (unranked L) T c k) (positionAt L Q f (unranked L) T c k)
+            → linkAt (q .none) ahead behind ranks part places k c ≡ touchLink c (chosenAt L Q f (unranked L) T c k) (positionAt L Q f (unranked L) T c k)
         unfolding linkIn
         link-is k c low lt =
             let m = unranked L in
@@ -237,8 +241,8 @@ module _ (L : Library) (q : Asked) (Q : Question) (asks : Asks L q Q) where
 
         -- the links after the one that is chosen
         after-is : (k : ℕ) → k < unranked L → (e : Entry) → entryRank (unranked L) (hasMark L Q f) T e ≡ k
-            → ((d : ℕ) → T d ≡ k → linksIn q ahead behind ranks part places k d ≡ linksFrom L Q f T k d)
-            → linksIn q ahead behind ranks part places k (entryNumber e) ≡ followed e (λ d. linksFrom L Q f T k d)
+            → ((d : ℕ) → T d ≡ k → linksIn (q .none) ahead behind ranks part places k d ≡ linksFrom L Q f T k d)
+            → linksIn (q .none) ahead behind ranks part places k (entryNumber e) ≡ followed e (λ d. linksFrom L Q f T k d)
         unfolding linksIn linksFrom
         after-is zero low (step a) e rest = refl
         after-is (suc k) low (step a) e rest =
@@ -246,7 +250,7 @@ module _ (L : Library) (q : Asked) (Q : Question) (asks : Asks L q Q) where
             absurd (omega arith)
         after-is k low (call d) e rest = rest d e
 
-        links-are : (k c : ℕ) → T c ≡ k → k < unranked L → linksIn q ahead behind ranks part places k c ≡ linksFrom L Q f T k c
+        links-are : (k c : ℕ) → T c ≡ k → k < unranked L → linksIn (q .none) ahead behind ranks part places k c ≡ linksFrom L Q f T k c
         unfolding linksIn linksFrom
         links-are zero c e lt = refl
         links-are (suc k) c e lt =
@@ -256,35 +260,20 @@ module _ (L : Library) (q : Asked) (Q : Question) (asks : Asks L q Q) where
             let link = link-is k c (omega arith) listed in
             let rank =
             chosen-rank L Q f (unranked L) touch T reached closed c k i p e lt (chosen L Q f (unranked L) touch T reached closed c k e lt) in
-            ap (λ (l : Link). l ∷ linksIn q ahead behind ranks part places k (linkEntry (alternativesAt part places c) l)) link
-            ∙ ap (λ (alts : List Alternative). touchLink c i p ∷ linksIn q ahead behind ranks part places k (entryNumber (entryAt (getD alts i []) p))) (placed c listed)
+            ap (λ (l : Link). l ∷ linksIn (q .none) ahead behind ranks part places k (linkEntry (alternativesAt part places c) l)) link
+            ∙ ap (λ (alts : List Alternative). touchLink c i p ∷ linksIn (q .none) ahead behind ranks part places k (entryNumber (entryAt (getD alts i []) p))) (placed c listed)
             ∙ ap (λ (ls : Chain). touchLink c i p ∷ ls)
             (after-is k (omega arith) (entryAt (entriesOf L c i) p) rank (λ d same. links-are k d same (omega arith)))
 
         pub touch-answer : (c : ℕ) → c < length (L .sequences) → answerIn q ahead behind ranks part places c ≡ touchAnswer L Q f T c
         unfolding answerIn touchAnswer
         touch-answer c lt =
-            ap (λ (b : Bool). cond (ltb (getD ranks c (q .none)) (q .none)) (shown (cond b (quietLink q ahead behind ranks part places c ∷ []) (linksIn q ahead behind ranks part places (getD ranks c (q .none)) c))) none)
+            ap (λ (b : Bool). cond (ltb (getD ranks c (q .none)) (q .none)) (shown (cond b (quietLink (q .none) ranks part places c ∷ []) (linksIn (q .none) ahead behind ranks part places (getD ranks c (q .none)) c))) none)
             (two-is false (touch-number (Q .mark) touch))
-            ∙ ap₂ (λ (r n : ℕ). cond (ltb r n) (shown (linksIn q ahead behind ranks part places r c)) none) (own c lt) (asks .none)
+            ∙ ap₂ (λ (r n : ℕ). cond (ltb r n) (shown (linksIn (q .none) ahead behind ranks part places r c)) none) (own c lt) (asks .none)
             ∙ go (ltb (T c) (unranked L)) refl
           where
             go : (b : Bool) → ltb (T c) (unranked L) ≡ b
-                → cond b (shown (linksIn q ahead behind ranks part places (T c) c)) none ≡ elim b [ true ↦ shown (linksFrom L Q f T (T c) c) | false ↦ none ]
+                → cond b (shown (linksIn (q .none) ahead behind ranks part places (T c) c)) none ≡ elim b [ true ↦ shown (linksFrom L Q f T (T c) c) | false ↦ none ]
             go true e = ap shown (links-are (T c) c refl (ltb-true (T c) (unranked L) e))
             go false e = refl
-
--- what the two tables of depths say of the entries ahead of a position and of those behind it, by the side
-pub described-by : (L : Library) (Q : Question) (f : ℕ) (stays runs : List ℕ) → ((e : Entry) → passIn (unranked L) stays e ≡ canStay L Q f e)
-    → ((e : Entry) → passIn (unranked L) runs e ≡ canRun L Q f e) → (b : Bool) → Q .side ≡ sideBy b
-    → Described L Q f (cond b stays runs) (cond b runs stays)
-described-by L Q f stays runs stay run false side =
-    record {
-      by-ahead = λ e. run e ∙ ap (λ (s : Side). aheadOf L Q f s e) (sym side);
-      by-behind = λ e. stay e ∙ ap (λ (s : Side). behindOf L Q f s e) (sym side);
-    }
-described-by L Q f stays runs stay run true side =
-    record {
-      by-ahead = λ e. stay e ∙ ap (λ (s : Side). aheadOf L Q f s e) (sym side);
-      by-behind = λ e. run e ∙ ap (λ (s : Side). behindOf L Q f s e) (sym side);
-    }

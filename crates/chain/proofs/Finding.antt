@@ -1,12 +1,12 @@
 -- The tables that are made of an accepted image describe its library, and the answer by settled ranks is the library's.
 -- Assumes nothing.
-use Prim.Native.Nat.{ℕ, zero, suc, _+_, _*_, _≤_, _<_}
-use native.Mathlib.Decide.{decLt}
+use Prim.Native.Nat.{ℕ, zero, suc, _+_, _*_, _^_, _≤_, _<_}
+use native.Mathlib.Decide.{decLt, ℕ-discrete}
 use native.Mathlib.Numerals.{add-one}
 use native.Mathlib.Omega.{arith}
 use mathlib.Core.Path.{_≡_, refl, sym, ap, _∙_, subst}
 use mathlib.Core.Logic.{_≢_, _↔_}
-use mathlib.Core.Bool.{Bool, true, false, cond}
+use mathlib.Core.Bool.{Bool, true, false, cond, not}
 use mathlib.Core.List.{List, [], _∷_, _++_}
 use lib.ListN.{length, getD, take, drop, replicate, length-replicate, List·getD-append, List·getD-eq-default}
 use lib.Seq.{getD-drop, getD-take, ext-getD, length-take-le}
@@ -22,7 +22,7 @@ use Rattle.library.proofs.Accepted.{faultless, parts, counted, library-is}
 use Rattle.library.proofs.Lookup as lookup
 use Rattle.library.proofs.Lookup.{masks-length, row-at, places-length, place-at}
 use Rattle.library.proofs.Rows.{all-at}
-use Rattle.visits.specs.Passes.{Blank}
+use Rattle.visits.specs.Passes.{Blank, Complete}
 use Rattle.outcome.specs.Area.{TableAsked, Prepared, libraryIn}
 use Rattle.runs.specs.Execution.{noStep, stepOf}
 use Rattle.runs.specs.Possible.{hasRun, possibleOutcome}
@@ -33,19 +33,19 @@ use Rattle.runs.proofs.Outcome.{present≢untouched, absent≢untouched}
 use Rattle.runs.specs.Touch.{Mark, present, absent, untouched, Question, untouchedOn, lastSet}
 use Rattle.runs.specs.Algebra.{sameMark}
 use Rattle.rank.specs.Scan.{every}
-use Rattle.rank.specs.Ranks.{Look, passLook, unranked, entryPasses, hasMark, canStay, canRun, touchLook, untouchedLook}
+use Rattle.rank.specs.Ranks.{Look, passLook, unranked, entryPasses, hasMark, canStay, canRun, aheadOf, behindOf, touchLook, untouchedLook}
 use Rattle.rank.specs.Answer.{answer, ranksIn}
 use Rattle.rank.specs.Visits.{Visits, Settled}
 use Rattle.rank.specs.Tables.{inRanks, passIn, lookIn, Rankable, Readable, Visitable, Steppable, Ranked, alternativesAt}
 use Rattle.link.specs.Choice.{Choosable, answerIn}
-use Rattle.chain.specs.Described.{Asks, Masked, Placed, StepsBy, FindAsked, Made, Unranked, isFirst, markNumber, sideBy, markBy, questionBy}
-use Rattle.rank.specs.declared.entry.Asked.{Asked}
+use Rattle.chain.specs.Described.{Asks, Masked, Placed, StepsBy, Described, FindAsked, Made, Unranked, Findable, Marked, quietly, whether, isFirst, markNumber, sideBy, markBy, questionBy}
+use Rattle.chain_words.specs.declared.asked.Asked.{Asked}
 use Rattle.rank.proofs.Passes.{quiet-run, any-run}
 use Rattle.chain.proofs.Whether.{Passable, pass-reached, pass-exact}
 use Rattle.rank.proofs.Ranks.{start-unranked}
 use Rattle.rank.proofs.Visits.{settled-good, touch-good, settled-touch, settled-untouched}
-use Rattle.rank.proofs.Settling.{pass-kept, pass-visits, pass-settled}
-use Rattle.chain.proofs.Describes.{described-by, steps-marked, steps-any, pass-is, pass-look, depth-look, touch-look, touch-answer, quiet-answer}
+use Rattle.rank.proofs.Settling.{rankable-at, pass-kept, pass-visits, pass-settled}
+use Rattle.chain.proofs.Describes.{steps-marked, steps-any, pass-is, pass-look, depth-look, touch-look, touch-answer, quiet-answer}
 
 -- past the words of a list there is nothing
 blank-after : (xs rest : List ℕ) (k : ℕ) → Blank rest → length xs ≤ k → getD (xs ++ rest) k 0 ≡ 0
@@ -111,13 +111,6 @@ module _ (image : List ℕ) (h : Head) (accepted : checked image ≡ Accepted h)
       prepare-asked h first part (take (8 * h .sequences) area) ms zeros zeros (fill-asked h image area asked first part p q)
       (record { blank = blank; wide = wide; narrow = refl; long = refl })
 
--- the same question for "untouched", and where only a rank counts
-abbrev pub quietly : Asked → Asked
-quietly q = record { first = q .first; mark = 2; fact = q .fact; none = q .none }
-
-abbrev pub whether : Asked → Asked
-whether q = record { first = q .first; mark = 3; fact = q .fact; none = q .none }
-
 touch-asked : (k : ℕ) → k ≤ 2 → k ≢ 2 → markBy k ≢ untouched
 touch-asked zero l t = present≢untouched
 touch-asked (suc zero) l t = absent≢untouched
@@ -155,6 +148,54 @@ prefix-unranked h q m l =
                 (omega (arith, prefix-long (q .none + h .steps) m (q .none) l))
           ];
     }
+
+-- ---- what each part of the search asks, by what is asked of the tables
+
+module _ {q : Asked} {n : ℕ} {masks ahead behind links part places order : List ℕ} (asked : Findable q n masks ahead behind links part places order) where
+  visited : (T A B : List ℕ) → length T ≡ length links → length A ≡ length links → length B ≡ length links → Readable (q .none) A B T part
+  visited T A B t a b =
+      record { by-ahead = rankable-at A a (asked .rankable); by-behind = rankable-at B b (asked .rankable); by-ranks = rankable-at T t (asked .rankable) }
+
+  -- to mark the entries
+  pub mark-asked : (T : List ℕ) → length T ≡ length links
+      → Steppable (quietly q) masks T × Visitable (whether q) n links links T part places × Complete order n
+  mark-asked T long = (
+    record { fact = asked .steppable .fact; sequences = omega (arith, asked .steppable .sequences); masked = omega (arith, asked .steppable .masked) },
+    record { readable = visited T links links long refl refl; ranked = omega (arith, asked .ranked); placed = asked .placed; within = λ c l. asked .opened .within c },
+    asked .complete,
+  )
+
+  -- to rank the sequences by the question
+  pub rank-asked : Steppable q masks links × Visitable q n ahead behind links part places × Complete order n
+  rank-asked = (
+    asked .steppable,
+    record { readable = visited links ahead behind refl (asked .ahead-long) (asked .behind-long); ranked = asked .ranked; placed = asked .placed; within = λ c l. asked .opened .within c },
+    asked .complete,
+  )
+
+  -- to write the chain
+  pub write-asked : (T : List ℕ) → length T ≡ length links → (c : ℕ) → c < n
+      → Choosable (q .none) ahead behind T part places × (c < 2 ^ 28) × (c < length T)
+  write-asked T long c l = (
+    record { readable = visited T ahead behind long (asked .ahead-long) (asked .behind-long); opened = asked .opened },
+    omega (arith, asked .few),
+    omega (arith, asked .ranked),
+  )
+
+  -- other tables of the same length
+  pub findable-at : (A B : List ℕ) → length A ≡ length ahead → length B ≡ length behind → Findable q n masks A B links part places order
+  findable-at A B a b =
+      record {
+        steppable = asked .steppable;
+        rankable = asked .rankable;
+        ahead-long = a ∙ asked .ahead-long;
+        behind-long = b ∙ asked .behind-long;
+        few = asked .few;
+        ranked = asked .ranked;
+        placed = asked .placed;
+        opened = asked .opened;
+        complete = asked .complete;
+      }
 
 module _ (image : List ℕ) (h : Head) (accepted : checked image ≡ Accepted h) (ms ps : List ℕ) (made : Made image h ms ps) (part : List ℕ)
     (sequences : part ≡ sequencesPart image) where
@@ -206,43 +247,36 @@ module _ (image : List ℕ) (h : Head) (accepted : checked image ≡ Accepted h)
               record { step = λ k. omega (arith, w .step k); sequence = λ k. (omega (arith, w .sequence k), omega (arith, w .sequence k)) };
         }
 
-    pub tables-steppable : (T : List ℕ) → length T ≡ q .none + h .steps → Steppable q ms T
-    tables-steppable T long =
+    pub tables-findable : (ahead behind links order : List ℕ) → length ahead ≡ q .none + h .steps → length behind ≡ q .none + h .steps
+        → length links ≡ q .none + h .steps → 0 < h .sequences → Complete order (h .sequences) → Findable q (h .sequences) ms ahead behind links part ps order
+    tables-findable ahead behind links order a-long b-long long some complete =
+        let count = opened-is in
         record {
-          fact = omega (arith, faultless image h accepted .facts-high);
-          sequences = omega arith;
-          masked = omega (arith, made .wide);
+          steppable =
+              record {
+                fact = omega (arith, faultless image h accepted .facts-high);
+                sequences = omega arith;
+                masked = omega (arith, made .wide);
+              };
+          rankable = tables-rankable links long;
+          ahead-long = a-long ∙ sym long;
+          behind-long = b-long ∙ sym long;
+          few = few-sequences image h accepted;
+          ranked = omega arith;
+          placed = omega (arith, faultless image h accepted .sequences-high, made .narrow);
+          opened =
+              record {
+                within = λ c.
+                    elim (decLt c (h .sequences)) [
+                      | yes l ↦ place-is c l .within
+                      | no l ↦
+                          let first = place-is 0 some .within in
+                          omega (arith, ap (λ (x : List ℕ). getD x c 0) places-are, blank-after (placesFrom 0 part) (made .past-places) c (made .blank-places) (omega (arith, places-length 0 part)))
+                    ];
+                short = omega (arith, ap length sequences, parts image h accepted .sequences-short);
+              };
+          complete = complete;
         }
-
-    module _ (ahead behind ranks : List ℕ) (a-long : length ahead ≡ q .none + h .steps) (b-long : length behind ≡ q .none + h .steps)
-        (r-long : length ranks ≡ q .none + h .steps) where
-      tables-readable : Readable (q .none) ahead behind ranks part
-      tables-readable =
-          record { by-ahead = tables-rankable ahead a-long; by-behind = tables-rankable behind b-long; by-ranks = tables-rankable ranks r-long }
-
-      pub tables-visitable : Visitable q (h .sequences) ahead behind ranks part ps
-      tables-visitable =
-          record {
-            readable = tables-readable;
-            ranked = omega arith;
-            placed = omega (arith, faultless image h accepted .sequences-high, made .narrow);
-            within = λ c l. place-is c l .within;
-          }
-
-      pub tables-choosable : 0 < h .sequences → Choosable q ahead behind ranks part ps
-      tables-choosable some =
-          let count = opened-is in
-          record {
-            readable = tables-readable;
-            within = λ c.
-                elim (decLt c (h .sequences)) [
-                  | yes l ↦ place-is c l .within
-                  | no l ↦
-                      let first = place-is 0 some .within in
-                      omega (arith, ap (λ (x : List ℕ). getD x c 0) places-are, blank-after (placesFrom 0 part) (made .past-places) c (made .blank-places) (omega (arith, places-length 0 part)))
-                ];
-            short = omega (arith, ap length sequences, parts image h accepted .sequences-short);
-          }
 
   -- ---- the answer
 
@@ -354,25 +388,6 @@ module _ (image : List ℕ) (h : Head) (accepted : checked image ≡ Accepted h)
     quiet-steps r ahead behind before ranks yet ranked =
         steps-marked L (quietly q) (questionBy (quietly q)) ms quiet-asks masks-made before (ranked .start) (omega (arith, counted image h accepted .steps, yet .long)) (ranked .steps) 0 refl
 
-    -- a question that asks for no touch
-    pub quiet-done : (links₀ stays₀ stays : List ℕ) → Unranked h q stays₀
-        → Ranked false (quietly q) (quietly q) (h .sequences) ms links₀ links₀ part ps stays₀ stays → q .mark ≡ 2
-        → answerIn (quietly q) links₀ links₀ stays part ps c ≡ answer L Q c (q .fact)
-    quiet-done links₀ stays₀ stays yet ranked two =
-        let R = questionBy (quietly q) in
-        let test = hasMark L R (q .fact) in
-        let look = untouchedLook L R (q .fact) in
-        let steps = quiet-steps (quietly q) links₀ links₀ stays₀ stays yet ranked in
-        let looks : (T : List ℕ) → drop (unranked L) T ≡ drop (unranked L) (ranked .start) → lookIn (quietly q) links₀ links₀ T ≡ look (inRanks (unranked L) T) =
-        λ T same. depth-look L (quietly q) R quiet-asks links₀ links₀ refl test T (steps-stay false (quietly q) (quietly q) no-rank no-rank links₀ links₀ stays₀ stays (again yet) ranked 0 test T same steps) in
-        let kept = made-kept false (quietly q) (quietly q) no-rank no-rank links₀ links₀ stays₀ stays (again yet) ranked look looks in
-        quiet-answer L (quietly q) R quiet-asks links₀ links₀ part ps places-made stays refl
-        (steps-stay false (quietly q) (quietly q) no-rank no-rank links₀ links₀ stays₀ stays (again yet) ranked 0 test stays kept steps) c (omega (arith, asked .sequence, counted image h accepted .sequences))
-        ∙ settled-untouched L R (q .fact) (unranked L) (take (unranked L) stays) (omega arith) refl
-        (made-visits false (quietly q) (quietly q) no-rank no-rank links₀ links₀ stays₀ stays (again yet) ranked look looks)
-        (made-settled false (quietly q) (quietly q) no-rank no-rank links₀ links₀ stays₀ stays (again yet) ranked look looks) c
-        ∙ ap (λ (k : ℕ). answer L (record { side = sideBy (q .first); mark = markBy k }) c (q .fact)) (sym two)
-
     -- the entries that can stay untouched, and those that have a run
     stays-done : (links₀ stays₀ stays : List ℕ) → Unranked h q stays₀ → Ranked false (quietly q) (whether q) (h .sequences) ms links₀ links₀ part ps stays₀ stays
         → (e : Entry) → passIn (unranked L) stays e ≡ canStay L Q (q .fact) e
@@ -387,36 +402,79 @@ module _ (image : List ℕ) (h : Head) (accepted : checked image ≡ Accepted h)
         (steps-any L (quietly q) (questionBy (quietly q)) ms quiet-asks masks-made runs₀ (ranked .start) (omega (arith, counted image h accepted .steps, yet .long)) (ranked .steps))
         (λ d. hasRun L d) (any-run L)
 
-    -- a question that asks for a touch
-    pub link-done : (links₀ stays₀ stays : List ℕ) → Unranked h q stays₀
-        → Ranked false (quietly q) (whether q) (h .sequences) ms links₀ links₀ part ps stays₀ stays → q .mark ≢ 2 → (runs₀ runs : List ℕ) → Unranked h q runs₀
-        → Ranked true (quietly q) (whether q) (h .sequences) ms links₀ links₀ part ps runs₀ runs → (b : Bool) → q .first ≡ b → (links : List ℕ)
-        → Unranked h q links₀ → Ranked false q q (h .sequences) ms (cond b stays runs) (cond b runs stays) part ps links₀ links
-        → answerIn q (cond b stays runs) (cond b runs stays) links part ps c ≡ answer L Q c (q .fact)
-    link-done links₀ stays₀ stays stays-yet quiet two runs₀ runs runs-yet any b side links yet ranked =
-        let asks = asks-by q (asked .mark) (asked .fact) (asked .none) in
-        let touch = touch-asked (q .mark) (asked .mark) two in
-        let ahead = cond b stays runs in
-        let behind = cond b runs stays in
-        let described =
-        described-by L Q (q .fact) stays runs (stays-done links₀ stays₀ stays stays-yet quiet) (runs-done links₀ runs₀ runs runs-yet any) b (ap sideBy side) in
-        let test = hasMark L Q (q .fact) in
-        let look = touchLook L Q (q .fact) in
-        let steps : StepsBy (q .none) (unranked L) test (ranked .start) =
-        subst (λ (n : ℕ). StepsBy (q .none) n test (ranked .start)) no-rank
-        (steps-marked L q Q ms asks masks-made links₀ (ranked .start) (omega (arith, counted image h accepted .steps, yet .long)) (ranked .steps) (q .none) (past (Q .mark) touch)) in
-        let looks : (T : List ℕ) → drop (unranked L) T ≡ drop (unranked L) (ranked .start) → lookIn q ahead behind T ≡ look (inRanks (unranked L) T) =
-        λ T same. touch-look L q Q asks ahead behind touch described T (steps-stay false q q no-rank no-rank ahead behind links₀ links yet ranked (unranked L) test T same steps) in
-        let kept = made-kept false q q no-rank no-rank ahead behind links₀ links yet ranked look looks in
-        let good =
-        touch-good L Q (q .fact) (unranked L) (take (unranked L) links) (omega arith) touch
-        (made-visits false q q no-rank no-rank ahead behind links₀ links yet ranked look looks)
-        (made-settled false q q no-rank no-rank ahead behind links₀ links yet ranked look looks) in
-        touch-answer L q Q asks ahead behind part ps places-made links touch described
-        (steps-stay false q q no-rank no-rank ahead behind links₀ links yet ranked (unranked L) test links kept steps) (good .reached) (good .closed) c (omega (arith, asked .sequence, counted image h accepted .sequences))
-        ∙ settled-touch L Q (q .fact) (unranked L) (take (unranked L) links) (omega arith) touch good c
-      where
-        past : (k : Mark) → k ≢ untouched → q .none ≡ cond (sameMark untouched k) 0 (q .none)
-        past present t = refl
-        past absent t = refl
-        past untouched t = absurd (t refl)
+    -- by the tables for the entries ahead of the position and those behind it
+    described-by : (blank ahead₀ behind₀ ahead behind : List ℕ) → Unranked h q ahead₀ → Unranked h q behind₀ → (b : Bool) → q .first ≡ b
+        → Ranked (not b) (quietly q) (whether q) (h .sequences) ms blank blank part ps ahead₀ ahead
+        → Ranked b (quietly q) (whether q) (h .sequences) ms blank blank part ps behind₀ behind → Described L Q (q .fact) ahead behind
+    described-by blank ahead₀ behind₀ ahead behind a-yet b-yet false side a-ranked b-ranked =
+        record {
+          by-ahead = λ e. runs-done blank ahead₀ ahead a-yet a-ranked e ∙ ap (λ (x : Bool). aheadOf L Q (q .fact) (sideBy x) e) (sym side);
+          by-behind = λ e. stays-done blank behind₀ behind b-yet b-ranked e ∙ ap (λ (x : Bool). behindOf L Q (q .fact) (sideBy x) e) (sym side);
+        }
+    described-by blank ahead₀ behind₀ ahead behind a-yet b-yet true side a-ranked b-ranked =
+        record {
+          by-ahead = λ e. stays-done blank ahead₀ ahead a-yet a-ranked e ∙ ap (λ (x : Bool). aheadOf L Q (q .fact) (sideBy x) e) (sym side);
+          by-behind = λ e. runs-done blank behind₀ behind b-yet b-ranked e ∙ ap (λ (x : Bool). behindOf L Q (q .fact) (sideBy x) e) (sym side);
+        }
+
+    -- the ranks of the sequences by the question
+    module _ (ahead behind links₀ links : List ℕ) (yet : Unranked h q links₀)
+        (ranked : Ranked false q q (h .sequences) ms ahead behind part ps links₀ links) where
+      asks : Asks L q Q
+      asks = asks-by q (asked .mark) (asked .fact) (asked .none)
+
+      listed : c < length (L .sequences)
+      listed = omega (arith, asked .sequence, counted image h accepted .sequences)
+
+      steps-by : (past : ℕ) → past ≡ cond (sameMark untouched (Q .mark)) 0 (q .none) → StepsBy (q .none) past (hasMark L Q (q .fact)) (ranked .start)
+      steps-by past end =
+          steps-marked L q Q ms asks masks-made links₀ (ranked .start) (omega (arith, counted image h accepted .steps, yet .long)) (ranked .steps) past end
+
+      -- a question that asks for no touch
+      quiet-done : Q .mark ≡ untouched → answerIn q ahead behind links part ps c ≡ answer L Q c (q .fact)
+      quiet-done quiet =
+          let test = hasMark L Q (q .fact) in
+          let look = untouchedLook L Q (q .fact) in
+          let steps = steps-by 0 (ap (λ (k : Mark). cond (sameMark untouched k) 0 (q .none)) (sym quiet)) in
+          let looks : (T : List ℕ) → drop (unranked L) T ≡ drop (unranked L) (ranked .start) → lookIn q ahead behind T ≡ look (inRanks (unranked L) T) =
+          λ T same. depth-look L q Q asks ahead behind quiet test T (steps-stay false q q no-rank no-rank ahead behind links₀ links yet ranked 0 test T same steps) in
+          let kept = made-kept false q q no-rank no-rank ahead behind links₀ links yet ranked look looks in
+          quiet-answer L q Q asks ahead behind part ps places-made links quiet
+          (steps-stay false q q no-rank no-rank ahead behind links₀ links yet ranked 0 test links kept steps) c listed
+          ∙ settled-untouched L Q (q .fact) (unranked L) (take (unranked L) links) (omega arith) quiet
+          (made-visits false q q no-rank no-rank ahead behind links₀ links yet ranked look looks)
+          (made-settled false q q no-rank no-rank ahead behind links₀ links yet ranked look looks) c
+
+      -- a question that asks for a touch
+      link-done : Q .mark ≢ untouched → Described L Q (q .fact) ahead behind → answerIn q ahead behind links part ps c ≡ answer L Q c (q .fact)
+      link-done touch described =
+          let test = hasMark L Q (q .fact) in
+          let look = touchLook L Q (q .fact) in
+          let steps : StepsBy (q .none) (unranked L) test (ranked .start) =
+          subst (λ (n : ℕ). StepsBy (q .none) n test (ranked .start)) no-rank (steps-by (q .none) (past (Q .mark) touch)) in
+          let looks : (T : List ℕ) → drop (unranked L) T ≡ drop (unranked L) (ranked .start) → lookIn q ahead behind T ≡ look (inRanks (unranked L) T) =
+          λ T same. touch-look L q Q asks ahead behind touch described T (steps-stay false q q no-rank no-rank ahead behind links₀ links yet ranked (unranked L) test T same steps) in
+          let kept = made-kept false q q no-rank no-rank ahead behind links₀ links yet ranked look looks in
+          let good =
+          touch-good L Q (q .fact) (unranked L) (take (unranked L) links) (omega arith) touch
+          (made-visits false q q no-rank no-rank ahead behind links₀ links yet ranked look looks)
+          (made-settled false q q no-rank no-rank ahead behind links₀ links yet ranked look looks) in
+          touch-answer L q Q asks ahead behind part ps places-made links touch described
+          (steps-stay false q q no-rank no-rank ahead behind links₀ links yet ranked (unranked L) test links kept steps) (good .reached) (good .closed) c listed
+          ∙ settled-touch L Q (q .fact) (unranked L) (take (unranked L) links) (omega arith) touch good c
+        where
+          past : (k : Mark) → k ≢ untouched → q .none ≡ cond (sameMark untouched k) 0 (q .none)
+          past present t = refl
+          past absent t = refl
+          past untouched t = absurd (t refl)
+
+      -- the answer by the three tables
+      pub found-done : (ahead₀ behind₀ : List ℕ) → Unranked h q ahead₀ → Unranked h q behind₀
+          → Marked q (h .sequences) ms links₀ part ps ahead₀ behind₀ ahead behind → answerIn q ahead behind links part ps c ≡ answer L Q c (q .fact)
+      found-done ahead₀ behind₀ a-yet b-yet marked =
+          elim (ℕ-discrete (q .mark) 2) [
+            | yes two ↦ quiet-done (ap markBy two)
+            | no two ↦
+                link-done (touch-asked (q .mark) (asked .mark) two)
+                (described-by links₀ ahead₀ behind₀ ahead behind a-yet b-yet (q .first) refl (marked .ahead-marked two) (marked .behind-marked two))
+          ]

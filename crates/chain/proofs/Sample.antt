@@ -9,7 +9,7 @@ use Rattle.image.specs.Word.{total}
 use Rattle.runs.specs.Touch.{lastSet, lastCleared, lastUntouched}
 use Rattle.runs.specs.Possible.{possible}
 use Rattle.runs.proofs.Sample.{libraryL}
-use Rattle.rank.specs.Link.{touchLink, untouchedLink}
+use Rattle.chain_words.specs.Link.{touchLink, untouchedLink}
 use Rattle.rank.specs.Answer.{none, shown, answer}
 use Rattle.rank.specs.Call.{Reply, chained, areaAfter}
 use Rattle.link.specs.Reply.{replyNumber}

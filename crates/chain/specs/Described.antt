@@ -2,7 +2,8 @@
 -- library's.
 use Prim.Native.Nat.{ℕ, _+_, _*_, _≤_, _<_}
 use mathlib.Core.Path.{_≡_}
-use mathlib.Core.Bool.{Bool, true, false, cond}
+use mathlib.Core.Bool.{Bool, true, false, cond, not}
+use mathlib.Core.Logic.{_≢_}
 use mathlib.Core.List.{List, [], _∷_, _++_}
 use lib.ListN.{length, getD, drop}
 use Rattle.reader.specs.Checked.{checked}
@@ -10,13 +11,14 @@ use Rattle.library.specs.Library.{Library, Entry, stepsFrom, stepsPart, sequenc
 use Rattle.image.specs.declared.answer.Head.{Head}
 use Rattle.image.specs.declared.answer.Checked.the-variants.{Accepted}
 use Rattle.library.specs.Tables.{maskOf, masks, placesFrom}
-use Rattle.visits.specs.Passes.{Blank}
+use Rattle.visits.specs.Passes.{Blank, Complete}
 use Rattle.runs.specs.Run.{Item, alternativesOf}
 use Rattle.runs.specs.Execution.{stepOf}
 use Rattle.runs.specs.Touch.{Side, last, first, Mark, present, absent, untouched, Question}
 use Rattle.rank.specs.Ranks.{unranked, aheadOf, behindOf}
-use Rattle.rank.specs.Tables.{passIn, alternativesAt}
-use Rattle.rank.specs.declared.entry.Asked.{Asked}
+use Rattle.rank.specs.Tables.{passIn, alternativesAt, Rankable, Steppable, Ranked}
+use Rattle.link.specs.Choice.{Opened}
+use Rattle.chain_words.specs.declared.asked.Asked.{Asked}
 
 -- a side and a mark as the code has them
 abbrev pub isFirst : Side → Bool
@@ -94,3 +96,31 @@ pub record Unranked (h : Head) (q : Asked) (T : List ℕ) : Type 0 where
 -- the three tables that the answer is found in
 abbrev pub TablesAsked : Head → Asked → List ℕ → List ℕ → List ℕ → Type 0
 TablesAsked h q stays runs links = Unranked h q stays × Unranked h q runs × Unranked h q links
+
+-- ---- the tables, whatever image they are of
+
+-- what is asked of the tables that the ranks are worked out in: each has a word for each sequence and each step, and the order names each
+-- sequence
+pub record Findable (q : Asked) (n : ℕ) (masks ahead behind links part places order : List ℕ) : Type 0 where
+  pub steppable : Steppable q masks links
+  pub rankable : Rankable (q .none) links part
+  pub ahead-long : length ahead ≡ length links
+  pub behind-long : length behind ≡ length links
+  pub few : n ≤ 256
+  pub ranked : n ≤ length links
+  pub placed : n ≤ length places
+  pub opened : Opened part places
+  pub complete : Complete order n
+
+-- the same question for "untouched", and where only a rank counts
+abbrev pub quietly : Asked → Asked
+quietly q = record { first = q .first; mark = 2; fact = q .fact; none = q .none }
+
+abbrev pub whether : Asked → Asked
+whether q = record { first = q .first; mark = 3; fact = q .fact; none = q .none }
+
+-- the tables of the entries ahead of the position and behind it, for a question that asks for a touch: which can stay untouched, and which
+-- have a run
+pub record Marked (q : Asked) (n : ℕ) (masks blank part places ahead₀ behind₀ ahead behind : List ℕ) : Type 0 where
+  pub ahead-marked : q .mark ≢ 2 → Ranked (not (q .first)) (quietly q) (whether q) n masks blank blank part places ahead₀ ahead
+  pub behind-marked : q .mark ≢ 2 → Ranked (q .first) (quietly q) (whether q) n masks blank blank part places behind₀ behind

@@ -15,7 +15,7 @@ use judge::answers::BEFORE;
 use judge::answers::chain_fault;
 use judge::answers::none_fault;
 use judge::questions::agrees;
-use link::answer::Chained;
+use chain_words::answer::Chained;
 use second::call::facts;
 use second::call::row;
 

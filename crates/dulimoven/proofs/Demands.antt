@@ -28,7 +28,7 @@ use Rattle.card.specs.Card.{cardWords}
 use Rattle.card.specs.Meaning.{Always, needed, set, cleared, Breaks}
 use Rattle.card.specs.declared.answer.Cards.{Cards}
 use Rattle.card.proofs.Area.{filled, written-right}
-use Rattle.rank.specs.Link.{Chain, chainWords}
+use Rattle.chain_words.specs.Link.{Chain, chainWords}
 use Rattle.rank.specs.Stands.{About}
 use Rattle.rank.specs.Answer.{none, shown}
 use Rattle.rank.specs.Call.{Reply, refused, answered, chained, areaAfter}

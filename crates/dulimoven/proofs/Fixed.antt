@@ -21,7 +21,7 @@ use Rattle.card.specs.Area.{partWord}
 use Rattle.card.specs.Card.{cardWords}
 use Rattle.card.specs.Meaning.{Always}
 use Rattle.card.proofs.Unique.{card-unique}
-use Rattle.rank.specs.Link.{Chain, chainWords}
+use Rattle.chain_words.specs.Link.{Chain, chainWords}
 use Rattle.rank.specs.Answer.{shown}
 use Rattle.rank.specs.Call.{answered, chained}
 use Rattle.rank.proofs.Words.{words-length, words-same}

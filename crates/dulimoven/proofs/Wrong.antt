@@ -22,7 +22,7 @@ use Rattle.card.specs.Area.{partWord}
 use Rattle.card.specs.Card.{card, cards}
 use Rattle.card.specs.Meaning.{Always, needed, set, cleared, place, cardWord}
 use Rattle.card.proofs.Meaning.{flags-count}
-use Rattle.rank.specs.Link.{Link, touchLink, untouchedLink, Chain, Fits}
+use Rattle.chain_words.specs.Link.{Link, touchLink, untouchedLink, Chain, Fits}
 use Rattle.rank.specs.Answer.{shown}
 use Rattle.rank.specs.Call.{answered, chained}
 use Rattle.link.specs.Reply.{replyNumber}

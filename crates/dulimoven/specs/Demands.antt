@@ -20,7 +20,7 @@ use Rattle.card.specs.Answer.{cardsOf, cardArea, cardsAnswer}
 use Rattle.card.specs.Area.{partWord}
 use Rattle.card.specs.Meaning.{Card, Kept, Always, needed, set, cleared, Breaks, Missing}
 use Rattle.card.specs.declared.answer.Cards.{Cards}
-use Rattle.rank.specs.Link.{Chain, chainWords, Fits}
+use Rattle.chain_words.specs.Link.{Chain, chainWords, Fits}
 use Rattle.rank.specs.Stands.{StandsFor}
 use Rattle.rank.specs.Answer.{none}
 use Rattle.rank.specs.Call.{Reply, refused, answered, chained, areaAfter}

@@ -14,7 +14,7 @@ use Rattle.image.specs.Word.{total}
 use Rattle.runs.specs.Possible.{possible}
 use Rattle.card.specs.Card.{card, cards}
 use Rattle.card.specs.Answer.{cardsOf, cardArea, cardsAnswer}
-use Rattle.rank.specs.Link.{chainWords}
+use Rattle.chain_words.specs.Link.{chainWords}
 use Rattle.rank.specs.Call.{Reply, chained, areaAfter}
 use Rattle.link.specs.Reply.{replyNumber}
 

@@ -9,7 +9,7 @@ use Rattle.library.specs.Library.{libraryOf}
 use Rattle.card.specs.Card.{cardWords, changeable}
 use Rattle.card.specs.Area.{partWord}
 use Rattle.card.specs.Meaning.{Always, place}
-use Rattle.rank.specs.Link.{Link, Chain, chainWords}
+use Rattle.chain_words.specs.Link.{Link, Chain, chainWords}
 use Rattle.rank.specs.Answer.{Answer, shown}
 use Rattle.rank.specs.Call.{answered, chained}
 use Rattle.dulimoven.specs.Demands.{Engine, Left, engine, Refuses, Ready, count, Asks, Sees, Proves}

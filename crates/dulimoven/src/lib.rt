@@ -38,5 +38,5 @@ pub extern "C" fn dulimoven_chain(
     ensures answer { λ r. ⌜ r ≡ replyNumber (chained (now (image .entry)) sequence question fact (length (now (area .entry)))) ⌝ }
     ensures area { λ _. ⌜ now (area .exit) ≡ areaAfter (chained (now (image .entry)) sequence question fact (length (now (area .entry)))) (now (area .entry)) ⌝ }
 {
-    link::answer::chain_answer(chain::call::chain(image, sequence, question, fact, area))
+    chain_words::answer::chain_answer(chain::call::chain(image, sequence, question, fact, area))
 }

@@ -13,16 +13,15 @@ use borrow.Author.Tests.{le-leb, lt-leb, lt-ltb, le-ltb}
 use Rattle.image.specs.Word.{payload, isKind, isEntry}
 use Rattle.library.specs.Library.{Entry, step, call, Alternative, entriesFrom, alternativesFrom}
 use Rattle.rank.specs.Scan.{every}
-use Rattle.rank.specs.Link.{Link, touchLink}
+use Rattle.chain_words.specs.Link.{Link, touchLink}
 use Rattle.rank.specs.Stands.{entryAt}
 use Rattle.rank.specs.Walk.{tailFrom, positionFrom, linkFrom, alternativeFrom}
 use Rattle.rank.specs.Tables.{entryOf, entryNumber, rankIn, passIn, traitsIn, AlternativeRead}
 use Rattle.link.specs.Choice.{linkIn, Chosen}
-use Rattle.rank.specs.declared.entry.Asked.{Asked}
 use Rattle.rank.specs.declared.entry.Traits.{Traits}
 use Rattle.rank.specs.declared.read.Read.{Read}
-use Rattle.rank.proofs.Folds.{Folding, folding-start, folding-turn, folding-entry, folding-out, folding-end}
-use Rattle.rank.proofs.Folds.{Walking, walking-turn, walking-skip, walking-out, walking-end}
+use Rattle.rank.proofs.Folds.{entry-inside, opener-inside, Folding, folding-start, folding-turn, folding-entry, folding-out}
+use Rattle.rank.proofs.Folds.{Walking, walking-turn, walking-skip, walking-out}
 use Rattle.rank.proofs.Walk.{tail-from}
 
 -- ---- the index from which on all entries pass
@@ -38,21 +37,17 @@ module _ (test : Entry → Bool) (part : List ℕ) (at : ℕ) where
   quieting-start l = folding-start part quiet-index at (tailFrom test at at) l refl
 
   module _ (start i : ℕ) (here : Quieting start i) where
-    pub quieting-turn : i < length part → isEntry (getD part i 0) ≡ true → (b : Bool) → test (entryOf (getD part i 0)) ≡ b
+    pub quieting-turn : isEntry (getD part i 0) ≡ true → (b : Bool) → test (entryOf (getD part i 0)) ≡ b
         → Quieting (cond b start (i + 1)) (i + 1)
     unfolding tailFrom
-    quieting-turn l e b told =
-        folding-turn part quiet-index at (tailFrom test i start) i here l e
+    quieting-turn e b told =
+        folding-turn part quiet-index at (tailFrom test i start) i here e
         (tailFrom test (i + 1) (cond b start (i + 1)))
         (rw (add-one i) (ap (λ (x : Bool). tailFrom test (suc i) (cond x start (suc i)) (entriesFrom (drop (suc i) part))) told))
 
-    pub quieting-out : i < length part → isEntry (getD part i 0) ≡ false → start ≡ quiet-index
+    pub quieting-out : isEntry (getD part i 0) ≡ false → start ≡ quiet-index
     unfolding tailFrom
-    quieting-out l e = folding-out part quiet-index at (tailFrom test i start) i here l e
-
-    pub quieting-end : i ≡ length part → start ≡ quiet-index
-    unfolding tailFrom
-    quieting-end l = folding-end part quiet-index at (tailFrom test i start) i here l
+    quieting-out e = folding-out part quiet-index at (tailFrom test i start) i here e
 
 -- ---- the first position of an alternative
 
@@ -64,15 +59,15 @@ entry-number w = go (isKind 8 w)
     go true = refl
     go false = refl
 
-module _ (q : Asked) (ahead behind ranks part : List ℕ) (k : ℕ) where
+module _ (none : ℕ) (ahead behind ranks part : List ℕ) (k : ℕ) where
   abbrev rank : Entry → ℕ
-  rank = rankIn (q .none) (q .none) ranks
+  rank = rankIn none none ranks
 
   abbrev position : Bool → ℕ → List Entry → ℕ
-  position = positionFrom (q .none) rank (passIn (q .none) ahead) (passIn (q .none) behind) k
+  position = positionFrom none rank (passIn none ahead) (passIn none behind) k
 
   abbrev link : ℕ → ℕ → List Alternative → Link
-  link c = linkFrom (q .none) rank (passIn (q .none) ahead) (passIn (q .none) behind) c k
+  link c = linkFrom none rank (passIn none ahead) (passIn none behind) c k
 
   module _ (s : ℕ) where
     abbrev entries : List Entry
@@ -94,9 +89,9 @@ module _ (q : Asked) (ahead behind ranks part : List ℕ) (k : ℕ) where
         folding-start part whole s (rest true s) l (rw z (ap (λ (n : ℕ). (position true 0 entries, n)) (omega arith)))
 
     -- an entry, with its traits, where `quiet` is the index from which on all entries pass as those behind
-    module _ (quiet : ℕ) (quieted : quiet ≡ tailFrom (passIn (q .none) behind) s s entries) (ok : Bool) (i : ℕ) (here : Placing ok i)
-        (l : i < length part) (e : isEntry (getD part i 0) ≡ true) (t : Traits)
-        (told : t ≡ traitsIn (q .none) ahead behind ranks (entryOf (getD part i 0))) where
+    module _ (quiet : ℕ) (quieted : quiet ≡ tailFrom (passIn none behind) s s entries) (ok : Bool) (i : ℕ) (here : Placing ok i)
+        (e : isEntry (getD part i 0) ≡ true) (t : Traits)
+        (told : t ≡ traitsIn none ahead behind ranks (entryOf (getD part i 0))) where
       abbrev entry : Entry
       entry = entryOf (getD part i 0)
 
@@ -105,15 +100,15 @@ module _ (q : Asked) (ahead behind ranks part : List ℕ) (k : ℕ) where
 
       -- the fold with this entry at its head
       opened : Folding part whole s (λ es. rest ok i (entry ∷ es)) (i + 1)
-      opened = folding-turn part whole s (rest ok i) i here l e (λ es. rest ok i (entry ∷ es)) refl
+      opened = folding-turn part whole s (rest ok i) i here e (λ es. rest ok i (entry ∷ es)) refl
 
       -- the entries behind the position pass
-      behind-passes : leb quiet (i + 1) ≡ every (passIn (q .none) behind) later
+      behind-passes : leb quiet (i + 1) ≡ every (passIn none behind) later
       behind-passes =
           let n : s + (i + 1 - s) ≡ i + 1 = omega (arith, here .low) in
-          let h = tail-from (passIn (q .none) behind) s s (i + 1 - s) entries (omega arith) in
-          ap (λ (x : ℕ). leb x (i + 1)) quieted ∙ ap (leb (tailFrom (passIn (q .none) behind) s s entries)) (sym n) ∙ h
-          ∙ ap (every (passIn (q .none) behind)) (opened .passed)
+          let h = tail-from (passIn none behind) s s (i + 1 - s) entries (omega arith) in
+          ap (λ (x : ℕ). leb x (i + 1)) quieted ∙ ap (leb (tailFrom (passIn none behind) s s entries)) (sym n) ∙ h
+          ∙ ap (every (passIn none behind)) (opened .passed)
 
       -- whether this position is chosen
       abbrev pub Taken : Bool
@@ -122,18 +117,18 @@ module _ (q : Asked) (ahead behind ranks part : List ℕ) (k : ℕ) where
       position-here : (b : Bool) → Taken ≡ b → position ok (i - s) (entry ∷ later) ≡ cond b (i - s) (position (ok && t .ahead) (suc (i - s)) later)
       unfolding positionFrom
       position-here b taken =
-          let test : ((ok && every (passIn (q .none) behind) later) && leb (rank entry) k) ≡ b =
+          let test : ((ok && every (passIn none behind) later) && leb (rank entry) k) ≡ b =
           ap (λ (x : Bool). (ok && x) && leb (rank entry) k) (sym behind-passes)
           ∙ ap (λ (x : Traits). (ok && leb quiet (i + 1)) && leb (x .rank) k) (sym told)
           ∙ taken in
-          ap (λ (x : Bool). cond x (i - s) (position (ok && passIn (q .none) ahead entry) (suc (i - s)) later)) test
+          ap (λ (x : Bool). cond x (i - s) (position (ok && passIn none ahead entry) (suc (i - s)) later)) test
           ∙ ap (λ (x : Traits). cond b (i - s) (position (ok && x .ahead) (suc (i - s)) later)) (sym told)
 
       pub placing-turn : Taken ≡ false → Placing (ok && t .ahead) (i + 1)
       placing-turn taken =
           let index : suc (i - s) ≡ i + 1 - s = omega (arith, here .low) in
           let count : i - s + length (entry ∷ later) ≡ i + 1 - s + length later = omega (arith, here .low) in
-          folding-turn part whole s (rest ok i) i here l e (rest (ok && t .ahead) (i + 1))
+          folding-turn part whole s (rest ok i) i here e (rest (ok && t .ahead) (i + 1))
           (ap₂ (λ (x y : ℕ). (x, y)) (position-here false taken ∙ ap (λ (n : ℕ). position (ok && t .ahead) n later) index) count)
 
       pub placing-found : Taken ≡ true → (position true 0 entries ≡ i - s) × (i - s < length entries)
@@ -142,17 +137,12 @@ module _ (q : Asked) (ahead behind ranks part : List ℕ) (k : ℕ) where
           (sym (ap (λ (p : ℕ × ℕ). p .0) (opened .same)) ∙ position-here true taken, omega arith)
 
     -- no position is chosen
-    unplaced : (ok : Bool) (i : ℕ) → rest ok i [] ≡ whole → position true 0 entries ≡ length entries
+    pub placing-out : (ok : Bool) (i : ℕ) → Placing ok i → isEntry (getD part i 0) ≡ false → position true 0 entries ≡ length entries
     unfolding positionFrom
-    unplaced ok i h =
+    placing-out ok i here e =
+        let h = folding-out part whole s (rest ok i) i here e in
         let count : i - s + 0 ≡ length entries = ap (λ (p : ℕ × ℕ). p .1) h in
         sym (ap (λ (p : ℕ × ℕ). p .0) h) ∙ omega arith
-
-    pub placing-out : (ok : Bool) (i : ℕ) → Placing ok i → i < length part → isEntry (getD part i 0) ≡ false → position true 0 entries ≡ length entries
-    placing-out ok i here l e = unplaced ok i (folding-out part whole s (rest ok i) i here l e)
-
-    pub placing-end : (ok : Bool) (i : ℕ) → Placing ok i → i ≡ length part → position true 0 entries ≡ length entries
-    placing-end ok i here l = unplaced ok i (folding-end part whole s (rest ok i) i here l)
 
   -- ---- the first alternative that has such a position
 
@@ -189,19 +179,19 @@ module _ (q : Asked) (ahead behind ranks part : List ℕ) (k : ℕ) where
     choosing-start l = record { read = []; count = refl; low = omega arith; walk = λ c. record { within = l; same = refl } }
 
     module _ (alternative i : ℕ) (here : Choosing alternative i) where
-      pub choosing-skip : i < length part → isKind 7 (getD part i 0) ≡ false → isEntry (getD part i 0) ≡ true → Choosing alternative (i + 1)
-      choosing-skip l e f =
+      pub choosing-skip : isKind 7 (getD part i 0) ≡ false → isEntry (getD part i 0) ≡ true → Choosing alternative (i + 1)
+      choosing-skip e f =
           record {
             read = here .read;
             count = here .count;
             low = omega (arith, here .low);
-            walk = λ c. walking-skip part (all c) (left (here .read) c) i (here .walk c) l e f;
+            walk = λ c. walking-skip part (all c) (left (here .read) c) i (here .walk c) e f;
           }
 
       -- an alternative with no such position
-      pub choosing-turn : i < length part → isKind 7 (getD part i 0) ≡ true → (ok : Bool) (j : ℕ) → Placing (i + 1) ok j
+      pub choosing-turn : isKind 7 (getD part i 0) ≡ true → (ok : Bool) (j : ℕ) → Placing (i + 1) ok j
           → position true 0 (entriesFrom (drop (i + 1) part)) ≡ length (entriesFrom (drop (i + 1) part)) → Choosing (alternative + 1) j
-      choosing-turn l e ok j placed none =
+      choosing-turn e ok j placed unplaced =
           let es = entriesFrom (drop (i + 1) part) in
           let more = alternativesFrom (drop (i + 1) part) in
           let read = here .read in
@@ -211,9 +201,9 @@ module _ (q : Asked) (ahead behind ranks part : List ℕ) (k : ℕ) where
             count = omega (arith, counted, here .count);
             low = omega (arith, here .low, placed .low);
             walk = λ c.
-                walking-turn part (all c) (left read c) i (here .walk c) l e (left (read ++ es ∷ []) c) j (placed .within) (placed .skips)
+                walking-turn part (all c) (left read c) i (here .walk c) e (left (read ++ es ∷ []) c) j (placed .within) (placed .skips)
                 (ap₂ (λ (x : List Alternative) (y : Link). (x, y)) (sym (append-assoc read (es ∷ []) more))
-                (link-next c (length read) es more none ∙ ap (λ (n : ℕ). link c n more) (omega (arith, counted))));
+                (link-next c (length read) es more unplaced ∙ ap (λ (n : ℕ). link c n more) (omega (arith, counted))));
           }
 
       -- what stands at the alternative's number is the first that is left
@@ -224,9 +214,11 @@ module _ (q : Asked) (ahead behind ranks part : List ℕ) (k : ℕ) where
           ∙ getD-append-add (here .read) alts 0 []
 
       -- no alternative
-      unchosen : ((c : ℕ) → left (here .read) c [] ≡ all c) → Chosen q ahead behind ranks part at k (record { alternative = alternative; position = 0; entry = 0 })
+      pub choosing-out : isKind 7 (getD part i 0) ≡ false → isEntry (getD part i 0) ≡ false
+          → Chosen none ahead behind ranks part at k (record { alternative = alternative; position = 0; entry = 0 })
       unfolding linkFrom linkIn
-      unchosen h =
+      choosing-out e f =
+          let h : (c : ℕ) → left (here .read) c [] ≡ all c = λ c. walking-out part (all c) (left (here .read) c) i (here .walk c) e f in
           record {
             link = λ c. ap (λ (n : ℕ). touchLink c n 0) (sym (here .count)) ∙ ap (λ (x : List Alternative × Link). x .1) (h c);
             entry = ap (λ (es : Alternative). entryNumber (entryAt es 0)) (sym (listed [] (h 0)));
@@ -234,27 +226,22 @@ module _ (q : Asked) (ahead behind ranks part : List ℕ) (k : ℕ) where
             position-low = omega arith;
           }
 
-      pub choosing-out : i < length part → isKind 7 (getD part i 0) ≡ false → isEntry (getD part i 0) ≡ false
-          → Chosen q ahead behind ranks part at k (record { alternative = alternative; position = 0; entry = 0 })
-      choosing-out l e f = unchosen (λ c. walking-out part (all c) (left (here .read) c) i (here .walk c) l e f)
-
-      pub choosing-end : i ≡ length part → Chosen q ahead behind ranks part at k (record { alternative = alternative; position = 0; entry = 0 })
-      choosing-end l = unchosen (λ c. walking-end part (all c) (left (here .read) c) i (here .walk c) l)
-
       -- an alternative with such a position
-      pub choosing-found : i < length part → isKind 7 (getD part i 0) ≡ true → (quiet : ℕ)
-          → quiet ≡ tailFrom (passIn (q .none) behind) (i + 1) (i + 1) (entriesFrom (drop (i + 1) part)) → (ok : Bool) (j : ℕ)
-          → Placing (i + 1) ok j → j < length part → isEntry (getD part j 0) ≡ true → (t : Traits)
-          → t ≡ traitsIn (q .none) ahead behind ranks (entryOf (getD part j 0)) → (ok && leb quiet (j + 1)) && leb (t .rank) k ≡ true
-          → Chosen q ahead behind ranks part at k (record { alternative = alternative; position = j - (i + 1); entry = payload (getD part j 0) })
+      pub choosing-found : isKind 7 (getD part i 0) ≡ true → (quiet : ℕ)
+          → quiet ≡ tailFrom (passIn none behind) (i + 1) (i + 1) (entriesFrom (drop (i + 1) part)) → (ok : Bool) (j : ℕ)
+          → Placing (i + 1) ok j → isEntry (getD part j 0) ≡ true → (t : Traits)
+          → t ≡ traitsIn none ahead behind ranks (entryOf (getD part j 0)) → (ok && leb quiet (j + 1)) && leb (t .rank) k ≡ true
+          → Chosen none ahead behind ranks part at k (record { alternative = alternative; position = j - (i + 1); entry = payload (getD part j 0) })
       unfolding linkIn
-      choosing-found l e quiet quieted ok j placed l′ e′ t told taken =
+      choosing-found e quiet quieted ok j placed e′ t told taken =
           let es = entriesFrom (drop (i + 1) part) in
           let more = alternativesFrom (drop (i + 1) part) in
-          let found = placing-found (i + 1) quiet quieted ok j placed l′ e′ t told taken in
+          let l = opener-inside part i e in
+          let l′ = entry-inside part j e′ in
+          let found = placing-found (i + 1) quiet quieted ok j placed e′ t told taken in
           let opened : (c : ℕ) → left (here .read) c (es ∷ more) ≡ all c =
           λ c.
-          walking-turn part (all c) (left (here .read) c) i (here .walk c) l e (λ alts. left (here .read) c (es ∷ alts)) (i + 1) (omega arith) refl
+          walking-turn part (all c) (left (here .read) c) i (here .walk c) e (λ alts. left (here .read) c (es ∷ alts)) (i + 1) (omega arith) refl
           refl .same in
           record {
             link = λ c.
@@ -263,7 +250,7 @@ module _ (q : Asked) (ahead behind ranks part : List ℕ) (k : ℕ) where
                 ∙ ap (λ (x : List Alternative × Link). x .1) (opened c);
             entry =
                 sym (entry-number (getD part j 0))
-                ∙ ap entryNumber (sym (folding-entry part (whole (i + 1)) (i + 1) (rest (i + 1) ok j) j placed l′ e′))
+                ∙ ap entryNumber (sym (folding-entry part (whole (i + 1)) (i + 1) (rest (i + 1) ok j) j placed e′))
                 ∙ ap (λ (xs : Alternative). entryNumber (entryAt xs (j - (i + 1)))) (sym (listed (es ∷ more) (opened 0)));
             alternative-low = omega (arith, here .low);
             position-low = omega arith;
@@ -286,10 +273,10 @@ module _ (value : Alternative → ℕ) (part : List ℕ) (k at : ℕ) where
   picking-start l = record { low = omega arith; walk = record { within = l; same = refl } }
 
   module _ (alternative i : ℕ) (here : Picking alternative i) where
-    pub picking-skip : i < length part → isKind 7 (getD part i 0) ≡ false → isEntry (getD part i 0) ≡ true → Picking alternative (i + 1)
-    picking-skip l e f = record { low = omega (arith, here .low); walk = walking-skip part first (after alternative) i (here .walk) l e f }
+    pub picking-skip : isKind 7 (getD part i 0) ≡ false → isEntry (getD part i 0) ≡ true → Picking alternative (i + 1)
+    picking-skip e f = record { low = omega (arith, here .low); walk = walking-skip part first (after alternative) i (here .walk) e f }
 
-    module _ (l : i < length part) (e : isKind 7 (getD part i 0) ≡ true) (r : Read) (read : AlternativeRead value part (i + 1) r) where
+    module _ (e : isKind 7 (getD part i 0) ≡ true) (r : Read) (read : AlternativeRead value part (i + 1) r) where
       -- the alternative that stands here, by whether it is chosen
       one : (b : Bool) → leb (r .value) k ≡ b → (alts : List Alternative)
           → after alternative (entriesFrom (drop (i + 1) part) ∷ alts) ≡ cond b alternative (after (suc alternative) alts)
@@ -302,20 +289,16 @@ module _ (value : Alternative → ℕ) (part : List ℕ) (k at : ℕ) where
           record {
             low = omega (arith, here .low, read .low);
             walk =
-                walking-turn part first (after alternative) i (here .walk) l e (after (alternative + 1)) (r .next) (read .within) (read .skips)
+                walking-turn part first (after alternative) i (here .walk) e (after (alternative + 1)) (r .next) (read .within) (read .skips)
                 (one false (lt-leb (r .value) k lt) (alternativesFrom (drop (i + 1) part))
                 ∙ ap (λ (n : ℕ). after n (alternativesFrom (drop (i + 1) part))) (sym (add-one alternative)));
           }
 
       pub picking-found : r .value ≤ k → alternative ≡ first
       picking-found le =
-          walking-turn part first (after alternative) i (here .walk) l e (λ alts. alternative) (i + 1) (omega arith) refl
+          walking-turn part first (after alternative) i (here .walk) e (λ alts. alternative) (i + 1) (omega (arith, opener-inside part i e)) refl
           (one true (le-leb (r .value) k le) (alternativesFrom (drop (i + 1) part))) .same
 
-    pub picking-out : i < length part → isKind 7 (getD part i 0) ≡ false → isEntry (getD part i 0) ≡ false → alternative ≡ first
+    pub picking-out : isKind 7 (getD part i 0) ≡ false → isEntry (getD part i 0) ≡ false → alternative ≡ first
     unfolding alternativeFrom
-    picking-out l e f = walking-out part first (after alternative) i (here .walk) l e f
-
-    pub picking-end : i ≡ length part → alternative ≡ first
-    unfolding alternativeFrom
-    picking-end l = walking-end part first (after alternative) i (here .walk) l
+    picking-out e f = walking-out part first (after alternative) i (here .walk) e f

@@ -4,27 +4,28 @@ use Prim.Native.Nat.{ℕ, zero, suc, pred, _+_, _*_, _^_, _≤_, _<_}
 use native.Mathlib.Omega.{arith}
 use mathlib.Core.Logic.{_≢_}
 use mathlib.Core.Path.{_≡_, refl, sym, ap, ap₂, _∙_, subst}
-use mathlib.Core.Bool.{Bool, true, false, cond}
+use mathlib.Core.Bool.{Bool, true, false, cond, _&&_}
 use mathlib.Core.List.{List, [], _∷_, _++_, append-assoc, append-nil}
 use lib.ListN.{length, getD, set, drop, length-append, length-drop}
 use lib.Seq.{set-at, drop-cons}
-use lib.Dec.{leb}
-use borrow.Author.Tests.{eq-eqb, ne-eqb, lt-ltb, le-ltb, le-leb, lt-leb}
+use lib.Dec.{eqb, leb, ltb}
+use borrow.Author.Tests.{eq-eqb, ne-eqb, lt-ltb, le-ltb, leb-true}
 use Rattle.image.specs.Word.{payload, isKind, isEntry}
 use Rattle.library.specs.Library.{Entry, step, call, entriesFrom, alternativesFrom}
-use Rattle.rank.specs.Link.{Link, touchLink, choiceWord, linkWords, chainWords}
+use Rattle.chain_words.specs.Answer.{linkCount, told, shownLinks}
+use Rattle.chain_words.specs.Link.{Link, touchLink, choiceWord, linkWords, chainWords}
 use Rattle.rank.specs.Stands.{entryAt}
-use Rattle.rank.specs.Tables.{entryNumber, lookIn, alternativesAt}
+use Rattle.rank.specs.Tables.{entryNumber, depthIn, alternativesAt}
 use Rattle.rank.specs.Walk.{alternativeFrom}
-use Rattle.link.specs.Choice.{linkIn, Chosen, linkEntry, linkAt, linksIn, quietLink, answerIn}
+use Rattle.link.specs.Choice.{linkIn, Chosen, linkEntry, linkAt, linksIn, quietLink, quietWords, answerIn}
 use Rattle.link.specs.declared.link.Choice.{Choice}
 use Rattle.rank.specs.Answer.{Answer, none, shown}
 use Rattle.link.specs.Reply.{Answered}
-use Rattle.link.specs.declared.answer.Chained.{Chained}
+use Rattle.chain_words.specs.declared.answer.Chained.{Chained}
 use Rattle.rank.proofs.Scan.{getD-inside}
 use Rattle.rank.proofs.Words.{words-length}
 use Rattle.image.specs.declared.answer.Refusal.the-variants.{ChainArea}
-use Rattle.rank.specs.declared.entry.Asked.{Asked}
+use Rattle.chain_words.specs.declared.asked.Asked.{Asked}
 
 -- ---- an entry's number has 28 bits
 
@@ -79,9 +80,9 @@ put-first area x y room = put-two [] area 0 x y refl (omega arith)
 
 -- ---- the loop over links
 
-module _ (q : Asked) (ahead behind ranks part places : List ℕ) (before : List ℕ) (count first : ℕ) where
+module _ (m : ℕ) (ahead behind ranks part places : List ℕ) (before : List ℕ) (count first : ℕ) where
   abbrev links : ℕ → ℕ → List Link
-  links k c = linksIn q ahead behind ranks part places k c
+  links k c = linksIn m ahead behind ranks part places k c
 
   pub record Writing (area : List ℕ) (k c at : ℕ) : Type 0 where
     pub sequence : c < 2 ^ 28
@@ -112,7 +113,7 @@ module _ (q : Asked) (ahead behind ranks part places : List ℕ) (before : List 
         ∙ ap₂ (λ (p : List ℕ) (n : ℕ). p ++ drop n before) (sym (append-nil (here .done)) ∙ ap (λ (r : List ℕ). here .done ++ r) (sym last) ∙ here .rest) all
 
     -- one more link
-    pub writing-turn : (j : ℕ) → k ≡ suc j → (i p : ℕ) → touchLink c i p ≡ linkAt q ahead behind ranks part places j c
+    pub writing-turn : (j : ℕ) → k ≡ suc j → (i p : ℕ) → touchLink c i p ≡ linkAt m ahead behind ranks part places j c
         → Writing (set (set area at (choiceWord c i)) (at + 1) (11 * 2 ^ 28 + p)) j (entryNumber (entryAt (getD (alternativesAt part places c) i []) p)) (at + 2)
     unfolding linksIn chainWords
     writing-turn j next i p link =
@@ -134,68 +135,117 @@ module _ (q : Asked) (ahead behind ranks part places : List ℕ) (before : List 
         }
 
     -- the same by what the functions promise that choose a link and write its words
-    pub writing-next : (j from : ℕ) (r : Choice) (x : ℕ) (after : List ℕ) → k ≡ suc j → from ≡ getD places c 0 + 1 → Chosen q ahead behind ranks part from j r
-        → x ≡ choiceWord c (r .alternative) → after ≡ set (set area at x) (at + 1) (11 * 2 ^ 28 + r .position) → Writing after j (r .entry) (at + 2)
-    writing-next j from r x after next opener chosen word put =
-        rw (put, word, chosen .entry, opener)
-        (writing-turn j next (r .alternative) (r .position) (chosen .link c ∙ ap (λ (n : ℕ). linkIn q ahead behind ranks c j (alternativesFrom (drop n part))) opener))
+    pub writing-next : (j from : ℕ) (r : Choice) (after : List ℕ) → k ≡ suc j → from ≡ getD places c 0 + 1 → Chosen m ahead behind ranks part from j r
+        → after ≡ set (set area at (choiceWord c (r .alternative))) (at + 1) (11 * 2 ^ 28 + r .position) → Writing after j (r .entry) (at + 2)
+    writing-next j from r after next opener chosen put =
+        rw (put, chosen .entry, opener)
+        (writing-turn j next (r .alternative) (r .position) (chosen .link c ∙ ap (λ (n : ℕ). linkIn m ahead behind ranks c j (alternativesFrom (drop n part))) opener))
 
 -- ---- the answer by the ranks
 
-module _ (q : Asked) (ahead behind ranks part places : List ℕ) where
-  pub links-count : (k c : ℕ) → length (linksIn q ahead behind ranks part places k c) ≡ k
-  unfolding linksIn
-  links-count zero c = refl
-  links-count (suc k) c = ap suc (links-count k (linkEntry (alternativesAt part places c) (linkAt q ahead behind ranks part places k c)))
+pub links-count : (m : ℕ) (ahead behind ranks part places : List ℕ) (k c : ℕ) → length (linksIn m ahead behind ranks part places k c) ≡ k
+unfolding linksIn
+links-count m ahead behind ranks part places zero c = refl
+links-count m ahead behind ranks part places (suc k) c =
+    ap suc (links-count m ahead behind ranks part places k (linkEntry (alternativesAt part places c) (linkAt m ahead behind ranks part places k c)))
 
-  module _ (c rank : ℕ) (listed : c < length ranks) (own : rank ≡ getD ranks c 0) where
-    own-rank : getD ranks c (q .none) ≡ rank
-    own-rank = getD-inside ranks c (q .none) 0 listed ∙ sym own
+-- the one link by what the functions promise that choose its alternative and write its words
+pub quiet-written : (m : ℕ) (ranks part places : List ℕ) (c k from i count : ℕ) (area after : List ℕ) → c < length ranks → k ≡ pred (getD ranks c 0)
+    → from ≡ getD places c 0 + 1 → i ≡ alternativeFrom (depthIn m ranks) k 0 (alternativesFrom (drop from part)) → 0 < count → 2 * count ≤ length area
+    → after ≡ set (set area 0 (choiceWord c i)) (0 + 1) (12 * 2 ^ 28) → after ≡ quietWords m ranks part places count c area
+unfolding quietLink chainWords
+quiet-written m ranks part places c k from i count area after listed before opener choice some room put =
+    let least : k ≡ pred (getD ranks c m) = before ∙ ap pred (getD-inside ranks c 0 m listed) in
+    put ∙ put-first area (choiceWord c i) (12 * 2 ^ 28) (omega arith)
+    ∙ ap (λ (j : ℕ). (choiceWord c j ∷ 12 * 2 ^ 28 ∷ []) ++ drop 2 area)
+    (choice ∙ ap₂ (λ (p n : ℕ). alternativeFrom (depthIn m ranks) p 0 (alternativesFrom (drop n part))) least opener)
+    ∙ ap (λ (b : Bool). cond b (chainWords (quietLink m ranks part places c ∷ []) ++ drop 2 area) area) (sym (lt-ltb 0 count some))
 
-    pub answer-unranked : q .none ≤ rank → answerIn q ahead behind ranks part places c ≡ none
-    unfolding answerIn
-    answer-unranked le = rw (own-rank, le-ltb rank (q .none) le)
+pub quiet-unwritten : (m : ℕ) (ranks part places : List ℕ) (c count : ℕ) (area : List ℕ) → count ≤ 0 → area ≡ quietWords m ranks part places count c area
+quiet-unwritten m ranks part places c count area le =
+    ap (λ (b : Bool). cond b (chainWords (quietLink m ranks part places c ∷ []) ++ drop 2 area) area) (sym (le-ltb 0 count le))
 
-    pub answer-quiet : rank < q .none → q .mark ≡ 2 → answerIn q ahead behind ranks part places c ≡ shown (quietLink q ahead behind ranks part places c ∷ [])
-    unfolding answerIn
-    answer-quiet lt two = rw (own-rank, lt-ltb rank (q .none) lt, eq-eqb (q .mark) 2 two)
-
-    pub answer-links : rank < q .none → q .mark ≢ 2 → answerIn q ahead behind ranks part places c ≡ shown (linksIn q ahead behind ranks part places rank c)
-    unfolding answerIn
-    answer-links lt other = rw (own-rank, lt-ltb rank (q .none) lt, ne-eqb (q .mark) 2 other)
-
-  -- the one link by what the functions promise that choose its alternative and write its words
-  pub quiet-written : (c k from i x : ℕ) (area after : List ℕ) → c < length ranks → k ≡ pred (getD ranks c 0) → from ≡ getD places c 0 + 1
-      → i ≡ alternativeFrom (lookIn q ahead behind ranks) k 0 (alternativesFrom (drop from part)) → x ≡ choiceWord c i → 2 ≤ length area
-      → after ≡ set (set area 0 x) (0 + 1) (12 * 2 ^ 28) → after ≡ chainWords (quietLink q ahead behind ranks part places c ∷ []) ++ drop 2 area
-  unfolding quietLink chainWords
-  quiet-written c k from i x area after listed before opener choice word room put =
-      let least : k ≡ pred (getD ranks c (q .none)) = before ∙ ap pred (getD-inside ranks c 0 (q .none) listed) in
-      put ∙ put-first area x (12 * 2 ^ 28) room
-      ∙ ap (λ (y : ℕ). (y ∷ 12 * 2 ^ 28 ∷ []) ++ drop 2 area)
-      (word ∙ ap (choiceWord c)
-      (choice ∙ ap₂ (λ (m n : ℕ). alternativeFrom (lookIn q ahead behind ranks) m 0 (alternativesFrom (drop n part))) least opener))
+-- the links that are written have room
+pub shown-room : (q : Asked) (rank room : ℕ) → 2 * shownLinks q rank room ≤ room
+shown-room q rank room = go (ltb rank (q .none)) (leb (2 * linkCount q rank) room) refl
+  where
+    go : (a b : Bool) → leb (2 * linkCount q rank) room ≡ b → 2 * cond (a && b) (linkCount q rank) 0 ≤ room
+    go true true e = leb-true (2 * linkCount q rank) room e
+    go true false e = omega arith
+    go false b e = omega arith
 
 -- the same answer
 pub answered-same : {a b : Answer} {before after : List ℕ} {found : Chained} → a ≡ b → Answered a before found after → Answered b before found after
 answered-same {before = before} {after = after} {found = found} e answered = subst (λ (x : Answer). Answered x before found after) e answered
 
--- an answer in an area that is too short, or has room
-pub none-answered : (a : Answer) (area : List ℕ) → a ≡ none → Answered a area Chained.None area
-none-answered a area e = rw e (record { answer = refl; area = refl })
-
-pub short-answered : (a : Answer) (ls : List Link) (area : List ℕ) → a ≡ shown ls → length area < 2 * length ls
-    → Answered a area (Chained.Refused ChainArea) area
-short-answered a ls area e lt =
-    let small : leb (length (chainWords ls)) (length area) ≡ false = lt-leb (length (chainWords ls)) (length area) (omega (arith, words-length ls)) in
-    rw e (record { answer = rw small; area = rw small })
-
-pub shown-answered : (a : Answer) (ls : List Link) (n : ℕ) (area after : List ℕ) → a ≡ shown ls → length ls ≡ n → 2 * n ≤ length area
-    → after ≡ chainWords ls ++ drop (2 * n) area → Answered a area (Chained.Shown (record { count = n })) after
-shown-answered a ls n area after e count le words =
-    let room : leb (length (chainWords ls)) (length area) ≡ true = le-leb (length (chainWords ls)) (length area) (omega (arith, words-length ls)) in
+-- what is told of a chain and written of it, by whether there is a rank and whether there is room
+by-rank : (ls : List Link) (before after : List ℕ) (n : ℕ) (a b : Bool) → length ls ≡ n → leb (2 * n) (length before) ≡ b
+    → after ≡ cond (a && b) (chainWords ls ++ drop (2 * n) before) before
+    → Answered (cond a (shown ls) none) before (cond a (cond b (Chained.Shown (record { count = n })) (Chained.Refused ChainArea)) Chained.None) after
+by-rank ls before after n false b count room words = record { answer = refl; area = words }
+by-rank ls before after n true true count room words =
     let long : 2 * n ≡ length (chainWords ls) = omega (arith, words-length ls) in
-    rw e (record {
-      answer = rw room (ap (λ (k : ℕ). Chained.Shown (record { count = k })) (sym count));
-      area = rw room (words ∙ ap (λ (k : ℕ). chainWords ls ++ drop k area) long);
-    })
+    let fits : leb (length (chainWords ls)) (length before) ≡ true = ap (λ (k : ℕ). leb k (length before)) (sym long) ∙ room in
+    record {
+      answer = rw fits (ap (λ (k : ℕ). Chained.Shown (record { count = k })) (sym count));
+      area = rw fits (words ∙ ap (λ (k : ℕ). chainWords ls ++ drop k before) long);
+    }
+by-rank ls before after n true false count room words =
+    let long : 2 * n ≡ length (chainWords ls) = omega (arith, words-length ls) in
+    let fits : leb (length (chainWords ls)) (length before) ≡ false = ap (λ (k : ℕ). leb k (length before)) (sym long) ∙ room in
+    record { answer = rw fits; area = rw fits words }
+
+module _ (q : Asked) (ahead behind ranks part places : List ℕ) (c rank count : ℕ) (before after : List ℕ) (listed : c < length ranks)
+    (own : rank ≡ getD ranks c 0) (counted : count ≡ shownLinks q rank (length before)) where
+  own-rank : getD ranks c (q .none) ≡ rank
+  own-rank = getD-inside ranks c (q .none) 0 listed ∙ sym own
+
+  -- what is told and the answer, by whether the question asks for no touch
+  abbrev known : ℕ → Bool → Answer
+  known r b =
+      cond (ltb r (q .none))
+      (shown (cond b (quietLink (q .none) ranks part places c ∷ []) (linksIn (q .none) ahead behind ranks part places r c))) none
+
+  abbrev found : Bool → Chained
+  found b =
+      cond (ltb rank (q .none))
+      (cond (leb (2 * cond b 1 rank) (length before)) (Chained.Shown (record { count = cond b 1 rank })) (Chained.Refused ChainArea)) Chained.None
+
+  by-mark : (b : Bool) → eqb (q .mark) 2 ≡ b → Answered (known rank b) before (found b) after
+      → Answered (answerIn q ahead behind ranks part places c) before (told q rank (length before)) after
+  unfolding answerIn
+  by-mark b mark answered =
+      subst (λ (x : Chained). Answered (answerIn q ahead behind ranks part places c) before x after) (ap found (sym mark))
+      (answered-same (sym (ap₂ known own-rank mark)) answered)
+
+  count-by : (b : Bool) → eqb (q .mark) 2 ≡ b → count ≡ cond (ltb rank (q .none) && leb (2 * cond b 1 rank) (length before)) (cond b 1 rank) 0
+  count-by b mark = counted ∙ ap (λ (x : Bool). cond (ltb rank (q .none) && leb (2 * cond x 1 rank) (length before)) (cond x 1 rank) 0) mark
+
+  pub answered-quiet : q .mark ≡ 2 → after ≡ quietWords (q .none) ranks part places count c before
+      → Answered (answerIn q ahead behind ranks part places c) before (told q rank (length before)) after
+  answered-quiet two words =
+      let mark = eq-eqb (q .mark) 2 two in
+      by-mark true mark
+      (by-rank (quietLink (q .none) ranks part places c ∷ []) before after 1 (ltb rank (q .none)) (leb 2 (length before)) refl refl
+      (words ∙ ap (λ (n : ℕ). quietWords (q .none) ranks part places n c before) (count-by true mark) ∙ go (ltb rank (q .none) && leb 2 (length before))))
+    where
+      go : (b : Bool) → quietWords (q .none) ranks part places (cond b 1 0) c before
+          ≡ cond b (chainWords (quietLink (q .none) ranks part places c ∷ []) ++ drop 2 before) before
+      go true = refl
+      go false = refl
+
+  pub answered-links : q .mark ≢ 2 → after ≡ chainWords (linksIn (q .none) ahead behind ranks part places count c) ++ drop (2 * count) before
+      → Answered (answerIn q ahead behind ranks part places c) before (told q rank (length before)) after
+  unfolding linksIn chainWords
+  answered-links other words =
+      let mark = ne-eqb (q .mark) 2 other in
+      by-mark false mark
+      (by-rank (linksIn (q .none) ahead behind ranks part places rank c) before after rank (ltb rank (q .none)) (leb (2 * rank) (length before))
+      (links-count (q .none) ahead behind ranks part places rank c) refl
+      (words ∙ ap (λ (n : ℕ). chainWords (linksIn (q .none) ahead behind ranks part places n c) ++ drop (2 * n) before) (count-by false mark)
+      ∙ go (ltb rank (q .none) && leb (2 * rank) (length before))))
+    where
+      go : (b : Bool) → chainWords (linksIn (q .none) ahead behind ranks part places (cond b rank 0) c) ++ drop (2 * cond b rank 0) before
+          ≡ cond b (chainWords (linksIn (q .none) ahead behind ranks part places rank c) ++ drop (2 * rank) before) before
+      go true = refl
+      go false = refl

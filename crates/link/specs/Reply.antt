@@ -1,25 +1,18 @@
--- The chain call's answer as the enum that the code has, and the number that the C side gets.
+-- What the chain call comes to as the enum that the code has, and as the number that the C side gets.
 use Prim.Native.Nat.{ℕ}
 use mathlib.Core.Path.{_≡_}
 use mathlib.Core.List.{List}
 use lib.ListN.{length}
-use Rattle.image.specs.Answer.{refusalAnswer}
+use Rattle.chain_words.specs.Answer.{chainAnswer}
 use Rattle.rank.specs.Answer.{Answer, none, shown}
 use Rattle.rank.specs.Call.{Reply, refused, answered, inArea, chained, areaAfter}
-use Rattle.link.specs.declared.answer.Chained.{Chained}
+use Rattle.chain_words.specs.declared.answer.Chained.{Chained}
 
 -- "an answer enum whose cases carry a link count struct or a refusal enum with its position"
 abbrev pub chainedAs : Reply → Chained
 chainedAs (refused r) = Chained.Refused r
 chainedAs (answered none) = Chained.None
 chainedAs (answered (shown ls)) = Chained.Shown (record { count = length ls })
-
--- "It gets one 64-bit number: N × 2^32 + P for refusal N at position P, otherwise .. the number of links from the chain, 0 there for
--- "none"."
-abbrev pub chainAnswer : Chained → ℕ
-chainAnswer (Chained.Shown links) = links .count
-chainAnswer Chained.None = 0
-chainAnswer (Chained.Refused r) = refusalAnswer r
 
 -- the number for what the call comes to
 abbrev pub replyNumber : Reply → ℕ

@@ -1,4 +1,3 @@
-// The links of a chain: the choice of each by the ranks, their words, and the answer.
-pub mod answer;
+// The links of a chain: the choice of each by the ranks, and their words.
 pub mod link;
 pub mod write;

@@ -2,17 +2,17 @@
 use image::word::is_entry;
 use image::word::is_kind;
 use image::word::payload_of;
-use rank::entry::Asked;
 use rank::entry::passes;
 use rank::entry::traits_of;
-use rank::read::read_alternative;
+use rank::read::greatest_depth;
+use rank::read::word_at;
 ghost use mathlib.Core.Path.{_≡_};
 ghost use mathlib.Core.Bool.{cond};
 ghost use Prim.Native.Nat.{_+_, _≤_, _<_};
 ghost use lib.ListN.{length, drop};
 ghost use Rattle.library.specs.Library.{entriesFrom, alternativesFrom};
 ghost use Rattle.rank.specs.Walk.{tailFrom, alternativeFrom};
-ghost use Rattle.rank.specs.Tables.{passIn, lookIn, Rankable, Readable};
+ghost use Rattle.rank.specs.Tables.{passIn, depthIn, Rankable, Readable};
 ghost use Rattle.link.specs.Choice.{Chosen};
 
 // An alternative, the position of an entry there, and the number that the entry names.
@@ -39,20 +39,19 @@ fn quiet_from(none: u32, behind: &[u32], part: &[u32], at: usize) -> usize
 {
     let mut start = at;
     let mut i = at;
-    while i < part.len() {
-        let w = part[i];
+    loop {
+        let w = word_at(part, i);
         if !is_entry(w) {
             return start;
         }
         i += 1;
         start = kept_index(passes(none, behind, w), start, i);
     }
-    start
 }
 
 // The first alternative, then the first position, that comes to no more than `k`, among the alternatives that stand from index `at` on.
 pub fn chosen_link(
-    q: Asked,
+    none: u32,
     ahead: &[u32],
     behind: &[u32],
     ranks: &[u32],
@@ -60,31 +59,24 @@ pub fn chosen_link(
     at: usize,
     k: u32,
 ) -> Choice
-    requires { ⌜ Readable (q .none) (now ahead) (now behind) (now ranks) (now part) × (at ≤ length (now part)) × (length (now part) ≤ 8192) ⌝ }
-    ensures { λ r. ⌜ Chosen q (now (ahead .entry)) (now (behind .entry)) (now (ranks .entry)) (now (part .entry)) at k r ⌝ }
+    requires { ⌜ Readable none (now ahead) (now behind) (now ranks) (now part) × (at ≤ length (now part)) × (length (now part) ≤ 8192) ⌝ }
+    ensures { λ r. ⌜ Chosen none (now (ahead .entry)) (now (behind .entry)) (now (ranks .entry)) (now (part .entry)) at k r ⌝ }
 {
     let mut alternative = 0;
     let mut i = at;
     'found: loop {
-        if part.len() <= i {
-            break 'found Choice {
-                alternative: alternative,
-                position: 0,
-                entry: 0,
-            };
-        }
-        let w = part[i];
+        let w = word_at(part, i);
         i += 1;
         if is_kind(7, w) {
             let start = i;
-            let quiet = quiet_from(q.none, behind, part, start);
+            let quiet = quiet_from(none, behind, part, start);
             let mut ok = true;
-            while i < part.len() {
-                let e = part[i];
+            loop {
+                let e = word_at(part, i);
                 if !is_entry(e) {
                     break;
                 }
-                let t = traits_of(q.none, ahead, behind, ranks, e);
+                let t = traits_of(none, ahead, behind, ranks, e);
                 let next = i + 1;
                 if ok & (quiet <= next) & (t.rank <= k) {
                     break 'found Choice {
@@ -107,34 +99,25 @@ pub fn chosen_link(
     }
 }
 
-// The first alternative that comes to no more than `k`, among those that stand from index `at` on.
-pub fn chosen_alternative(
-    q: Asked,
-    ahead: &[u32],
-    behind: &[u32],
-    ranks: &[u32],
-    part: &[u32],
-    at: usize,
-    k: u32,
-) -> u32
-    requires { ⌜ Readable (q .none) (now ahead) (now behind) (now ranks) (now part) × (at ≤ length (now part)) × (length (now part) ≤ 8192) ⌝ }
-    ensures { λ r. ⌜ (r ≡ alternativeFrom (lookIn q (now (ahead .entry)) (now (behind .entry)) (now (ranks .entry))) k 0 (alternativesFrom (drop at (now (part .entry))))) × (r ≤ 8192) ⌝ }
+// The first alternative whose greatest depth is no more than `k`, among those that stand from index `at` on.
+pub fn chosen_alternative(none: u32, ranks: &[u32], part: &[u32], at: usize, k: u32) -> u32
+    requires { ⌜ Rankable none (now ranks) (now part) × (at ≤ length (now part)) × (length (now part) ≤ 8192) ⌝ }
+    ensures { λ r. ⌜ (r ≡ alternativeFrom (depthIn none (now (ranks .entry))) k 0 (alternativesFrom (drop at (now (part .entry))))) × (r ≤ 8192) ⌝ }
 {
     let mut alternative = 0;
     let mut i = at;
-    while i < part.len() {
-        let w = part[i];
+    'found: loop {
+        let w = word_at(part, i);
         i += 1;
         if is_kind(7, w) {
-            let found = read_alternative(q, ahead, behind, ranks, part, i);
+            let found = greatest_depth(none, ranks, part, i);
             if found.value <= k {
-                return alternative;
+                break 'found alternative;
             }
             alternative += 1;
             i = found.next;
         } else if !is_entry(w) {
-            return alternative;
+            break 'found alternative;
         }
     }
-    alternative
 }

@@ -19,7 +19,7 @@ use Rattle.runs.proofs.Tests.{passes-or-not}
 use Rattle.runs.proofs.Outcome.{present≢untouched, absent≢untouched}
 use Rattle.runs.proofs.Columns.{question-iff}
 use Rattle.runs.proofs.Possible.{alternative-below}
-use Rattle.rank.specs.Link.{touchLink, untouchedLink, Chain}
+use Rattle.chain_words.specs.Link.{touchLink, untouchedLink, Chain}
 use Rattle.rank.specs.Stands.{About, entryAt, Choices, StandsFor}
 use Rattle.rank.specs.Depth.{deepest}
 use Rattle.rank.specs.Ranks.{Ranks, Closed, Reached, Linked, Passing, unranked, entryRank, ranks, hasMark, untouchedLook, touchLook}

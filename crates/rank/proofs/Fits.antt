@@ -12,7 +12,7 @@ use Rattle.image.specs.declared.answer.Checked.the-variants.{Accepted}
 use Rattle.library.proofs.Sizes.{small}
 use Rattle.runs.specs.Run.{Item, alternativesOf, alternativeOf}
 use Rattle.runs.specs.Touch.{Question}
-use Rattle.rank.specs.Link.{touchLink, untouchedLink, Chain, Fits}
+use Rattle.chain_words.specs.Link.{touchLink, untouchedLink, Chain, Fits}
 use Rattle.rank.specs.Stands.{EntryTouches, entryAt, StandsFor}
 
 -- only a sequence of the library has an alternative

@@ -2,13 +2,14 @@
 -- an alternative and one for a walk over alternatives; both are over what the loop makes of those that are left.
 -- Assumes nothing.
 use Prim.Native.Nat.{ℕ, zero, suc, _+_, _-_, _≤_, _<_}
+use native.Mathlib.Decide.{decLt}
 use native.Mathlib.Omega.{arith}
 use native.Mathlib.Numerals.{add-one}
-use mathlib.Core.Path.{_≡_, refl, sym, ap, _∙_}
-use mathlib.Core.Bool.{Bool, true, false, cond, _||_}
+use mathlib.Core.Path.{_≡_, refl, sym, ap, ap₂, _∙_}
+use mathlib.Core.Bool.{Bool, true, false, cond, _||_, false≢true}
 use mathlib.Core.Logic.{⊎-elim}
 use mathlib.Core.List.{List, [], _∷_}
-use lib.ListN.{length, getD, drop}
+use lib.ListN.{length, getD, drop, List·getD-eq-default}
 use lib.Seq.{drop-cons, drop-length}
 use borrow.Author.Tests.{eqb-true, ne-eqb}
 use Rattle.image.specs.Word.{kind, payload, isKind, isEntry}
@@ -64,6 +65,23 @@ module _ (part : List ℕ) where
   cut-end : (i : ℕ) → i ≡ length part → drop i part ≡ []
   cut-end i l = ap (λ (n : ℕ). drop n part) l ∙ drop-length part
 
+  -- past the words stands 0, which is no entry and opens no alternative
+  past : (i : ℕ) → length part ≤ i → getD part i 0 ≡ 0
+  past i l = List·getD-eq-default part 0 {n = i} l
+
+  inside : (i : ℕ) (test : ℕ → Bool) → test 0 ≡ false → test (getD part i 0) ≡ true → i < length part
+  inside i test none e =
+      elim (decLt i (length part)) [
+        | yes l ↦ l
+        | no l ↦ absurd (false≢true (sym none ∙ sym (ap test (past i (omega arith))) ∙ e))
+      ]
+
+  pub entry-inside : (i : ℕ) → isEntry (getD part i 0) ≡ true → i < length part
+  entry-inside i e = inside i isEntry refl e
+
+  pub opener-inside : (i : ℕ) → isKind 7 (getD part i 0) ≡ true → i < length part
+  opener-inside i e = inside i (isKind 7) refl e
+
   module _ {R : Type 0} (whole : R) where
     -- ---- the entries of an alternative, which stand from index `at` on
 
@@ -87,38 +105,42 @@ module _ (part : List ℕ) where
         }
 
     module _ (at : ℕ) (rest : List Entry → R) (i : ℕ) (here : Folding at rest i) where
-      left : (b : Bool) → i < length part → isEntry (getD part i 0) ≡ b
+      left : (b : Bool) → isEntry (getD part i 0) ≡ b
           → entriesFrom (drop i part) ≡ cond b (entryOf (getD part i 0) ∷ entriesFrom (drop (i + 1) part)) []
-      left b l e = ap entriesFrom (cut i l) ∙ entries-cons (getD part i 0) (drop (i + 1) part) b e
+      left b e =
+          elim (decLt i (length part)) [
+            | yes l ↦ ap entriesFrom (cut i l) ∙ entries-cons (getD part i 0) (drop (i + 1) part) b e
+            | no l ↦
+                ap entriesFrom (cut-end i (omega (arith, here .within))) ∙ entries-nil
+                ∙ ap (λ (x : Bool). cond x (entryOf (getD part i 0) ∷ entriesFrom (drop (i + 1) part)) []) (sym (ap isEntry (past i (omega arith))) ∙ e)
+          ]
 
       -- an entry, after which `next` is what the loop makes of the rest
-      pub folding-turn : i < length part → isEntry (getD part i 0) ≡ true → (next : List Entry → R)
+      pub folding-turn : isEntry (getD part i 0) ≡ true → (next : List Entry → R)
           → rest (entryOf (getD part i 0) ∷ entriesFrom (drop (i + 1) part)) ≡ next (entriesFrom (drop (i + 1) part)) → Folding at next (i + 1)
-      folding-turn l e next turn =
+      folding-turn e next turn =
           let w = getD part i 0 in
           let more = drop (i + 1) part in
+          let l = entry-inside i e in
           let index : i + 1 - at ≡ suc (i - at) = omega (arith, here .low) in
           record {
             low = omega (arith, here .low);
             within = omega arith;
-            same = sym turn ∙ sym (ap rest (left true l e)) ∙ here .same;
+            same = sym turn ∙ sym (ap rest (left true e)) ∙ here .same;
             passed =
                 ap (λ (n : ℕ). drop n (entriesFrom (drop at part))) index
-                ∙ drop-next (entriesFrom (drop at part)) (i - at) (entryOf w) (entriesFrom more) (here .passed ∙ left true l e);
+                ∙ drop-next (entriesFrom (drop at part)) (i - at) (entryOf w) (entriesFrom more) (here .passed ∙ left true e);
             skips = here .skips ∙ ap alternativesFrom (cut i l) ∙ alternatives-cons w more false true (entry-opens-none w e) e;
           }
 
       -- the entry that stands there
-      pub folding-entry : i < length part → isEntry (getD part i 0) ≡ true → entryAt (entriesFrom (drop at part)) (i - at) ≡ entryOf (getD part i 0)
-      folding-entry l e =
-          drop-first (entriesFrom (drop at part)) (i - at) (entryOf (getD part i 0)) (entriesFrom (drop (i + 1) part)) (here .passed ∙ left true l e)
+      pub folding-entry : isEntry (getD part i 0) ≡ true → entryAt (entriesFrom (drop at part)) (i - at) ≡ entryOf (getD part i 0)
+      folding-entry e =
+          drop-first (entriesFrom (drop at part)) (i - at) (entryOf (getD part i 0)) (entriesFrom (drop (i + 1) part)) (here .passed ∙ left true e)
 
       -- a word that is no entry, or the end of the words
-      pub folding-out : i < length part → isEntry (getD part i 0) ≡ false → rest [] ≡ whole
-      folding-out l e = sym (ap rest (left false l e)) ∙ here .same
-
-      pub folding-end : i ≡ length part → rest [] ≡ whole
-      folding-end l = sym (ap rest (ap entriesFrom (cut-end i l) ∙ entries-nil)) ∙ here .same
+      pub folding-out : isEntry (getD part i 0) ≡ false → rest [] ≡ whole
+      folding-out e = sym (ap rest (left false e)) ∙ here .same
 
     -- ---- the alternatives of a sequence
 
@@ -128,28 +150,33 @@ module _ (part : List ℕ) where
       pub same : rest (alternativesFrom (drop i part)) ≡ whole
 
     module _ (rest : List Alternative → R) (i : ℕ) (here : Walking rest i) where
-      remain : (a b : Bool) → i < length part → isKind 7 (getD part i 0) ≡ a → isEntry (getD part i 0) ≡ b
+      remain : (a b : Bool) → isKind 7 (getD part i 0) ≡ a → isEntry (getD part i 0) ≡ b
           → alternativesFrom (drop i part)
           ≡ cond a (entriesFrom (drop (i + 1) part) ∷ alternativesFrom (drop (i + 1) part)) (cond b (alternativesFrom (drop (i + 1) part)) [])
-      remain a b l e f = ap alternativesFrom (cut i l) ∙ alternatives-cons (getD part i 0) (drop (i + 1) part) a b e f
+      remain a b e f =
+          elim (decLt i (length part)) [
+            | yes l ↦ ap alternativesFrom (cut i l) ∙ alternatives-cons (getD part i 0) (drop (i + 1) part) a b e f
+            | no l ↦
+                let zero-word = past i (omega arith) in
+                ap alternativesFrom (cut-end i (omega (arith, here .within))) ∙ alternatives-nil
+                ∙ ap₂ (λ (x y : Bool). cond x (entriesFrom (drop (i + 1) part) ∷ alternativesFrom (drop (i + 1) part)) (cond y (alternativesFrom (drop (i + 1) part)) []))
+                (sym (ap (isKind 7) zero-word) ∙ e) (sym (ap isEntry zero-word) ∙ f)
+          ]
 
       -- an alternative, after whose entries the words go on at j, with `next` for what the loop makes of the rest
-      pub walking-turn : i < length part → isKind 7 (getD part i 0) ≡ true → (next : List Alternative → R) (j : ℕ) → j ≤ length part
+      pub walking-turn : isKind 7 (getD part i 0) ≡ true → (next : List Alternative → R) (j : ℕ) → j ≤ length part
           → alternativesFrom (drop (i + 1) part) ≡ alternativesFrom (drop j part)
           → rest (entriesFrom (drop (i + 1) part) ∷ alternativesFrom (drop (i + 1) part)) ≡ next (alternativesFrom (drop (i + 1) part)) → Walking next j
-      walking-turn l e next j within skips turn =
+      walking-turn e next j within skips turn =
           record {
             within = within;
-            same = ap next (sym skips) ∙ sym turn ∙ sym (ap rest (remain true (isEntry (getD part i 0)) l e refl)) ∙ here .same;
+            same = ap next (sym skips) ∙ sym turn ∙ sym (ap rest (remain true (isEntry (getD part i 0)) e refl)) ∙ here .same;
           }
 
       -- an entry
-      pub walking-skip : i < length part → isKind 7 (getD part i 0) ≡ false → isEntry (getD part i 0) ≡ true → Walking rest (i + 1)
-      walking-skip l e f = record { within = omega arith; same = sym (ap rest (remain false true l e f)) ∙ here .same }
+      pub walking-skip : isKind 7 (getD part i 0) ≡ false → isEntry (getD part i 0) ≡ true → Walking rest (i + 1)
+      walking-skip e f = record { within = omega (arith, entry-inside i f); same = sym (ap rest (remain false true e f)) ∙ here .same }
 
       -- the next sequence, or the end of the words
-      pub walking-out : i < length part → isKind 7 (getD part i 0) ≡ false → isEntry (getD part i 0) ≡ false → rest [] ≡ whole
-      walking-out l e f = sym (ap rest (remain false false l e f)) ∙ here .same
-
-      pub walking-end : i ≡ length part → rest [] ≡ whole
-      walking-end l = sym (ap rest (ap alternativesFrom (cut-end i l) ∙ alternatives-nil)) ∙ here .same
+      pub walking-out : isKind 7 (getD part i 0) ≡ false → isEntry (getD part i 0) ≡ false → rest [] ≡ whole
+      walking-out e f = sym (ap rest (remain false false e f)) ∙ here .same

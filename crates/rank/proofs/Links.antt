@@ -18,7 +18,7 @@ use Rattle.runs.specs.Algebra.{sameMark-refl, sameMark-eq}
 use Rattle.runs.proofs.Tests.{and-both}
 use Rattle.runs.proofs.Possible.{alternative-below}
 use Rattle.rank.specs.Scan.{every}
-use Rattle.rank.specs.Link.{touchLink, untouchedLink, Chain}
+use Rattle.chain_words.specs.Link.{touchLink, untouchedLink, Chain}
 use Rattle.rank.specs.Stands.{About, EntryTouches, entryAt, Choices, StandsFor}
 use Rattle.rank.specs.Ranks.{Ranks, Look, Closed, Reached, Linked, entryRank, candidate, linkLook, hasMark, aheadOf, behindOf}
 use Rattle.rank.specs.Answer.{chosenAlternative, chosenPosition}

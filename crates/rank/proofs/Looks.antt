@@ -15,11 +15,11 @@ use Rattle.library.specs.Library.{Entry, Alternative, entriesFrom, alternatives
 use Rattle.rank.specs.Scan.{every}
 use Rattle.rank.specs.Walk.{depthFrom, fewestFrom, loweredFrom}
 use Rattle.rank.specs.Tables.{entryOf, rankIn, passIn, traitsIn, depthIn, everyIn, fewestIn, lookIn, AlternativeRead}
-use Rattle.rank.specs.declared.entry.Asked.{Asked}
+use Rattle.chain_words.specs.declared.asked.Asked.{Asked}
 use Rattle.rank.specs.declared.entry.Traits.{Traits}
 use Rattle.rank.specs.declared.read.Read.{Read}
 use Rattle.rank.proofs.Walk.{lowered-least}
-use Rattle.rank.proofs.Folds.{Folding, folding-start, folding-turn, folding-out, folding-end, Walking, walking-turn, walking-skip, walking-out, walking-end}
+use Rattle.rank.proofs.Folds.{Folding, folding-start, folding-turn, folding-out, entry-inside, Walking, walking-turn, walking-skip, walking-out}
 
 -- ---- the entries of an alternative are passed over
 
@@ -30,8 +30,8 @@ module _ (part : List ℕ) (at : ℕ) where
   pub over-start : at ≤ length part → Over at
   over-start l = folding-start part {R = ℕ} 0 at (λ es. 0) l refl
 
-  pub over-turn : (i : ℕ) → Over i → i < length part → isEntry (getD part i 0) ≡ true → Over (i + 1)
-  over-turn i here l e = folding-turn part {R = ℕ} 0 at (λ es. 0) i here l e (λ es. 0) refl
+  pub over-turn : (i : ℕ) → Over i → isEntry (getD part i 0) ≡ true → Over (i + 1)
+  over-turn i here e = folding-turn part {R = ℕ} 0 at (λ es. 0) i here e (λ es. 0) refl
 
   pub over-end : (i : ℕ) → Over i → (at ≤ i) × (i ≤ length part) × (alternativesFrom (drop at part) ≡ alternativesFrom (drop i part))
   over-end i here = (here .low, here .within, here .skips)
@@ -40,14 +40,14 @@ module _ (part : List ℕ) (at : ℕ) where
 
 module _ (part : List ℕ) (worth : Alternative → ℕ) (at : ℕ) (rest : List Entry → ℕ) (i : ℕ)
     (here : Folding part (worth (entriesFrom (drop at part))) at rest i) (v : ℕ) (left : v ≡ rest []) where
-  read-by : rest [] ≡ worth (entriesFrom (drop at part)) → AlternativeRead worth part at (record { value = v; next = i })
-  read-by whole = record { value = left ∙ whole; low = here .low; within = here .within; skips = here .skips }
-
-  read-out : i < length part → isEntry (getD part i 0) ≡ false → AlternativeRead worth part at (record { value = v; next = i })
-  read-out l e = read-by (folding-out part (worth (entriesFrom (drop at part))) at rest i here l e)
-
-  read-end : i ≡ length part → AlternativeRead worth part at (record { value = v; next = i })
-  read-end l = read-by (folding-end part (worth (entriesFrom (drop at part))) at rest i here l)
+  read-out : isEntry (getD part i 0) ≡ false → AlternativeRead worth part at (record { value = v; next = i })
+  read-out e =
+      record {
+        value = left ∙ folding-out part (worth (entriesFrom (drop at part))) at rest i here e;
+        low = here .low;
+        within = here .within;
+        skips = here .skips;
+      }
 
 -- its greatest depth
 module _ (none : ℕ) (ranks part : List ℕ) (at : ℕ) where
@@ -64,17 +64,13 @@ module _ (none : ℕ) (ranks part : List ℕ) (at : ℕ) where
   deepest-start l = folding-start part depth at (depthFrom rank 0) l refl
 
   module _ (d i : ℕ) (here : Deepest d i) where
-    pub deepest-turn : i < length part → isEntry (getD part i 0) ≡ true → Deepest (max d (rank (entryOf (getD part i 0)))) (i + 1)
+    pub deepest-turn : isEntry (getD part i 0) ≡ true → Deepest (max d (rank (entryOf (getD part i 0)))) (i + 1)
     unfolding depthFrom
-    deepest-turn l e = folding-turn part depth at (depthFrom rank d) i here l e (depthFrom rank (max d (rank (entryOf (getD part i 0))))) refl
+    deepest-turn e = folding-turn part depth at (depthFrom rank d) i here e (depthFrom rank (max d (rank (entryOf (getD part i 0))))) refl
 
-    pub deepest-out : i < length part → isEntry (getD part i 0) ≡ false → AlternativeRead (depthIn none ranks) part at (record { value = d; next = i })
+    pub deepest-out : isEntry (getD part i 0) ≡ false → AlternativeRead (depthIn none ranks) part at (record { value = d; next = i })
     unfolding depthFrom
-    deepest-out l e = read-out part (depthIn none ranks) at (depthFrom rank d) i here d refl l e
-
-    pub deepest-end : i ≡ length part → AlternativeRead (depthIn none ranks) part at (record { value = d; next = i })
-    unfolding depthFrom
-    deepest-end l = read-end part (depthIn none ranks) at (depthFrom rank d) i here d refl l
+    deepest-out e = read-out part (depthIn none ranks) at (depthFrom rank d) i here d refl e
 
 -- whether all its entries have a rank
 module _ (none : ℕ) (ranks part : List ℕ) (at : ℕ) where
@@ -91,8 +87,8 @@ module _ (none : ℕ) (ranks part : List ℕ) (at : ℕ) where
     abbrev entry : Entry
     entry = entryOf (getD part i 0)
 
-    opened : i < length part → isEntry (getD part i 0) ≡ true → Folding part (ranked (entriesFrom (drop at part))) at (λ es. ranked (entry ∷ es)) (i + 1)
-    opened l e = folding-turn part (ranked (entriesFrom (drop at part))) at ranked i here l e (λ es. ranked (entry ∷ es)) refl
+    opened : isEntry (getD part i 0) ≡ true → Folding part (ranked (entriesFrom (drop at part))) at (λ es. ranked (entry ∷ es)) (i + 1)
+    opened e = folding-turn part (ranked (entriesFrom (drop at part))) at ranked i here e (λ es. ranked (entry ∷ es)) refl
 
     by-entry : (b : Bool) → passIn none ranks entry ≡ b → (es : List Entry) → ranked (entry ∷ es) ≡ cond b (ranked es) none
     unfolding every
@@ -102,13 +98,13 @@ module _ (none : ℕ) (ranks part : List ℕ) (at : ℕ) where
         go true y = refl
         go false y = refl
 
-    pub ranking-turn : i < length part → isEntry (getD part i 0) ≡ true → passIn none ranks entry ≡ true → Ranking (i + 1)
-    ranking-turn l e told = folding-turn part (ranked (entriesFrom (drop at part))) at ranked i here l e ranked (by-entry true told (entriesFrom (drop (i + 1) part)))
+    pub ranking-turn : isEntry (getD part i 0) ≡ true → passIn none ranks entry ≡ true → Ranking (i + 1)
+    ranking-turn e told = folding-turn part (ranked (entriesFrom (drop at part))) at ranked i here e ranked (by-entry true told (entriesFrom (drop (i + 1) part)))
 
-    pub ranking-fails : i < length part → isEntry (getD part i 0) ≡ true → passIn none ranks entry ≡ false → (j : ℕ) → i + 1 ≤ j → j ≤ length part
+    pub ranking-fails : isEntry (getD part i 0) ≡ true → passIn none ranks entry ≡ false → (j : ℕ) → i + 1 ≤ j → j ≤ length part
         → alternativesFrom (drop (i + 1) part) ≡ alternativesFrom (drop j part) → AlternativeRead (everyIn none ranks) part at (record { value = none; next = j })
-    ranking-fails l e told j low within passed =
-        let read = opened l e in
+    ranking-fails e told j low within passed =
+        let read = opened e in
         record {
           value = sym (by-entry false told (entriesFrom (drop (i + 1) part))) ∙ read .same;
           low = omega (arith, read .low);
@@ -116,13 +112,9 @@ module _ (none : ℕ) (ranks part : List ℕ) (at : ℕ) where
           skips = read .skips ∙ passed;
         }
 
-    pub ranking-out : i < length part → isEntry (getD part i 0) ≡ false → AlternativeRead (everyIn none ranks) part at (record { value = 0; next = i })
+    pub ranking-out : isEntry (getD part i 0) ≡ false → AlternativeRead (everyIn none ranks) part at (record { value = 0; next = i })
     unfolding every
-    ranking-out l e = read-out part (everyIn none ranks) at ranked i here 0 refl l e
-
-    pub ranking-end : i ≡ length part → AlternativeRead (everyIn none ranks) part at (record { value = 0; next = i })
-    unfolding every
-    ranking-end l = read-end part (everyIn none ranks) at ranked i here 0 refl l
+    ranking-out e = read-out part (everyIn none ranks) at ranked i here 0 refl e
 
 -- the fewest links after this one
 module _ (none : ℕ) (ahead behind ranks part : List ℕ) (at : ℕ) where
@@ -139,22 +131,18 @@ module _ (none : ℕ) (ahead behind ranks part : List ℕ) (at : ℕ) where
   fewest-start l = folding-start part (links (entriesFrom (drop at part))) at (fewest true none) l refl
 
   module _ (ok : Bool) (best i : ℕ) (here : Fewest ok best i) where
-    pub fewest-turn : i < length part → isEntry (getD part i 0) ≡ true → (t : Traits) → t ≡ traitsIn none ahead behind ranks (entryOf (getD part i 0))
+    pub fewest-turn : isEntry (getD part i 0) ≡ true → (t : Traits) → t ≡ traitsIn none ahead behind ranks (entryOf (getD part i 0))
         → Fewest (ok && t .ahead) (min (cond (t .behind) best none) (cond ok (t .rank) none)) (i + 1)
     unfolding fewestFrom
-    fewest-turn l e t same =
+    fewest-turn e t same =
         rw same
-        (folding-turn part (links (entriesFrom (drop at part))) at (fewest ok best) i here l e
+        (folding-turn part (links (entriesFrom (drop at part))) at (fewest ok best) i here e
         (fewest (ok && passIn none ahead (entryOf (getD part i 0)))
         (min (cond (passIn none behind (entryOf (getD part i 0))) best none) (cond ok (rankIn none none ranks (entryOf (getD part i 0))) none))) refl)
 
-    pub fewest-out : i < length part → isEntry (getD part i 0) ≡ false → AlternativeRead links part at (record { value = best; next = i })
+    pub fewest-out : isEntry (getD part i 0) ≡ false → AlternativeRead links part at (record { value = best; next = i })
     unfolding fewestFrom
-    fewest-out l e = read-out part links at (fewest ok best) i here best refl l e
-
-    pub fewest-end : i ≡ length part → AlternativeRead links part at (record { value = best; next = i })
-    unfolding fewestFrom
-    fewest-end l = read-end part links at (fewest ok best) i here best refl l
+    fewest-out e = read-out part links at (fewest ok best) i here best refl e
 
 -- what it comes to by the mark asked for
 module _ (q : Asked) (ahead behind ranks part : List ℕ) (at : ℕ) (r : Read) where
@@ -186,23 +174,19 @@ module _ (worth : Alternative → ℕ) (part : List ℕ) (whole : ℕ) where
   Lowering r i = Walking part whole (loweredFrom worth r) i
 
   module _ (r i : ℕ) (here : Lowering r i) where
-    pub lowering-turn : i < length part → isKind 7 (getD part i 0) ≡ true → (found : Read) → AlternativeRead worth part (i + 1) found
+    pub lowering-turn : isKind 7 (getD part i 0) ≡ true → (found : Read) → AlternativeRead worth part (i + 1) found
         → Lowering (min r (1 + found .value)) (found .next)
     unfolding loweredFrom
-    lowering-turn l e found read =
-        walking-turn part whole (loweredFrom worth r) i here l e (loweredFrom worth (min r (1 + found .value))) (found .next) (read .within) (read .skips)
+    lowering-turn e found read =
+        walking-turn part whole (loweredFrom worth r) i here e (loweredFrom worth (min r (1 + found .value))) (found .next) (read .within) (read .skips)
         (ap (λ (x : ℕ). loweredFrom worth (min r x) (alternativesFrom (drop (i + 1) part))) (sym (one-add (found .value) ∙ ap suc (read .value))))
 
     pub lowering-low : r ≤ 1 → r ≡ whole
     lowering-low l = sym (lowered-least worth r (alternativesFrom (drop i part)) l) ∙ here .same
 
-    pub lowering-skip : i < length part → isKind 7 (getD part i 0) ≡ false → isEntry (getD part i 0) ≡ true → Lowering r (i + 1)
-    lowering-skip l e f = walking-skip part whole (loweredFrom worth r) i here l e f
+    pub lowering-skip : isKind 7 (getD part i 0) ≡ false → isEntry (getD part i 0) ≡ true → Lowering r (i + 1)
+    lowering-skip e f = walking-skip part whole (loweredFrom worth r) i here e f
 
-    pub lowering-out : i < length part → isKind 7 (getD part i 0) ≡ false → isEntry (getD part i 0) ≡ false → r ≡ whole
+    pub lowering-out : isKind 7 (getD part i 0) ≡ false → isEntry (getD part i 0) ≡ false → r ≡ whole
     unfolding loweredFrom
-    lowering-out l e f = walking-out part whole (loweredFrom worth r) i here l e f
-
-    pub lowering-end : i ≡ length part → r ≡ whole
-    unfolding loweredFrom
-    lowering-end l = walking-end part whole (loweredFrom worth r) i here l
+    lowering-out e f = walking-out part whole (loweredFrom worth r) i here e f

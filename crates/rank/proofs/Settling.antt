@@ -18,7 +18,7 @@ use Rattle.rank.specs.Ranks.{Look}
 use Rattle.rank.specs.Walk.{loweredFrom}
 use Rattle.rank.specs.Visits.{visited, Visits, Settled}
 use Rattle.rank.specs.Tables.{inRanks, lookIn, Rankable, Readable, Visitable, alternativesAt, visitedRank, visitedRanks}
-use Rattle.rank.specs.declared.entry.Asked.{Asked}
+use Rattle.chain_words.specs.declared.asked.Asked.{Asked}
 use Rattle.rank.proofs.Scan.{getD-inside, total-set}
 use Rattle.rank.proofs.Walk.{lowered-low, lowered-from}
 

@@ -1,6 +1,6 @@
 -- A table of ranks: the word of an entry, and the loop that writes those of the steps.
 -- Assumes nothing.
-use Prim.Native.Nat.{ℕ, _+_, _≤_, _<_}
+use Prim.Native.Nat.{ℕ, _+_, _*_, _≤_, _<_}
 use native.Mathlib.Decide.{ℕ-discrete}
 use native.Mathlib.Omega.{arith}
 use mathlib.Core.Path.{_≡_, refl, sym, ap, _∙_}
@@ -12,8 +12,8 @@ use borrow.Author.Tests.{eqb-true, eqb-false}
 use Rattle.image.specs.Word.{kind, payload, isKind, isEntry}
 use Rattle.library.specs.Library.{step, call}
 use Rattle.image.proofs.Entries.{entry-kinds}
-use Rattle.rank.specs.Tables.{entryOf, slotOf, rankIn, Within, stepRank, Stepped, Steppable}
-use Rattle.rank.specs.declared.entry.Asked.{Asked}
+use Rattle.rank.specs.Tables.{entryOf, slotOf, rankIn, Within, markOf, stepMark, stepRank, Stepped, Steppable}
+use Rattle.chain_words.specs.declared.asked.Asked.{Asked}
 use Rattle.rank.proofs.Scan.{getD-inside}
 
 -- ---- the word of an entry
@@ -42,6 +42,20 @@ module _ (none w : ℕ) (T : List ℕ) (e : isEntry w ≡ true) (within : Within
           ap (λ (n : ℕ). getD T n 0) same ∙ getD-inside T p 0 none (inside .1) ∙ sym (getD-take none T p none (inside .0))
 
 -- ---- the ranks of the steps
+
+-- what a step needs and sets stands one word before what it sets and clears
+pub side-low : (b : Bool) → cond b 0 1 ≤ 1
+side-low true = omega arith
+side-low false = omega arith
+
+pub side-mark : (q : Asked) (masks : List ℕ) (a side : ℕ) → side ≡ cond (q .first) 0 1
+    → markOf (q .fact) (getD masks (3 * a + side) 0) (getD masks (3 * a + side + 1) 0) ≡ stepMark q masks a
+side-mark q masks a side e = ap (λ (n : ℕ). markOf (q .fact) (getD masks (3 * a + n) 0) (getD masks (3 * a + n + 1) 0)) e ∙ go (q .first)
+  where
+    go : (b : Bool) → markOf (q .fact) (getD masks (3 * a + cond b 0 1) 0) (getD masks (3 * a + cond b 0 1 + 1) 0)
+        ≡ cond b (markOf (q .fact) (getD masks (3 * a) 0) (getD masks (3 * a + 1) 0)) (markOf (q .fact) (getD masks (3 * a + 1) 0) (getD masks (3 * a + 2) 0))
+    go true = let same : 3 * a + 0 ≡ 3 * a = omega arith in ap (λ (n : ℕ). markOf (q .fact) (getD masks n 0) (getD masks (n + 1) 0)) same
+    go false = let next : 3 * a + 1 + 1 ≡ 3 * a + 2 = omega arith in ap (λ (n : ℕ). markOf (q .fact) (getD masks (3 * a + 1) 0) (getD masks n 0)) next
 
 module _ (any : Bool) (q : Asked) (masks before : List ℕ) where
   -- at the head: the ranks of the steps below a are written

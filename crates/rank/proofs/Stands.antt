@@ -13,7 +13,7 @@ use Rattle.runs.specs.Touch.{Side, last, first, Mark, untouched, itemTouch, dec
 use Rattle.runs.specs.Algebra.{orElse-untouched}
 use Rattle.runs.proofs.Run.{gives-append, call-iff}
 use Rattle.runs.proofs.Outcome.{decided-append, orElse-touch, orElse-cases}
-use Rattle.rank.specs.Link.{touchLink, untouchedLink, Chain}
+use Rattle.chain_words.specs.Link.{touchLink, untouchedLink, Chain}
 use Rattle.rank.specs.Stands.{About, quietPart, EntryTouches, entryAt, Choices, StandsFor}
 
 -- the touch between two parts, of which the one that could overrule it leaves the fact untouched, decides

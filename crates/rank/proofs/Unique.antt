@@ -8,7 +8,7 @@ use lib.ListN.{length}
 use Rattle.library.specs.Library.{Library}
 use Rattle.runs.specs.Touch.{Mark, present, absent, untouched, Question}
 use Rattle.runs.proofs.Outcome.{present≢untouched, absent≢untouched}
-use Rattle.rank.specs.Link.{touchLink, untouchedLink, Chain}
+use Rattle.chain_words.specs.Link.{touchLink, untouchedLink, Chain}
 use Rattle.rank.specs.Answer.{Answer, none, shown, answer}
 use Rattle.rank.specs.Shows.{NoHigher, LeastDepth, Shows}
 use Rattle.rank.proofs.Answers.{answer-shows, answer-none}

@@ -18,7 +18,7 @@ use Rattle.rank.specs.Stands.{entryAt}
 use Rattle.rank.specs.Ranks.{Ranks, Look, lowered, entryRank, depthLook, candidate, linkLook}
 use Rattle.rank.specs.Answer.{chosenAlternative, chosenPosition}
 use Rattle.rank.specs.Walk.{loweredFrom, alternativeFrom, depthFrom, fewestFrom, positionFrom, linkFrom, tailFrom}
-use Rattle.rank.specs.Link.{touchLink}
+use Rattle.chain_words.specs.Link.{touchLink}
 use Rattle.rank.proofs.Scan.{least-start, least-le, least-cases, first-found, first-passes, first-same}
 
 -- the least value by its first index

@@ -5,7 +5,7 @@ use mathlib.Core.List.{[], _∷_, _++_, append-assoc}
 use native.Mathlib.Omega.{arith}
 use lib.ListN.{length, length-append}
 use Rattle.library.specs.Accepted.{All}
-use Rattle.rank.specs.Link.{Link, touchLink, untouchedLink, Chain, choiceWord, linkWords, Fits, chainWords}
+use Rattle.chain_words.specs.Link.{Link, touchLink, untouchedLink, Chain, choiceWord, linkWords, Fits, chainWords}
 
 link-length : (l : Link) → length (linkWords l) ≡ 2
 link-length (touchLink c i p) = refl

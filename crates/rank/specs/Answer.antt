@@ -8,7 +8,7 @@ use Rattle.library.specs.Library.{Library, Alternative, Sequence, Entry, step, 
 use Rattle.runs.specs.Run.{alternativesOf, alternativeOf}
 use Rattle.runs.specs.Touch.{Mark, present, absent, untouched, Question}
 use Rattle.rank.specs.Scan.{firstIndex}
-use Rattle.rank.specs.Link.{touchLink, untouchedLink, Chain}
+use Rattle.chain_words.specs.Link.{touchLink, untouchedLink, Chain}
 use Rattle.rank.specs.Stands.{entryAt}
 use Rattle.rank.specs.Ranks.{Ranks, Look, ranks, unranked, candidate, hasMark, aheadOf, behindOf, untouchedLook, touchLook}
 use Rattle.rank.specs.Ranks.{depthLook, linkLook}

@@ -13,7 +13,7 @@ use Rattle.image.specs.declared.answer.Refusal.the-variants.{Sequence, Question
 use Rattle.image.specs.declared.answer.Checked.{Checked}
 use Rattle.image.specs.declared.answer.Checked.the-variants.{Accepted, Refused}
 use Rattle.runs.specs.Touch.{questionOf}
-use Rattle.rank.specs.Link.{chainWords}
+use Rattle.chain_words.specs.Link.{chainWords}
 use Rattle.rank.specs.Answer.{Answer, none, shown, answer}
 
 -- what the chain call comes to: a refusal, or the answer to the question

@@ -1,5 +1,4 @@
 pub mod Scan
-pub mod Link
 pub mod Stands
 pub mod Depth
 pub mod Ranks

@@ -12,7 +12,7 @@ use Rattle.runs.specs.Touch.{Side, last, first, untouched, itemTouch, Question,
 use Rattle.runs.specs.Algebra.{sameMark}
 use Rattle.runs.specs.Possible.{hasRun, possibleOutcome}
 use Rattle.rank.specs.Scan.{every, leastBelow, greatest, listBelow, total}
-use Rattle.rank.specs.Link.{Chain}
+use Rattle.chain_words.specs.Link.{Chain}
 use Rattle.rank.specs.Stands.{About, entryAt, StandsFor}
 use Rattle.rank.specs.Depth.{depthOf}
 

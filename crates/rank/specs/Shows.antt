@@ -7,7 +7,7 @@ use lib.ListN.{length}
 use Rattle.library.specs.Library.{Library}
 use Rattle.runs.specs.Run.{Item, Run, Gives, alternativesOf, alternativeOf}
 use Rattle.runs.specs.Touch.{untouched, Question, untouchedOn, HasOutcome}
-use Rattle.rank.specs.Link.{touchLink, untouchedLink, Chain}
+use Rattle.chain_words.specs.Link.{touchLink, untouchedLink, Chain}
 use Rattle.rank.specs.Stands.{About, StandsFor}
 use Rattle.rank.specs.Depth.{deepest}
 

@@ -7,7 +7,7 @@ use lib.ListN.{length, getD, take, drop}
 use Rattle.library.specs.Library.{Library, Alternative, Entry, step, call}
 use Rattle.runs.specs.Run.{Item, Gives, alternativesOf, alternativeOf}
 use Rattle.runs.specs.Touch.{Side, last, first, untouched, itemTouch, Question, HasOutcome, untouchedOn}
-use Rattle.rank.specs.Link.{touchLink, untouchedLink, Chain, sequenceOf}
+use Rattle.chain_words.specs.Link.{touchLink, untouchedLink, Chain, sequenceOf}
 
 -- "A chain stands for runs of its first link's sequence"; "The first link of an answer is about the sequence asked about."
 abbrev pub About : ℕ → Chain → Type 0

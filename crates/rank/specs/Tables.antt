@@ -15,7 +15,7 @@ use Rattle.visits.specs.Passes.{Pass}
 use Rattle.rank.specs.Scan.{every, total}
 use Rattle.rank.specs.Ranks.{Ranks}
 use Rattle.rank.specs.Walk.{loweredFrom, depthFrom, fewestFrom}
-use Rattle.rank.specs.declared.entry.Asked.{Asked}
+use Rattle.chain_words.specs.declared.asked.Asked.{Asked}
 use Rattle.rank.specs.declared.entry.Traits.{Traits}
 use Rattle.rank.specs.declared.read.Read.{Read}
 

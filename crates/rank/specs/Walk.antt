@@ -6,7 +6,7 @@ use lib.ListN.{length}
 use lib.Dec.{leb, ltb}
 use Rattle.library.specs.Library.{Alternative, Entry}
 use Rattle.rank.specs.Scan.{every}
-use Rattle.rank.specs.Link.{Link, touchLink}
+use Rattle.chain_words.specs.Link.{Link, touchLink}
 
 -- the rank r of a sequence, lowered by the alternatives from here on
 unfoldable pub loweredFrom : (Alternative → ℕ) → ℕ → List Alternative → ℕ

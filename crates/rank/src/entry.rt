@@ -1,4 +1,5 @@
 // What the tables say of an entry, for the question that is asked.
+use chain_words::asked::Asked;
 use column::sets::holds;
 use image::word::is_kind;
 use image::word::payload_of;
@@ -8,14 +9,6 @@ ghost use Prim.Native.Nat.{ℕ, _+_, _*_, _≤_, _<_};
 ghost use lib.ListN.{length};
 ghost use Rattle.image.specs.Word.{isEntry};
 ghost use Rattle.rank.specs.Tables.{markOf, stepMark, stepRank, Steppable, Stepped, slotOf, entryOf, rankIn, passIn, traitsIn, Within};
-
-// The question: its side, the mark asked for there (0 and 1 for the two touches, 2 for untouched, 3 where only a rank counts), the fact, and what stands for "no rank".
-pub struct Asked {
-    pub first: bool,
-    pub mark: u32,
-    pub fact: u32,
-    pub none: u32,
-}
 
 // An entry's rank, and whether it passes as one ahead of the position and as one behind it.
 pub struct Traits {
@@ -47,11 +40,8 @@ fn step_mark(q: Asked, masks: &[u64], a: usize) -> u32
     requires { ⌜ (q .fact < 64) × (3 * a + 3 ≤ length (now masks)) ⌝ }
     ensures { λ r. ⌜ r ≡ stepMark q (now (masks .entry)) a ⌝ }
 {
-    let at = 3 * a;
-    if q.first {
-        return mark_of(q.fact, masks[at], masks[at + 1]);
-    }
-    mark_of(q.fact, masks[at + 1], masks[at + 2])
+    let at = 3 * a + kept(q.first, 0, 1) as usize;
+    mark_of(q.fact, masks[at], masks[at + 1])
 }
 
 // The rank of step `a`: 0 where it has the mark asked for, or where any will do.

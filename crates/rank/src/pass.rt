@@ -1,6 +1,6 @@
 // Ranks lowered in place until no visit changes them, by passes like those of the outcome table.
-use crate::entry::Asked;
 use crate::read::lowered_rank;
+use chain_words::asked::Asked;
 use visits::named::place_of;
 ghost use mathlib.Core.Bool.{false};
 ghost use Prim.Native.Nat.{_<_};
@@ -56,7 +56,7 @@ fn pass(
     changed
 }
 
-// Passes in the order and against it, in turn, until one changes nothing.
+// Passes in an order that names every sequence and against it, in turn, until one changes nothing.
 pub fn settle(
     q: Asked,
     ahead: &[u32],

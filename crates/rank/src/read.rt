@@ -1,14 +1,14 @@
 // What an alternative comes to by the ranks as they stand, and the rank of a sequence lowered by its alternatives.
-use crate::entry::Asked;
 use crate::entry::kept;
 use crate::entry::passes;
 use crate::entry::rank_of;
 use crate::entry::traits_of;
+use chain_words::asked::Asked;
 use image::word::is_entry;
 use image::word::is_kind;
 ghost use mathlib.Core.Path.{_≡_};
 ghost use Prim.Native.Nat.{_+_, _≤_, min, max};
-ghost use lib.ListN.{length, drop};
+ghost use lib.ListN.{length, getD, drop};
 ghost use Rattle.library.specs.Library.{alternativesFrom};
 ghost use Rattle.rank.specs.Walk.{loweredFrom};
 ghost use Rattle.rank.specs.Tables.{depthIn, everyIn, fewestIn, lookIn, Readable, Rankable, AlternativeRead};
@@ -17,6 +17,16 @@ ghost use Rattle.rank.specs.Tables.{depthIn, everyIn, fewestIn, lookIn, 
 pub struct Read {
     pub value: u32,
     pub next: usize,
+}
+
+// The word at an index; past the words 0, which is of no kind.
+pub fn word_at(part: &[u32], i: usize) -> u32
+    ensures { λ r. ⌜ r ≡ getD (now (part .entry)) i 0 ⌝ }
+{
+    if i < part.len() {
+        return part[i];
+    }
+    0
 }
 
 fn least(a: u32, b: u32) -> u32
@@ -38,14 +48,14 @@ fn greatest(a: u32, b: u32) -> u32
 }
 
 // The greatest depth among the entries that stand from index `at` on.
-fn greatest_depth(none: u32, ranks: &[u32], part: &[u32], at: usize) -> Read
+pub fn greatest_depth(none: u32, ranks: &[u32], part: &[u32], at: usize) -> Read
     requires { ⌜ Rankable none (now ranks) (now part) × (at ≤ length (now part)) ⌝ }
     ensures { λ r. ⌜ AlternativeRead (depthIn none (now (ranks .entry))) (now (part .entry)) at r ⌝ }
 {
     let mut depth = 0;
     let mut i = at;
-    while i < part.len() {
-        let w = part[i];
+    loop {
+        let w = word_at(part, i);
         if !is_entry(w) {
             return Read {
                 value: depth,
@@ -54,10 +64,6 @@ fn greatest_depth(none: u32, ranks: &[u32], part: &[u32], at: usize) -> Read
         }
         depth = greatest(depth, rank_of(none, ranks, w));
         i += 1;
-    }
-    Read {
-        value: depth,
-        next: i,
     }
 }
 
@@ -77,8 +83,8 @@ fn fewest_links(
     let mut ok = true;
     let mut best = none;
     let mut i = at;
-    while i < part.len() {
-        let w = part[i];
+    loop {
+        let w = word_at(part, i);
         if !is_entry(w) {
             return Read {
                 value: best,
@@ -90,10 +96,6 @@ fn fewest_links(
         ok = ok & t.ahead;
         i += 1;
     }
-    Read {
-        value: best,
-        next: i,
-    }
 }
 
 // The index of the first word from index `at` on that is no entry.
@@ -102,10 +104,7 @@ fn after_entries(part: &[u32], at: usize) -> usize
     ensures { λ r. ⌜ (at ≤ r) × (r ≤ length (now (part .entry))) × (alternativesFrom (drop at (now (part .entry))) ≡ alternativesFrom (drop r (now (part .entry)))) ⌝ }
 {
     let mut i = at;
-    while i < part.len() {
-        if !is_entry(part[i]) {
-            return i;
-        }
+    while is_entry(word_at(part, i)) {
         i += 1;
     }
     i
@@ -117,8 +116,8 @@ fn all_ranked(none: u32, ranks: &[u32], part: &[u32], at: usize) -> Read
     ensures { λ r. ⌜ AlternativeRead (everyIn none (now (ranks .entry))) (now (part .entry)) at r ⌝ }
 {
     let mut i = at;
-    while i < part.len() {
-        let w = part[i];
+    loop {
+        let w = word_at(part, i);
         if !is_entry(w) {
             return Read { value: 0, next: i };
         }
@@ -130,7 +129,6 @@ fn all_ranked(none: u32, ranks: &[u32], part: &[u32], at: usize) -> Read
             };
         }
     }
-    Read { value: 0, next: i }
 }
 
 // What the alternative comes to whose entries stand from index `at` on.
@@ -179,18 +177,15 @@ pub fn lowered_rank(
 {
     let mut r = rank;
     let mut i = at;
-    while i < part.len() {
-        if r < 2 {
-            return r;
-        }
-        let w = part[i];
+    while 1 < r {
+        let w = word_at(part, i);
         i += 1;
         if is_kind(7, w) {
             let found = read_alternative(q, ahead, behind, ranks, part, i);
             r = lower(r, found.value);
             i = found.next;
         } else if !is_entry(w) {
-            return r;
+            break;
         }
     }
     r

@@ -7,7 +7,7 @@ use crate::row::NONE;
 use crate::row::Tally;
 use crate::row::long;
 use chain::call::chain;
-use link::answer::chain_answer;
+use chain_words::answer::chain_answer;
 ghost use Prim.Native.Nat.{_≤_};
 
 // A word that no chain has, in every word of the area before a call.

@@ -2,7 +2,7 @@
 -- Assumes nothing.
 use borrow.Author.Needs.{needs}
 use mathlib.Core.Path.{ap, _∙_}
-use Rattle.link.specs.Reply.{chainAnswer}
+use Rattle.chain_words.specs.Answer.{chainAnswer}
 use Rattle.dulimoven.proofs.dulimoven_chain.Statement.{statement}
 use Rattle.dulimoven.proofs.dulimoven_chain.Tie as tie
 

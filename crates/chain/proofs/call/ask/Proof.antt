@@ -2,81 +2,79 @@
 -- Assumes nothing.
 use borrow.Author.Needs.{needs}
 use native.Mathlib.Omega.{arith}
-use Prim.Native.Nat.{_+_}
-use Rattle.chain.proofs.Calls.{call-sequence, call-question, call-fact, call-found, question-by}
+use mathlib.Core.Path.{sym, _∙_}
+use Rattle.chain.proofs.Calls.{in-range, call-out, find-asked, call-told}
 use Rattle.chain.proofs.Finding.{few-sequences}
 use Rattle.chain.proofs.call.ask.Statement.{statement}
 use Rattle.chain.proofs.call.ask.Tie as tie
 use Rattle.chain.proofs.call.ask.Reads as reads
 use Rattle.chain.proofs.call.ask.Lts as lts
 use Rattle.chain.proofs.call.find.Reads as find-reads
+use Rattle.chain_words.proofs.answer.told_of.Reads as told-of-reads
+use Rattle.chain_words.proofs.asked.in_range.Reads as in-range-reads
+use Rattle.chain_words.proofs.asked.out_of_range.Reads as out-of-range-reads
+use Rattle.chain_words.proofs.asked.read_question.Reads as read-question-reads
 
-cast-if1 : tie.Need-cast-if1
-cast-if1 c = search needs
+in-range-requires : tie.Need-in-range-requires
+in-range-requires c κs = search needs
 
-returns : tie.Need-returns
-returns c =
+read-question-requires : tie.Need-read-question-requires
+read-question-requires c κs =
     let start = c .before .before .before .before in
     let a = start .args in
-    call-sequence (a .image .now) (a .h) (a .sequence) (a .question) (a .fact) (a .area .now) (start .pre) (c .if1 .taken)
-
-returns-2 : tie.Need-returns-2
-returns-2 c =
-    let start = c .before .before .before .before .before in
-    let a = start .args in
-    call-question (a .image .now) (a .h) (a .sequence) (a .question) (a .fact) (a .area .now) (start .pre) (omega (arith, c .before .if1 .left)) (c .if2 .taken)
-
-cast-if3 : tie.Need-cast-if3
-cast-if3 c = search needs
-
-returns-3 : tie.Need-returns-3
-returns-3 c =
-    let start = c .before .before .before .before .before .before .before in
-    let a = start .args in
-    call-fact (a .image .now) (a .h) (a .sequence) (a .question) (a .fact) (a .area .now) (start .pre) (omega (arith, c .before .before .before .if1 .left)) (omega (arith, c .before .before .if2 .left)) (c .if3 .taken)
+    (in-range (a .h) (a .sequence) (a .question) (a .fact) (sym (c .before .in-range .ensures) ∙ c .if1 .taken) .2, few-sequences (a .image .now) (a .h) (start .pre))
 
 cast-find : tie.Need-cast-find
-cast-find c = search needs
-
-cast-t14 : tie.Need-cast-t14
-cast-t14 c = search needs
-
-add-t15 : tie.Need-add-t15
-add-t15 c =
-    let start = c .before .before .before .before .before .before .before .before in
+cast-find c =
+    let test = c .before in
+    let start = test .before .before .before .before in
     let a = start .args in
-    omega (arith, few-sequences (a .image .now) (a .h) (start .pre))
-
-cast-find-2 : tie.Need-cast-find-2
-cast-find-2 c = search needs
+    omega (arith, in-range (a .h) (a .sequence) (a .question) (a .fact) (sym (test .before .in-range .ensures) ∙ test .if1 .taken) .0, few-sequences (a .image .now) (a .h) (start .pre))
 
 find-requires : tie.Need-find-requires
-find-requires c κs = search needs
+find-requires c κs =
+    let read = c .before in
+    let test = read .before in
+    let start = test .before .before .before .before in
+    let a = start .args in
+    find-asked (a .image .now) (a .h) (a .sequence) (a .question) (a .fact) (a .area .now) (start .pre) (sym (test .before .in-range .ensures) ∙ test .if1 .taken) (read .read-question .result) (read .read-question .ensures)
+
+told-of-requires : tie.Need-told-of-requires
+told-of-requires c κs = search needs
 
 same-length : tie.Need-same-length
 same-length c = search needs
 
-returns-4 : tie.Need-returns-4
-returns-4 c =
-    let asked = c .before .before .before .before .before in
-    let start = asked .before .before .before .before .before .before .before in
+returns : tie.Need-returns
+returns c =
+    let found = c .before .before .before in
+    let read = found .before .before in
+    let test = read .before in
+    let start = test .before .before .before .before in
     let a = start .args in
-    call-found (a .image .now) (a .h) (a .sequence) (a .question) (a .fact) (a .area .now) (start .pre) _ _ _ (omega (arith, asked .before .before .before .if1 .left)) (omega (arith, asked .before .before .if2 .left)) (omega (arith, asked .if3 .left))
-    (question-by (a .question) (a .fact) (a .h .sequences + 2) (omega (arith, asked .before .before .if2 .left))) (c .before .before .find .ensures)
+    call-told (a .image .now) (a .h) (a .sequence) (a .question) (a .fact) (a .area .now) (start .pre) (sym (test .before .in-range .ensures) ∙ test .if1 .taken) (read .read-question .result) (read .read-question .ensures)
+    (found .find .result) _ _ (c .told-of .ensures) (found .find .ensures)
+
+out-of-range-requires : tie.Need-out-of-range-requires
+out-of-range-requires c κs = search needs
+
+returns-2 : tie.Need-returns-2
+returns-2 c =
+    let test = c .before in
+    let start = test .before .before .before .before in
+    let a = start .args in
+    call-out (a .image .now) (a .h) (a .sequence) (a .question) (a .fact) (a .area .now) (start .pre) _ (sym (test .before .in-range .ensures) ∙ test .if1 .left) (c .out-of-range .ensures)
 
 pub ask-spec : {M : Type 1} → statement M
 ask-spec =
     tie.close
     (tie.spec
-    cast-if1
-    returns
-    returns-2
-    cast-if3
-    returns-3
+    in-range-requires
+    read-question-requires
     cast-find
-    cast-t14
-    add-t15
-    cast-find-2
     find-requires
+    told-of-requires
     same-length
-    returns-4)
+    returns
+    out-of-range-requires
+    returns-2)

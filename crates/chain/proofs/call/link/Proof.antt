@@ -2,7 +2,7 @@
 -- Assumes nothing.
 use borrow.Author.Needs.{needs}
 use native.Mathlib.Omega.{arith}
-use Rattle.rank.proofs.Settling.{readable-at}
+use Rattle.chain.proofs.Finding.{rank-asked, write-asked}
 use Rattle.chain.proofs.call.link.Statement.{statement}
 use Rattle.chain.proofs.call.link.Tie as tie
 use Rattle.chain.proofs.call.link.Reads as reads
@@ -11,14 +11,13 @@ use Rattle.chain.proofs.call.rank.Reads as rank-reads
 use Rattle.link.proofs.write.write_chain.Reads as write-chain-reads
 
 rank-requires : tie.Need-rank-requires
-rank-requires c κs = search needs
+rank-requires c κs = rank-asked (c .before .before .before .before .before .before .before .before .before .pre .0)
 
 write-chain-requires : tie.Need-write-chain-requires
 write-chain-requires c κs =
     let ranked = c .before .before .before .before in
-    let start = c .before .before .before .before .before .before .before .before .before .before .before .before .before .before in
-    let choosable = start .pre .3 in
-    (record { readable = readable-at _ (omega (arith, ranked .rank .kept)) (choosable .readable); within = choosable .within; short = choosable .short }, start .pre .4, omega (arith, ranked .rank .kept, start .pre .5))
+    let start = ranked .before .before .before .before .before .before .before .before .before .before in
+    write-asked (start .pre .0) _ (omega (arith, ranked .rank .kept)) (start .args .c) (start .pre .1)
 
 same-length : tie.Need-same-length
 same-length c = search needs

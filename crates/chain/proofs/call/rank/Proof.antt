@@ -14,7 +14,10 @@ write-step-ranks-requires : tie.Need-write-step-ranks-requires
 write-step-ranks-requires c κs = search needs
 
 settle-requires : tie.Need-settle-requires
-settle-requires c κs = let start = c .before .before .before .before .before .before .before .before .before .before .before .before in (visitable-at _ (omega (arith, c .before .before .before .write-step-ranks .kept)) (start .pre .1), start .pre .2)
+settle-requires c κs =
+    let ranked = c .before .before .before in
+    let start = ranked .before .before .before .before .before .before .before .before .before in
+    (visitable-at _ (omega (arith, ranked .write-step-ranks .kept)) (start .pre .1), start .pre .2)
 
 same-length : tie.Need-same-length
 same-length c = search needs

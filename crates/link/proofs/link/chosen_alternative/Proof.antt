@@ -3,122 +3,142 @@
 use borrow.Author.Needs.{needs}
 use borrow.Author.Tests.{not-true, not-false}
 use native.Mathlib.Omega.{arith}
-use mathlib.Core.Path.{sym, _∙_}
+use mathlib.Core.Path.{sym, ap, _∙_}
 use Prim.Native.Nat.{_-_}
 use lib.ListN.{length}
-use Rattle.rank.specs.Tables.{lookIn}
-use Rattle.link.proofs.Choices.{Picking, picking-skip, picking-turn, picking-found, picking-out, picking-end}
+use Rattle.image.specs.Word.{isKind, isEntry}
+use Rattle.rank.specs.Tables.{depthIn}
+use Rattle.rank.proofs.Folds.{entry-inside, opener-inside}
+use Rattle.link.proofs.Choices.{Picking, picking-start, picking-skip, picking-turn, picking-found, picking-out}
 use Rattle.link.proofs.link.chosen_alternative.Statement.{statement}
 use Rattle.link.proofs.link.chosen_alternative.Tie as tie
 use Rattle.link.proofs.link.chosen_alternative.Reads as reads
 use Rattle.link.proofs.link.chosen_alternative.Lts as lts
-use Rattle.rank.proofs.read.read_alternative.Reads as read-alternative-reads
 use Rattle.image.proofs.word.is_entry.Reads as is-entry-reads
 use Rattle.image.proofs.word.is_kind.Reads as is-kind-reads
+use Rattle.rank.proofs.read.greatest_depth.Reads as greatest-depth-reads
+use Rattle.rank.proofs.read.word_at.Reads as word-at-reads
 
-abbrev Inv-loop : tie.InvT-loop
-Inv-loop q ahead behind ranks part at k alternative₀ i₀ alternative i = Picking (lookIn q ahead behind ranks) part k at alternative i
+abbrev Inv-found : tie.InvT-found
+Inv-found none ranks part at k alternative₀ i₀ alternative i = Picking (depthIn none ranks) part k at alternative i
 
-abbrev μ-loop : tie.MeasureT-loop
-μ-loop q ahead behind ranks part at k alternative₀ i₀ alternative i = length part - i
+abbrev μ-found : tie.MeasureT-found
+μ-found none ranks part at k alternative₀ i₀ alternative i = length part - i
 
-loop-holds : tie.Need-loop-holds Inv-loop μ-loop
-loop-holds c = search needs
+found-holds : tie.Need-found-holds Inv-found μ-found
+found-holds c =
+    let start = c .before .before in
+    let a = start .args in
+    picking-start (depthIn (a .none) (a .ranks .now)) (a .part .now) (a .k) (a .at) (start .pre .1)
 
-mul-w : tie.Need-mul-w Inv-loop μ-loop
-mul-w c = search needs
+word-at-requires : tie.Need-word-at-requires Inv-found μ-found
+word-at-requires c κs = search needs
 
-shared-slice-read-w : tie.Need-shared-slice-read-w Inv-loop μ-loop
-shared-slice-read-w c = search needs
+add-i : tie.Need-add-i Inv-found μ-found
+add-i c =
+    let at-loop = c .before in
+    omega (arith, at-loop .found .inv .walk .within, at-loop .before .before .before .pre .2)
 
-add-i : tie.Need-add-i Inv-loop μ-loop
-add-i c = search needs
-
-is-kind-requires : tie.Need-is-kind-requires Inv-loop μ-loop
+is-kind-requires : tie.Need-is-kind-requires Inv-found μ-found
 is-kind-requires c κs = search needs
 
-read-alternative-requires : tie.Need-read-alternative-requires Inv-loop μ-loop
-read-alternative-requires c κs = search needs
+greatest-depth-requires : tie.Need-greatest-depth-requires Inv-found μ-found
+greatest-depth-requires c κs =
+    let kinds = c .before in
+    let word = kinds .before in
+    let at-loop = word .before in
+    let start = at-loop .before .before .before in
+    (start .pre .0, omega (arith, opener-inside (start .args .part .now) (at-loop .found .i) (sym (ap (isKind 7) (word .word-at .ensures)) ∙ sym (kinds .is-kind .ensures) ∙ c .if1 .taken)))
 
-returns : tie.Need-returns Inv-loop μ-loop
+add-alternative : tie.Need-add-alternative Inv-found μ-found
+add-alternative c =
+    let at-loop = c .before .before .before .before .before .before in
+    omega (arith, at-loop .found .inv .low, at-loop .found .inv .walk .within, at-loop .before .before .before .pre .2)
+
+found-less : tie.Need-found-less Inv-found μ-found
+found-less c =
+    let read = c .before .before in
+    let kinds = read .before .before in
+    let word = kinds .before in
+    let at-loop = word .before in
+    let start = at-loop .before .before .before in
+    omega (arith, read .greatest-depth .ensures .low, opener-inside (start .args .part .now) (at-loop .found .i) (sym (ap (isKind 7) (word .word-at .ensures)) ∙ sym (kinds .is-kind .ensures) ∙ read .before .if1 .taken))
+
+found-again : tie.Need-found-again Inv-found μ-found
+found-again c =
+    let read = c .before .before in
+    let kinds = read .before .before in
+    let word = kinds .before in
+    let at-loop = word .before in
+    let a = at-loop .before .before .before .args in
+    picking-turn (depthIn (a .none) (a .ranks .now)) (a .part .now) (a .k) (a .at) (at-loop .found .alternative) (at-loop .found .i) (at-loop .found .inv)
+    (sym (ap (isKind 7) (word .word-at .ensures)) ∙ sym (kinds .is-kind .ensures) ∙ read .before .if1 .taken) (read .greatest-depth .result) (read .greatest-depth .ensures) (c .if2 .left)
+
+is-entry-requires : tie.Need-is-entry-requires Inv-found μ-found
+is-entry-requires c κs = search needs
+
+found-less-2 : tie.Need-found-less-2 Inv-found μ-found
+found-less-2 c =
+    let entry = c .before in
+    let word = entry .before .before .before in
+    let at-loop = word .before in
+    let start = at-loop .before .before .before in
+    omega (arith, entry-inside (start .args .part .now) (at-loop .found .i) (sym (ap isEntry (word .word-at .ensures)) ∙ sym (entry .is-entry .ensures) ∙ not-false _ (c .if3 .left)))
+
+found-again-2 : tie.Need-found-again-2 Inv-found μ-found
+found-again-2 c =
+    let entry = c .before in
+    let kinds = entry .before .before in
+    let word = kinds .before in
+    let at-loop = word .before in
+    let a = at-loop .before .before .before .args in
+    picking-skip (depthIn (a .none) (a .ranks .now)) (a .part .now) (a .k) (a .at) (at-loop .found .alternative) (at-loop .found .i) (at-loop .found .inv)
+    (sym (ap (isKind 7) (word .word-at .ensures)) ∙ sym (kinds .is-kind .ensures) ∙ entry .before .if1 .left)
+    (sym (ap isEntry (word .word-at .ensures)) ∙ sym (entry .is-entry .ensures) ∙ not-false _ (c .if3 .left))
+
+returns : tie.Need-returns Inv-found μ-found
 returns c =
     let read = c .before .before in
     let kinds = read .before .before in
-    let at-loop = kinds .before .before .before in
-    let start = at-loop .before .before .before .before .before in
+    let word = kinds .before in
+    let at-loop = word .before in
+    let start = at-loop .before .before .before in
     let a = start .args in (
-      picking-found (lookIn (a .q) (a .ahead .now) (a .behind .now) (a .ranks .now)) (a .part .now) (a .k) (a .at) (at-loop .loop .alternative) (at-loop .loop .i) (at-loop .loop .inv) (omega arith) (sym (kinds .is-kind .ensures) ∙ read .before .if1 .taken) (read .read-alternative .result) (read .read-alternative .ensures) (c .if2 .taken),
-      omega (arith, at-loop .loop .inv .low, at-loop .loop .inv .walk .within, start .pre .2),
+      picking-found (depthIn (a .none) (a .ranks .now)) (a .part .now) (a .k) (a .at) (at-loop .found .alternative) (at-loop .found .i) (at-loop .found .inv)
+          (sym (ap (isKind 7) (word .word-at .ensures)) ∙ sym (kinds .is-kind .ensures) ∙ read .before .if1 .taken) (read .greatest-depth .result) (read .greatest-depth .ensures) (c .if2 .taken),
+      omega (arith, at-loop .found .inv .low, at-loop .found .inv .walk .within, start .pre .2),
     )
 
-add-alternative : tie.Need-add-alternative Inv-loop μ-loop
-add-alternative c = search needs
-
-loop-less : tie.Need-loop-less Inv-loop μ-loop
-loop-less c = search needs
-
-loop-again : tie.Need-loop-again Inv-loop μ-loop
-loop-again c =
-    let read = c .before .before in
-    let kinds = read .before .before in
-    let at-loop = kinds .before .before .before in
-    let start = at-loop .before .before .before .before .before in
-    let a = start .args in
-    picking-turn (lookIn (a .q) (a .ahead .now) (a .behind .now) (a .ranks .now)) (a .part .now) (a .k) (a .at) (at-loop .loop .alternative) (at-loop .loop .i) (at-loop .loop .inv) (omega arith) (sym (kinds .is-kind .ensures) ∙ read .before .if1 .taken) (read .read-alternative .result) (read .read-alternative .ensures) (c .if2 .left)
-
-is-entry-requires : tie.Need-is-entry-requires Inv-loop μ-loop
-is-entry-requires c κs = search needs
-
-returns-2 : tie.Need-returns-2 Inv-loop μ-loop
+returns-2 : tie.Need-returns-2 Inv-found μ-found
 returns-2 c =
     let entry = c .before in
     let kinds = entry .before .before in
-    let at-loop = kinds .before .before .before in
-    let start = at-loop .before .before .before .before .before in
+    let word = kinds .before in
+    let at-loop = word .before in
+    let start = at-loop .before .before .before in
     let a = start .args in (
-      picking-out (lookIn (a .q) (a .ahead .now) (a .behind .now) (a .ranks .now)) (a .part .now) (a .k) (a .at) (at-loop .loop .alternative) (at-loop .loop .i) (at-loop .loop .inv) (omega arith) (sym (kinds .is-kind .ensures) ∙ entry .before .if1 .left) (sym (entry .is-entry .ensures) ∙ not-true _ (c .if3 .taken)),
-      omega (arith, at-loop .loop .inv .low, at-loop .loop .inv .walk .within, start .pre .2),
-    )
-
-loop-less-2 : tie.Need-loop-less-2 Inv-loop μ-loop
-loop-less-2 c = search needs
-
-loop-again-2 : tie.Need-loop-again-2 Inv-loop μ-loop
-loop-again-2 c =
-    let entry = c .before in
-    let kinds = entry .before .before in
-    let at-loop = kinds .before .before .before in
-    let start = at-loop .before .before .before .before .before in
-    let a = start .args in
-    picking-skip (lookIn (a .q) (a .ahead .now) (a .behind .now) (a .ranks .now)) (a .part .now) (a .k) (a .at) (at-loop .loop .alternative) (at-loop .loop .i) (at-loop .loop .inv) (omega arith) (sym (kinds .is-kind .ensures) ∙ entry .before .if1 .left) (sym (entry .is-entry .ensures) ∙ not-false _ (c .if3 .left))
-
-returns-3 : tie.Need-returns-3 Inv-loop μ-loop
-returns-3 c =
-    let at-loop = c .before in
-    let start = at-loop .before .before .before .before .before in
-    let a = start .args in (
-      picking-end (lookIn (a .q) (a .ahead .now) (a .behind .now) (a .ranks .now)) (a .part .now) (a .k) (a .at) (at-loop .loop .alternative) (at-loop .loop .i) (at-loop .loop .inv) (omega (arith, c .loop-test .left, at-loop .loop .inv .walk .within)),
-      omega (arith, at-loop .loop .inv .low, at-loop .loop .inv .walk .within, start .pre .2),
+      picking-out (depthIn (a .none) (a .ranks .now)) (a .part .now) (a .k) (a .at) (at-loop .found .alternative) (at-loop .found .i) (at-loop .found .inv)
+          (sym (ap (isKind 7) (word .word-at .ensures)) ∙ sym (kinds .is-kind .ensures) ∙ entry .before .if1 .left)
+          (sym (ap isEntry (word .word-at .ensures)) ∙ sym (entry .is-entry .ensures) ∙ not-true _ (c .if3 .taken)),
+      omega (arith, at-loop .found .inv .low, at-loop .found .inv .walk .within, start .pre .2),
     )
 
 pub chosen-alternative-spec : {M : Type 1} → statement M
 chosen-alternative-spec =
     tie.close
     (tie.spec
-    Inv-loop
-    μ-loop
-    loop-holds
-    mul-w
-    shared-slice-read-w
+    Inv-found
+    μ-found
+    found-holds
+    word-at-requires
     add-i
     is-kind-requires
-    read-alternative-requires
-    returns
+    greatest-depth-requires
     add-alternative
-    loop-less
-    loop-again
+    found-less
+    found-again
     is-entry-requires
-    returns-2
-    loop-less-2
-    loop-again-2
-    returns-3)
+    found-less-2
+    found-again-2
+    returns
+    returns-2)

@@ -3,12 +3,13 @@
 use borrow.Author.Needs.{needs}
 use native.Mathlib.Omega.{arith}
 use mathlib.Core.Path.{refl}
-use lib.ListN.{getD}
-use Rattle.link.proofs.Writing.{links-count, answer-unranked, answer-quiet, answer-links, none-answered, short-answered, shown-answered}
+use lib.ListN.{length, getD}
+use Rattle.link.proofs.Writing.{shown-room, answered-quiet, answered-links}
 use Rattle.link.proofs.write.write_chain.Statement.{statement}
 use Rattle.link.proofs.write.write_chain.Tie as tie
 use Rattle.link.proofs.write.write_chain.Reads as reads
 use Rattle.link.proofs.write.write_chain.Lts as lts
+use Rattle.chain_words.proofs.answer.shown_links.Reads as shown-links-reads
 use Rattle.link.proofs.write.write_links.Reads as write-links-reads
 use Rattle.link.proofs.write.write_quiet.Reads as write-quiet-reads
 
@@ -18,60 +19,47 @@ mul-rank c = search needs
 shared-slice-read-rank : tie.Need-shared-slice-read-rank
 shared-slice-read-rank c = search needs
 
-returns : tie.Need-returns
-returns c =
-    let start = c .before .before .before .before .before .before .before .before .before in
-    let a = start .args in
-    none-answered _ (a .area .now) (answer-unranked (a .q) (a .ahead .now) (a .behind .now) (a .ranks .now) (a .part .now) (a .places .now) (a .c) _ (start .pre .2) refl (c .if1 .taken))
-
-returns-2 : tie.Need-returns-2
-returns-2 c =
-    let start = c .before .before .before .before .before .before .before .before .before .before .before .before in
-    let a = start .args in
-    short-answered _ _ (a .area .now) (answer-quiet (a .q) (a .ahead .now) (a .behind .now) (a .ranks .now) (a .part .now) (a .places .now) (a .c) _ (start .pre .2) refl (omega (arith, c .before .before .before .if1 .left)) (c .before .if2 .taken)) (omega (arith, c .if3 .taken))
+shown-links-requires : tie.Need-shown-links-requires
+shown-links-requires c κs = search needs
 
 write-quiet-requires : tie.Need-write-quiet-requires
-write-quiet-requires c κs = search needs
+write-quiet-requires c κs =
+    let counted = c .before .before .before in
+    let start = counted .before .before .before .before .before .before .before .before in
+    let a = start .args in
+    let asked = start .pre .0 in
+    (asked .readable .by-ranks, asked .opened, omega (arith, counted .shown-links .ensures, shown-room (a .q) (getD (a .ranks .now) (a .c) 0) (length (a .area .now))), start .pre .1, start .pre .2)
+
+write-links-requires : tie.Need-write-links-requires
+write-links-requires c κs =
+    let counted = c .before .before .before in
+    let start = counted .before .before .before .before .before .before .before .before in
+    let a = start .args in
+    (start .pre .0, omega (arith, counted .shown-links .ensures, shown-room (a .q) (getD (a .ranks .now) (a .c) 0) (length (a .area .now))), start .pre .1)
 
 same-length : tie.Need-same-length
 same-length c = search needs
 
-returns-3 : tie.Need-returns-3
-returns-3 c =
-    let asked = c .before .before .before .before in
-    let start = asked .before .before .before .before .before .before .before .before .before .before .before .before in
+returns : tie.Need-returns
+returns c =
+    let written = c .before .before in
+    let test = written .before .before in
+    let counted = test .before .before in
+    let start = counted .before .before .before .before .before .before .before .before in
     let a = start .args in
-    shown-answered _ _ 1 (a .area .now) _ (answer-quiet (a .q) (a .ahead .now) (a .behind .now) (a .ranks .now) (a .part .now) (a .places .now) (a .c) _ (start .pre .2) refl (omega (arith, asked .before .before .before .if1 .left)) (asked .before .if2 .taken)) refl (omega (arith, asked .if3 .left))
-    (c .before .before .write-quiet .ensures)
-
-cast-if4 : tie.Need-cast-if4
-cast-if4 c = search needs
-
-mul-if4 : tie.Need-mul-if4
-mul-if4 c = search needs
-
-returns-4 : tie.Need-returns-4
-returns-4 c =
-    let start = c .before .before .before .before .before .before .before .before .before .before .before .before in
-    let a = start .args in
-    let ranked = answer-links (a .q) (a .ahead .now) (a .behind .now) (a .ranks .now) (a .part .now) (a .places .now) (a .c) _ (start .pre .2) refl (omega (arith, c .before .before .before .if1 .left)) (c .before .if2 .left) in
-    short-answered _ _ (a .area .now) ranked
-    (omega (arith, c .if4 .taken, links-count (a .q) (a .ahead .now) (a .behind .now) (a .ranks .now) (a .part .now) (a .places .now) (getD (a .ranks .now) (a .c) 0) (a .c)))
-
-write-links-requires : tie.Need-write-links-requires
-write-links-requires c κs = search needs
+    answered-quiet (a .q) (a .ahead .now) (a .behind .now) (a .ranks .now) (a .part .now) (a .places .now) (a .c) _ _ (a .area .now) _ (start .pre .2) refl (counted .shown-links .ensures) (test .if1 .taken) (written .write-quiet .ensures)
 
 same-length-2 : tie.Need-same-length-2
 same-length-2 c = search needs
 
-returns-5 : tie.Need-returns-5
-returns-5 c =
-    let asked = c .before .before .before .before in
-    let start = asked .before .before .before .before .before .before .before .before .before .before .before .before in
+returns-2 : tie.Need-returns-2
+returns-2 c =
+    let written = c .before .before in
+    let test = written .before .before in
+    let counted = test .before .before in
+    let start = counted .before .before .before .before .before .before .before .before in
     let a = start .args in
-    shown-answered _ _ _ (a .area .now) _ (answer-links (a .q) (a .ahead .now) (a .behind .now) (a .ranks .now) (a .part .now) (a .places .now) (a .c) _ (start .pre .2) refl (omega (arith, asked .before .before .before .if1 .left)) (asked .before .if2 .left))
-    (links-count (a .q) (a .ahead .now) (a .behind .now) (a .ranks .now) (a .part .now) (a .places .now) _ (a .c)) (omega (arith, asked .if4 .left))
-    (c .before .before .write-links .ensures)
+    answered-links (a .q) (a .ahead .now) (a .behind .now) (a .ranks .now) (a .part .now) (a .places .now) (a .c) _ _ (a .area .now) _ (start .pre .2) refl (counted .shown-links .ensures) (test .if1 .left) (written .write-links .ensures)
 
 pub write-chain-spec : {M : Type 1} → statement M
 write-chain-spec =
@@ -79,14 +67,10 @@ write-chain-spec =
     (tie.spec
     mul-rank
     shared-slice-read-rank
-    returns
-    returns-2
+    shown-links-requires
     write-quiet-requires
-    same-length
-    returns-3
-    cast-if4
-    mul-if4
-    returns-4
     write-links-requires
+    same-length
+    returns
     same-length-2
-    returns-5)
+    returns-2)

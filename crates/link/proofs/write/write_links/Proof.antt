@@ -7,23 +7,22 @@ use Rattle.link.proofs.write.write_links.Statement.{statement}
 use Rattle.link.proofs.write.write_links.Tie as tie
 use Rattle.link.proofs.write.write_links.Reads as reads
 use Rattle.link.proofs.write.write_links.Lts as lts
+use Rattle.chain_words.proofs.words.put_link.Reads as put-link-reads
 use Rattle.link.proofs.link.chosen_link.Reads as chosen-link-reads
 use Rattle.link.proofs.write.after_opener.Reads as after-opener-reads
-use Rattle.link.proofs.write.choice_word.Reads as choice-word-reads
-use Rattle.link.proofs.write.put_link.Reads as put-link-reads
 
 abbrev Inv-loop : tie.InvT-loop
-Inv-loop q ahead behind ranks part places area₀ count c d₀ k₀ at₀ area d k at =
-    Writing q ahead behind ranks part places area₀ count c area k d at
+Inv-loop none ahead behind ranks part places area₀ count c d₀ k₀ at₀ area d k at =
+    Writing none ahead behind ranks part places area₀ count c area k d at
 
 abbrev μ-loop : tie.MeasureT-loop
-μ-loop q ahead behind ranks part places area₀ count c d₀ k₀ at₀ area d k at = k
+μ-loop none ahead behind ranks part places area₀ count c d₀ k₀ at₀ area d k at = k
 
 loop-holds : tie.Need-loop-holds Inv-loop μ-loop
 loop-holds c =
     let start = c .before .before .before .before .before .before in
     let a = start .args in
-    writing-start (a .q) (a .ahead .now) (a .behind .now) (a .ranks .now) (a .part .now) (a .places .now) (a .area .now) (a .count) (a .c) (start .pre .2)
+    writing-start (a .none) (a .ahead .now) (a .behind .now) (a .ranks .now) (a .part .now) (a .places .now) (a .area .now) (a .count) (a .c) (start .pre .2)
 
 sub-k : tie.Need-sub-k Inv-loop μ-loop
 sub-k c = search needs
@@ -35,29 +34,23 @@ chosen-link-requires : tie.Need-chosen-link-requires Inv-loop μ-loop
 chosen-link-requires c κs =
     let at-loop = c .before .before in
     let asked = at-loop .before .before .before .before .before .before .before .pre .0 in
-    let opener = asked .within (at-loop .loop .d) in
-    (asked .readable, omega (arith, c .after-opener .ensures), asked .short)
-
-choice-word-requires : tie.Need-choice-word-requires Inv-loop μ-loop
-choice-word-requires c κs =
-    let at-loop = c .before .before .before .before in
-    let asked = at-loop .before .before .before .before .before .before .before .pre .0 in
-    (at-loop .loop .inv .sequence, omega (arith, c .before .chosen-link .ensures .alternative-low, asked .short))
+    (asked .readable, omega (arith, c .after-opener .ensures, asked .opened .within (at-loop .loop .d)), asked .opened .short)
 
 add-put-link : tie.Need-add-put-link Inv-loop μ-loop
 add-put-link c =
-    let at-loop = c .before .before .before .before .before .before in
-    let asked = at-loop .before .before .before .before .before .before .before .pre .0 in
-    omega (arith, c .before .before .before .chosen-link .ensures .position-low, asked .short)
+    let chosen = c .before .before in
+    let asked = chosen .before .before .before .before .before .before .before .before .before .before .pre .0 in
+    omega (arith, chosen .chosen-link .ensures .position-low, asked .opened .short)
 
 put-link-requires : tie.Need-put-link-requires Inv-loop μ-loop
 put-link-requires c κs =
-    let at-loop = c .before .before .before .before .before .before in
+    let chosen = c .before .before in
+    let turn = chosen .before .before in
+    let at-loop = turn .before in
     let start = at-loop .before .before .before .before .before .before .before in
     let a = start .args in
-    let long = writing-length (a .q) (a .ahead .now) (a .behind .now) (a .ranks .now) (a .part .now) (a .places .now) (a .area .now) (a .count) (a .c) (start .pre .1)
-    (at-loop .loop .area) (at-loop .loop .k) (at-loop .loop .d) (at-loop .loop .at) (at-loop .loop .inv) in
-    omega (arith, long, at-loop .loop .inv .left, start .pre .1, c .before .before .before .before .before .loop-test .taken)
+    let long = writing-length (a .none) (a .ahead .now) (a .behind .now) (a .ranks .now) (a .part .now) (a .places .now) (a .area .now) (a .count) (a .c) (start .pre .1) (at-loop .loop .area) (at-loop .loop .k) (at-loop .loop .d) (at-loop .loop .at) (at-loop .loop .inv) in
+    (omega (arith, long, at-loop .loop .inv .left, start .pre .1, turn .loop-test .taken), at-loop .loop .inv .sequence, omega (arith, chosen .chosen-link .ensures .alternative-low, start .pre .0 .opened .short))
 
 add-at : tie.Need-add-at Inv-loop μ-loop
 add-at c = search needs
@@ -67,31 +60,29 @@ loop-less c = search needs
 
 loop-again : tie.Need-loop-again Inv-loop μ-loop
 loop-again c =
-    let turn = c .before .before .before .before .before .before .before .before in
+    let put = c .before .before in
+    let chosen = put .before .before .before in
+    let turn = chosen .before .before in
     let at-loop = turn .before in
     let start = at-loop .before .before .before .before .before .before .before in
     let a = start .args in
-    let chosen = c .before .before .before .before .before .before in
-    let put = c .before .before in
-    writing-next (a .q) (a .ahead .now) (a .behind .now) (a .ranks .now) (a .part .now) (a .places .now) (a .area .now) (a .count) (a .c) (start .pre .1)
-    (at-loop .loop .area) (at-loop .loop .k) (at-loop .loop .d) (at-loop .loop .at) (at-loop .loop .inv) _ _ _ _ _ (omega (arith, turn .loop-test .taken))
-    (chosen .before .after-opener .ensures) (chosen .chosen-link .ensures) (put .before .before .choice-word .ensures) (put .put-link .ensures)
+    writing-next (a .none) (a .ahead .now) (a .behind .now) (a .ranks .now) (a .part .now) (a .places .now) (a .area .now) (a .count) (a .c) (start .pre .1)
+    (at-loop .loop .area) (at-loop .loop .k) (at-loop .loop .d) (at-loop .loop .at) (at-loop .loop .inv) _ _ _ _ (omega (arith, turn .loop-test .taken))
+    (chosen .before .after-opener .ensures) (chosen .chosen-link .ensures) (put .put-link .ensures)
 
 same-length : tie.Need-same-length Inv-loop μ-loop
 same-length c =
     let at-loop = c .before in
     let start = at-loop .before .before .before .before .before .before .before in
     let a = start .args in
-    writing-length (a .q) (a .ahead .now) (a .behind .now) (a .ranks .now) (a .part .now) (a .places .now) (a .area .now) (a .count) (a .c) (start .pre .1)
-    (at-loop .loop .area) (at-loop .loop .k) (at-loop .loop .d) (at-loop .loop .at) (at-loop .loop .inv)
+    writing-length (a .none) (a .ahead .now) (a .behind .now) (a .ranks .now) (a .part .now) (a .places .now) (a .area .now) (a .count) (a .c) (start .pre .1) (at-loop .loop .area) (at-loop .loop .k) (at-loop .loop .d) (at-loop .loop .at) (at-loop .loop .inv)
 
 returns : tie.Need-returns Inv-loop μ-loop
 returns c =
     let at-loop = c .before in
     let start = at-loop .before .before .before .before .before .before .before in
     let a = start .args in
-    writing-end (a .q) (a .ahead .now) (a .behind .now) (a .ranks .now) (a .part .now) (a .places .now) (a .area .now) (a .count) (a .c) (start .pre .1)
-    (at-loop .loop .area) (at-loop .loop .k) (at-loop .loop .d) (at-loop .loop .at) (at-loop .loop .inv) (omega arith)
+    writing-end (a .none) (a .ahead .now) (a .behind .now) (a .ranks .now) (a .part .now) (a .places .now) (a .area .now) (a .count) (a .c) (start .pre .1) (at-loop .loop .area) (at-loop .loop .k) (at-loop .loop .d) (at-loop .loop .at) (at-loop .loop .inv) (omega arith)
 
 pub write-links-spec : {M : Type 1} → statement M
 write-links-spec =
@@ -103,7 +94,6 @@ write-links-spec =
     sub-k
     after-opener-requires
     chosen-link-requires
-    choice-word-requires
     add-put-link
     put-link-requires
     add-at

@@ -1,20 +1,37 @@
 -- `rank::entry::step_mark` meets its contract, by the side.
 -- Assumes nothing.
 use borrow.Author.Needs.{needs}
+use native.Mathlib.Omega.{arith}
+use mathlib.Core.Path.{sym, ap, _∙_}
+use Prim.Native.Nat.{ℕ, _+_, _*_}
+use Rattle.rank.specs.Tables.{markOf}
+use Rattle.rank.proofs.Slots.{side-low, side-mark}
 use Rattle.rank.proofs.entry.step_mark.Statement.{statement}
 use Rattle.rank.proofs.entry.step_mark.Tie as tie
 use Rattle.rank.proofs.entry.step_mark.Reads as reads
 use Rattle.rank.proofs.entry.step_mark.Lts as lts
+use Rattle.rank.proofs.entry.kept.Reads as kept-reads
 use Rattle.rank.proofs.entry.mark_of.Reads as mark-of-reads
 
 mul-at : tie.Need-mul-at
 mul-at c = search needs
 
+kept-requires : tie.Need-kept-requires
+kept-requires c κs = search needs
+
+cast-at : tie.Need-cast-at
+cast-at c = search needs
+
+add-at : tie.Need-add-at
+add-at c = search needs
+
 mul-mark-of : tie.Need-mul-mark-of
 mul-mark-of c = search needs
 
 shared-slice-read-mark-of : tie.Need-shared-slice-read-mark-of
-shared-slice-read-mark-of c = search needs
+shared-slice-read-mark-of c =
+    let a = c .before .before .before .args in
+    omega (arith, c .before .kept .ensures, side-low (a .q .first), c .before .before .before .pre .1)
 
 add-mark-of : tie.Need-add-mark-of
 add-mark-of c = search needs
@@ -23,55 +40,31 @@ mul-mark-of-2 : tie.Need-mul-mark-of-2
 mul-mark-of-2 c = search needs
 
 shared-slice-read-mark-of-2 : tie.Need-shared-slice-read-mark-of-2
-shared-slice-read-mark-of-2 c = search needs
+shared-slice-read-mark-of-2 c =
+    let a = c .before .before .before .before .args in
+    omega (arith, c .before .before .kept .ensures, side-low (a .q .first), c .before .before .before .before .pre .1)
 
 mark-of-requires : tie.Need-mark-of-requires
 mark-of-requires c κs = search needs
 
 returns : tie.Need-returns
-returns c = simp (c .mark-of .ensures, c .before .before .before .if1 .taken)
-
-add-mark-of-2 : tie.Need-add-mark-of-2
-add-mark-of-2 c = search needs
-
-mul-mark-of-3 : tie.Need-mul-mark-of-3
-mul-mark-of-3 c = search needs
-
-shared-slice-read-mark-of-3 : tie.Need-shared-slice-read-mark-of-3
-shared-slice-read-mark-of-3 c = search needs
-
-add-mark-of-3 : tie.Need-add-mark-of-3
-add-mark-of-3 c = search needs
-
-mul-mark-of-4 : tie.Need-mul-mark-of-4
-mul-mark-of-4 c = search needs
-
-shared-slice-read-mark-of-4 : tie.Need-shared-slice-read-mark-of-4
-shared-slice-read-mark-of-4 c = search needs
-
-mark-of-requires-2 : tie.Need-mark-of-requires-2
-mark-of-requires-2 c κs = search needs
-
-returns-2 : tie.Need-returns-2
-returns-2 c = simp (c .mark-of2 .ensures, c .before .before .before .if1 .left)
+returns c =
+    let side = c .before .before .before in
+    let a = side .before .before .args in
+    c .mark-of .ensures ∙ side-mark (a .q) (a .masks .now) (a .a) (side .kept .result) (side .kept .ensures)
 
 pub step-mark-spec : {M : Type 1} → statement M
 step-mark-spec =
     tie.close
     (tie.spec
     mul-at
+    kept-requires
+    cast-at
+    add-at
     mul-mark-of
     shared-slice-read-mark-of
     add-mark-of
     mul-mark-of-2
     shared-slice-read-mark-of-2
     mark-of-requires
-    returns
-    add-mark-of-2
-    mul-mark-of-3
-    shared-slice-read-mark-of-3
-    add-mark-of-3
-    mul-mark-of-4
-    shared-slice-read-mark-of-4
-    mark-of-requires-2
-    returns-2)
+    returns)

@@ -3,18 +3,21 @@
 use borrow.Author.Needs.{needs}
 use borrow.Author.Tests.{not-true, not-false}
 use native.Mathlib.Omega.{arith}
-use mathlib.Core.Path.{sym, _∙_}
+use mathlib.Core.Path.{sym, ap, _∙_}
 use Prim.Native.Nat.{_-_}
 use lib.ListN.{length}
-use Rattle.rank.proofs.Looks.{Fewest, fewest-start, fewest-turn, fewest-out, fewest-end}
+use Rattle.image.specs.Word.{isEntry}
+use Rattle.rank.proofs.Folds.{entry-inside}
+use Rattle.rank.proofs.Looks.{Fewest, fewest-start, fewest-turn, fewest-out}
 use Rattle.rank.proofs.read.fewest_links.Statement.{statement}
 use Rattle.rank.proofs.read.fewest_links.Tie as tie
 use Rattle.rank.proofs.read.fewest_links.Reads as reads
 use Rattle.rank.proofs.read.fewest_links.Lts as lts
+use Rattle.image.proofs.word.is_entry.Reads as is-entry-reads
 use Rattle.rank.proofs.entry.kept.Reads as kept-reads
 use Rattle.rank.proofs.entry.traits_of.Reads as traits-of-reads
 use Rattle.rank.proofs.read.least.Reads as least-reads
-use Rattle.image.proofs.word.is_entry.Reads as is-entry-reads
+use Rattle.rank.proofs.read.word_at.Reads as word-at-reads
 
 abbrev Inv-loop : tie.InvT-loop
 Inv-loop none ahead behind ranks part at ok₀ best₀ i₀ ok best i = Fewest none ahead behind ranks part at ok best i
@@ -28,11 +31,8 @@ loop-holds c =
     let a = start .args in
     fewest-start (a .none) (a .ahead .now) (a .behind .now) (a .ranks .now) (a .part .now) (a .at) (start .pre .1)
 
-mul-w : tie.Need-mul-w Inv-loop μ-loop
-mul-w c = search needs
-
-shared-slice-read-w : tie.Need-shared-slice-read-w Inv-loop μ-loop
-shared-slice-read-w c = search needs
+word-at-requires : tie.Need-word-at-requires Inv-loop μ-loop
+word-at-requires c κs = search needs
 
 is-entry-requires : tie.Need-is-entry-requires Inv-loop μ-loop
 is-entry-requires c κs = search needs
@@ -40,16 +40,22 @@ is-entry-requires c κs = search needs
 returns : tie.Need-returns Inv-loop μ-loop
 returns c =
     let entry = c .before in
-    let at-loop = entry .before .before .before in
+    let word = entry .before in
+    let at-loop = word .before in
     let a = at-loop .before .before .before .before .before .args in
-    fewest-out (a .none) (a .ahead .now) (a .behind .now) (a .ranks .now) (a .part .now) (a .at) (at-loop .loop .ok) (at-loop .loop .best) (at-loop .loop .i) (at-loop .loop .inv) (omega arith)
-    (sym (entry .is-entry .ensures) ∙ not-true _ (c .if1 .taken))
+    fewest-out (a .none) (a .ahead .now) (a .behind .now) (a .ranks .now) (a .part .now) (a .at) (at-loop .loop .ok) (at-loop .loop .best) (at-loop .loop .i) (at-loop .loop .inv)
+    (sym (ap isEntry (word .word-at .ensures)) ∙ sym (entry .is-entry .ensures) ∙ not-true _ (c .if1 .taken))
 
 traits-of-requires : tie.Need-traits-of-requires Inv-loop μ-loop
 traits-of-requires c κs =
-    let at-loop = c .before .before .before .before in
+    let entry = c .before in
+    let word = entry .before in
+    let at-loop = word .before in
     let start = at-loop .before .before .before .before .before in
-    (start .pre .0 .by-ahead .within (at-loop .loop .i) (omega arith), start .pre .0 .by-behind .within (at-loop .loop .i) (omega arith), start .pre .0 .by-ranks .within (at-loop .loop .i) (omega arith), sym (c .before .is-entry .ensures) ∙ not-false _ (c .if1 .left))
+    let i = at-loop .loop .i in
+    let here = sym (entry .is-entry .ensures) ∙ not-false _ (c .if1 .left) in
+    let inside = entry-inside (start .args .part .now) i (sym (ap isEntry (word .word-at .ensures)) ∙ here) in
+    rw (word .word-at .ensures) (start .pre .0 .by-ahead .within i inside, start .pre .0 .by-behind .within i inside, start .pre .0 .by-ranks .within i inside, sym (ap isEntry (word .word-at .ensures)) ∙ here)
 
 kept-requires : tie.Need-kept-requires Inv-loop μ-loop
 kept-requires c κs = search needs
@@ -62,27 +68,33 @@ least-requires c κs = search needs
 
 add-i : tie.Need-add-i Inv-loop μ-loop
 add-i c =
-    let turn = c .before .before .before .before .before .before .before .before in
-    omega (arith, turn .loop-test .taken, turn .before .before .before .before .before .before .good)
+    let test = c .before .before .before .before .before in
+    let entry = test .before in
+    let word = entry .before in
+    let at-loop = word .before in
+    let start = at-loop .before .before .before .before .before in
+    omega (arith, start .good, entry-inside (start .args .part .now) (at-loop .loop .i) (sym (ap isEntry (word .word-at .ensures)) ∙ sym (entry .is-entry .ensures) ∙ not-false _ (test .if1 .left)))
 
 loop-less : tie.Need-loop-less Inv-loop μ-loop
-loop-less c = search needs
+loop-less c =
+    let test = c .before .before .before .before .before in
+    let entry = test .before in
+    let word = entry .before in
+    let at-loop = word .before in
+    let start = at-loop .before .before .before .before .before in
+    omega (arith, entry-inside (start .args .part .now) (at-loop .loop .i) (sym (ap isEntry (word .word-at .ensures)) ∙ sym (entry .is-entry .ensures) ∙ not-false _ (test .if1 .left)))
 
 loop-again : tie.Need-loop-again Inv-loop μ-loop
 loop-again c =
     let traits = c .before .before .before .before in
-    let entry = traits .before .before in
-    let at-loop = entry .before .before .before in
+    let test = traits .before in
+    let entry = test .before in
+    let word = entry .before in
+    let at-loop = word .before in
     let a = at-loop .before .before .before .before .before .args in
     rw (c .before .least .ensures, c .before .before .kept2 .ensures, c .before .before .before .kept .ensures)
-    (fewest-turn (a .none) (a .ahead .now) (a .behind .now) (a .ranks .now) (a .part .now) (a .at) (at-loop .loop .ok) (at-loop .loop .best) (at-loop .loop .i) (at-loop .loop .inv) (omega arith)
-    (sym (entry .is-entry .ensures) ∙ not-false _ (traits .before .if1 .left)) (traits .traits-of .result) (traits .traits-of .ensures))
-
-returns-2 : tie.Need-returns-2 Inv-loop μ-loop
-returns-2 c =
-    let at-loop = c .before in
-    let a = at-loop .before .before .before .before .before .args in
-    fewest-end (a .none) (a .ahead .now) (a .behind .now) (a .ranks .now) (a .part .now) (a .at) (at-loop .loop .ok) (at-loop .loop .best) (at-loop .loop .i) (at-loop .loop .inv) (omega arith)
+    (fewest-turn (a .none) (a .ahead .now) (a .behind .now) (a .ranks .now) (a .part .now) (a .at) (at-loop .loop .ok) (at-loop .loop .best) (at-loop .loop .i) (at-loop .loop .inv)
+    (sym (ap isEntry (word .word-at .ensures)) ∙ sym (entry .is-entry .ensures) ∙ not-false _ (test .if1 .left)) (traits .traits-of .result) (rw (sym (word .word-at .ensures)) (traits .traits-of .ensures)))
 
 pub fewest-links-spec : {M : Type 1} → statement M
 fewest-links-spec =
@@ -91,8 +103,7 @@ fewest-links-spec =
     Inv-loop
     μ-loop
     loop-holds
-    mul-w
-    shared-slice-read-w
+    word-at-requires
     is-entry-requires
     returns
     traits-of-requires
@@ -101,5 +112,4 @@ fewest-links-spec =
     least-requires
     add-i
     loop-less
-    loop-again
-    returns-2)
+    loop-again)

@@ -1,12 +1,12 @@
--- `link::answer::chain_answer` meets its contract, by that of the refusal's number.
+-- `chain_words::answer::chain_answer` meets its contract, by that of the refusal's number.
 -- Assumes nothing.
 use borrow.Author.Needs.{needs}
 use mathlib.Core.Path.{sym, ap, _∙_}
-use Rattle.link.specs.Reply.{chainAnswer}
-use Rattle.link.proofs.answer.chain_answer.Statement.{statement}
-use Rattle.link.proofs.answer.chain_answer.Tie as tie
-use Rattle.link.proofs.answer.chain_answer.Reads as reads
-use Rattle.link.proofs.answer.chain_answer.Lts as lts
+use Rattle.chain_words.specs.Answer.{chainAnswer}
+use Rattle.chain_words.proofs.answer.chain_answer.Statement.{statement}
+use Rattle.chain_words.proofs.answer.chain_answer.Tie as tie
+use Rattle.chain_words.proofs.answer.chain_answer.Reads as reads
+use Rattle.chain_words.proofs.answer.chain_answer.Lts as lts
 use Rattle.image.proofs.answer.refusal_answer.Reads as refusal-answer-reads
 
 enum-known-found : tie.Need-enum-known-found
