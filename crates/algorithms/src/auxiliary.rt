@@ -15,10 +15,10 @@ ghost use mathlib.Core.Path.{_≡_};
 ghost use Prim.Native.Nat.{_≤_, _<_};
 ghost use lib.ListN.{length};
 
-// To the next task of a task network, and to the one before: what is added to an index, with wrap.
-pub const ON: usize = 1;
+// To look at the tasks of a task network on the right of an index, one after the other, and on its left: what is added to the index, with wrap.
+pub const FROM_RIGHT: usize = 1;
 
-pub const BACK: usize = 18446744073709551615;
+pub const FROM_LEFT: usize = 18446744073709551615;
 
 // Line 13, ∀ i : t_i ∈ C_ε, for the tasks of a task network on one side of index `from`: the first word there that is no task in C_ε, and is no
 // task at all where line 13 holds. It holds where there are no tasks, as line 5 has it. A task that is left out is no hindrance.
@@ -55,7 +55,7 @@ fn given(book: &[u32], domain: usize, ranks: usize, touch: u32, round: u32, i: u
     let t = get(book, domain, i);
     if is_kind(7, t) & (touch == 0) {
         return kept(
-            !is_entry(hindrance(book, domain, ranks, round, i, ON)),
+            !is_entry(hindrance(book, domain, ranks, round, i, FROM_RIGHT)),
             round,
         );
     }
@@ -110,11 +110,8 @@ fn look(book: &mut [u32], domain: usize, ranks: usize, touch: u32, round: u32) -
     changed
 }
 
-// Rounds until one finds nothing. Without a touch: EMPTYREFINEMENTS, lines 2 to 17: C_ε, the compound tasks that admit an empty refinement, each
-// with the round of lines 11 to 16 that found it. Lines 4 to 6 are the first round, since of an empty task network line 13 holds; "Lines 7-9
-// and 15 are not necessary". With a touch: the compound tasks c with an action that has it in a method of M_R(c), by DECOMPOSITIONREACHABILITY:
-// M_R(c) = {m | m = (c, tn)} ∪ {m = (c', tn) | ∃ tn' : ⟨c⟩ → tn' ∧ c' ∈ tn'}.
-pub fn rounds(book: &mut [u32], domain: usize, ranks: usize, touch: u32)
+// Rounds until one finds nothing.
+fn rounds(book: &mut [u32], domain: usize, ranks: usize, touch: u32)
     ensures { λ _. ⌜ length (now (book .exit)) ≡ length (now (book .entry)) ⌝ }
 {
     let mut r = 1;
@@ -124,6 +121,22 @@ pub fn rounds(book: &mut [u32], domain: usize, ranks: usize, touch: u32)
         }
         r += 1;
     }
+}
+
+// EMPTYREFINEMENTS, lines 2 to 17: C_ε, the compound tasks that admit an empty refinement, each with the round of lines 11 to 16 that found it.
+// Lines 4 to 6 are the first round, since of an empty task network line 13 holds; "Lines 7-9 and 15 are not necessary".
+pub fn empty_refinements(book: &mut [u32], domain: usize, empty: usize)
+    ensures { λ _. ⌜ length (now (book .exit)) ≡ length (now (book .entry)) ⌝ }
+{
+    rounds(book, domain, empty, 0);
+}
+
+// DECOMPOSITIONREACHABILITY, M_R(c) = {m | m = (c, tn)} ∪ {m = (c', tn) | ∃ tn' : ⟨c⟩ → tn' ∧ c' ∈ tn'}, in the domain with shortened methods, as
+// far as it is asked for: the compound tasks c with an action that has the touch in a method of M_R(c).
+pub fn decomposition_reachability(book: &mut [u32], ranks: usize, touch: u32)
+    ensures { λ _. ⌜ length (now (book .exit)) ≡ length (now (book .entry)) ⌝ }
+{
+    rounds(book, book::SHORT, ranks, touch);
 }
 
 // Lines 24 to 26 for word `i`: a task is kept where all tasks on one side of it, in its task network, are in C_ε.
@@ -140,8 +153,8 @@ fn shortened(book: &[u32], i: usize, by: usize) -> u32
     )
 }
 
-// SHORTENMETHODSFROMRIGHT, lines 19 to 28, where `by` goes on; and SHORTENMETHODSFROMLEFT, which "mirrors SHORTENMETHODSFROMRIGHT, with the loop
-// in line 23 running from 1 to |tn| instead", where it goes back.
+// SHORTENMETHODSFROMRIGHT, lines 19 to 28; and SHORTENMETHODSFROMLEFT, which "mirrors SHORTENMETHODSFROMRIGHT, with the loop in line 23 running
+// from 1 to |tn| instead".
 pub fn shorten_methods(book: &mut [u32], by: usize)
     ensures { λ _. ⌜ length (now (book .exit)) ≡ length (now (book .entry)) ⌝ }
 {

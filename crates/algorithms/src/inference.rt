@@ -3,9 +3,10 @@
 // executability-relaxed preconditions, and its adaptation for the possible ones (Definitions 7 and 8). They are the columns "always needed"
 // (prec) and "may need" (poss-prec). What is found of a compound task is a word of the fact's row, with bit k for word k of a card; bit 0 says
 // that the fact can change.
-use crate::auxiliary::BACK;
-use crate::auxiliary::ON;
-use crate::auxiliary::rounds;
+use crate::auxiliary::FROM_LEFT;
+use crate::auxiliary::FROM_RIGHT;
+use crate::auxiliary::decomposition_reachability;
+use crate::auxiliary::empty_refinements;
 use crate::auxiliary::shorten_methods;
 use crate::book;
 use crate::book::get;
@@ -21,16 +22,16 @@ ghost use Prim.Native.Nat.{_≤_, _<_};
 ghost use lib.ListN.{length};
 
 // Lines 3 to 5 of Algorithm 5, where actions that add f make it present and those that delete it absent: D' (RESTRICTED), C_ε (EMPTY) and D''
-// (SHORT), with methods shortened from the right; and M_R of line 7, as far as it is asked for. Lines 5 to 7 of Algorithm 6, where those that
-// need f make it present and those that add it absent: D'', C'_ε and D''', with methods shortened from the left; and M_R of line 9.
+// (SHORT), with methods shortened from the right; and M_R of line 6, as far as it is asked for. Lines 5 to 7 of Algorithm 6, where those that
+// need f make it present and those that add it absent: D'', C'_ε and D''', with methods shortened from the left; and M_R of line 8.
 pub fn prepare(book: &mut [u32], present: u32, absent: u32, by: usize)
     ensures { λ _. ⌜ length (now (book .exit)) ≡ length (now (book .entry)) ⌝ }
 {
     restrict(book, book::DOMAIN, present | absent);
-    rounds(book, book::RESTRICTED, book::EMPTY, 0);
+    empty_refinements(book, book::RESTRICTED, book::EMPTY);
     shorten_methods(book, by);
-    rounds(book, book::SHORT, book::PRESENT, present);
-    rounds(book, book::SHORT, book::ABSENT, absent);
+    decomposition_reachability(book, book::PRESENT, present);
+    decomposition_reachability(book, book::ABSENT, absent);
 }
 
 // Lines 8 to 16 of Algorithm 5 for a compound task: whether an action in a method of M_R(c) adds f, whether one deletes it, whether c ∈ C_ε.
@@ -72,7 +73,7 @@ fn found(book: &[u32], row: usize, first: bool, c: usize) -> u32
     effects(present, absent, empty)
 }
 
-// Line 6 of Algorithm 5, line 8 of Algorithm 6: each compound task.
+// Line 7 of Algorithm 5, line 9 of Algorithm 6: each compound task.
 fn write_row(book: &mut [u32], row: usize, first: bool)
     ensures { λ _. ⌜ length (now (book .exit)) ≡ length (now (book .entry)) ⌝ }
 {
@@ -89,17 +90,17 @@ fn write_row(book: &mut [u32], row: usize, first: bool)
 pub fn infer_effects(book: &mut [u32], row: usize)
     ensures { λ _. ⌜ length (now (book .exit)) ≡ length (now (book .entry)) ⌝ }
 {
-    prepare(book, ADD, DEL, ON);
+    prepare(book, ADD, DEL, FROM_RIGHT);
     write_row(book, row, false);
 }
 
-// Algorithm 6 for the fact of the row, after Algorithm 5. Lines 5 to 7 come before lines 3 and 4, so that one table serves both restricted
+// Algorithm 6 for the fact of the row, after Algorithm 5. Lines 5 to 8 come before lines 3 and 4, so that one table serves both restricted
 // domains, and one both sets.
 pub fn infer_preconditions(book: &mut [u32], row: usize)
     ensures { λ _. ⌜ length (now (book .exit)) ≡ length (now (book .entry)) ⌝ }
 {
-    prepare(book, PREC, FIRST_ADD, BACK);
+    prepare(book, PREC, FIRST_ADD, FROM_LEFT);
     restrict(book, book::DOMAIN, PREC);
-    rounds(book, book::RESTRICTED, book::EMPTY, 0);
+    empty_refinements(book, book::RESTRICTED, book::EMPTY);
     write_row(book, row, true);
 }

@@ -1,9 +1,9 @@
 // What 001 assumes before its algorithms begin: "that there are no compound tasks or decomposition methods with only non-terminating
 // refinements. By this we mean that every task or method can be refined into a (possibly empty) primitive action sequence. Without this
 // assumption the following algorithms can lead to wrong results." So they are removed first.
-use crate::auxiliary::ON;
+use crate::auxiliary::FROM_RIGHT;
+use crate::auxiliary::empty_refinements;
 use crate::auxiliary::hindrance;
-use crate::auxiliary::rounds;
 use crate::book;
 use crate::book::get;
 use crate::book::put;
@@ -23,7 +23,7 @@ fn remaining(book: &[u32], i: usize) -> u32
     let w = get(book, book::IMAGE, i);
     if is_kind(7, w) {
         return kept(
-            !is_entry(hindrance(book, book::RESTRICTED, book::RUN, 258, i, ON)),
+            !is_entry(hindrance(book, book::RESTRICTED, book::RUN, 258, i, FROM_RIGHT)),
             w,
         );
     }
@@ -50,6 +50,6 @@ pub fn terminating(book: &mut [u32])
     ensures { λ _. ⌜ length (now (book .exit)) ≡ length (now (book .entry)) ⌝ }
 {
     restrict(book, book::IMAGE, 0);
-    rounds(book, book::RESTRICTED, book::RUN, 0);
+    empty_refinements(book, book::RESTRICTED, book::RUN);
     remove_endless(book);
 }

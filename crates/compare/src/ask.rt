@@ -2,8 +2,8 @@
 use crate::tally;
 use crate::tally::Tally;
 use crate::tally::noted;
-use algorithms::auxiliary::BACK;
-use algorithms::auxiliary::ON;
+use algorithms::auxiliary::FROM_LEFT;
+use algorithms::auxiliary::FROM_RIGHT;
 use algorithms::book::tasks;
 use algorithms::domain::ADD;
 use algorithms::domain::DEL;
@@ -104,9 +104,9 @@ fn ask_fact(t: Tally, image: &[u32], book: &mut [u32], f: usize) -> Tally {
         return t;
     }
     read_actions(book, f);
-    prepare(book, ADD, DEL, ON);
+    prepare(book, ADD, DEL, FROM_RIGHT);
     let last = ask_side(t, image, book, 0, f);
-    prepare(book, PREC, FIRST_ADD, BACK);
+    prepare(book, PREC, FIRST_ADD, FROM_LEFT);
     ask_side(last, image, book, 3, f)
 }
 

@@ -1,5 +1,5 @@
 // The cards of all sequences of an accepted image, by the second engine.
-use algorithms::auxiliary::rounds;
+use algorithms::auxiliary::empty_refinements;
 use algorithms::book;
 use algorithms::book::get;
 use algorithms::book::number;
@@ -102,7 +102,7 @@ fn work_out(image: &[u32], book: &mut [u32])
     book::open(book, image);
     terminating(book);
     infer_all(book);
-    rounds(book, book::DOMAIN, book::EMPTY, 0);
+    empty_refinements(book, book::DOMAIN, book::EMPTY);
 }
 
 // The cards of an accepted image, seven words a sequence, and 0 in the words past them. Answers the number of sequences, 0 for an image that is
