@@ -1,28 +1,27 @@
--- The cards in the card area: where each card stands, the words past them, and what an accepted image's cards say.
+-- The cards in an area: where each card stands, that a library's cards are the only words that say what its cards say, and when the call writes
+-- them.
 -- Assumes nothing.
-use Prim.Native.Nat.{ℕ, zero, suc, _+_, _*_, _-_, _≤_, _<_}
-use native.Mathlib.Nat.{add-zero, zero-add, add-suc, suc-add, le-of-suc-le-suc}
+use Prim.Native.Nat.{ℕ, zero, suc, _+_, _*_, _/_, _%_, _≤_, _<_}
+use native.Mathlib.Nat.{add-zero, zero-add, add-suc, suc-add, le-of-suc-le-suc, mod-lt, zero-lt-suc}
 use native.Mathlib.Omega.{arith}
-use mathlib.Core.Path.{_≡_, refl, sym, ap, ap₂, _∙_}
+use mathlib.Core.Path.{_≡_, refl, sym, ap, _∙_}
 use mathlib.Core.Bool.{Bool, true, false, cond}
 use mathlib.Core.List.{List, _++_}
-use lib.ListN.{length, getD, drop, length-append, length-drop, List·getD-append}
-use lib.Seq.{getD-append-add, getD-drop}
+use lib.ListN.{length, getD, length-append, List·getD-append}
+use lib.Seq.{getD-append-add, ext-getD}
 use lib.Dec.{ltb}
 use borrow.Author.Tests.{ltb-false}
-use Rattle.library.specs.Library.{Library, libraryOf}
-use Rattle.reader.specs.Checked.{checked}
-use Rattle.library.specs.Accepted.{Counted}
+use Rattle.library.specs.Library.{Library}
 use Rattle.image.specs.declared.answer.Refusal.the-variants.{CardArea}
 use Rattle.image.specs.declared.answer.Head.{Head}
 use Rattle.image.specs.declared.answer.Checked.{Checked}
-use Rattle.library.proofs.Accepted.{faultless, counted}
 use Rattle.card.specs.Card.{cardWords, card, cardsFrom, cards}
-use Rattle.card.specs.Answer.{answered, cardsOf, areaAfter, cardArea}
+use Rattle.card.specs.Answer.{cardsGiven}
 use Rattle.card.specs.Meaning.{cardWord}
-use Rattle.card.specs.Area.{partWord, Written}
+use Rattle.card.specs.Area.{partWord, AllCards}
 use Rattle.card.specs.declared.answer.Cards.{Cards}
-use Rattle.card.proofs.Meaning.{card-right, runs-right, card-same, runs-same}
+use Rattle.card.proofs.Meaning.{card-right, card-same}
+use Rattle.card.proofs.Unique.{card-unique}
 
 length-card : (L : Library) (c : ℕ) → length (card L c) ≡ cardWords
 unfolding card
@@ -54,7 +53,7 @@ unfolding cards
 length-cards L = length-from L 0 (length (L .sequences))
 
 -- where the call answers a count, the image is accepted with that count, and the area has room
-pub filled : (found : Checked) (room n : ℕ) → answered found room ≡ Cards.Filled n
+pub filled : (found : Checked) (room n : ℕ) → cardsGiven found room ≡ Cards.Filled n
     → (h : Head) × (found ≡ Checked.Accepted h) × (h .sequences ≡ n) × (cardWords * n ≤ room)
 filled (Checked.Refused r) room n e = let no : _≡_ {A = ℕ} 0 1 = cc in absurd (omega arith)
 filled (Checked.Accepted h) room n e = go (ltb room (cardWords * h .sequences)) refl e
@@ -66,34 +65,27 @@ filled (Checked.Accepted h) room n e = go (ltb room (cardWords * h .sequences)) 
         let same : h .sequences ≡ n = cc in
         (h, refl, same, omega (arith, ltb-false room (cardWords * h .sequences) t))
 
-module _ (image area : List ℕ) (n : ℕ) (answer : cardsOf image area ≡ Cards.Filled n) where
-  pub written-right : Written image area n
-  unfolding cards
-  written-right =
-      let (h, accepted, count, room) = filled (checked image) (length area) n answer in
-      let L = libraryOf image in
-      let all = length (L .sequences) in
-      let has : Counted L h = counted image h accepted in
-      let few : L .facts ≤ 64 = omega (arith, has .facts, faultless image h accepted .facts-high) in
-      let size : length (cards L) ≡ cardWords * n = omega (arith, length-cards L, has .sequences) in
-      let after : cardArea image area ≡ cards L ++ drop (cardWords * n) area = ap (λ (a : Cards). areaAfter a image area) answer in
-      let words : (c k : ℕ) → c < n → k < cardWords → partWord (cardArea image area) c k ≡ cardWord L c k =
-      λ c k l u.
-      let inside : cardWords * c + k < length (cards L) = omega arith in
-      ap (λ (a : List ℕ). getD a (cardWords * c + k) 0) after
-      ∙ List·getD-append (cards L) (drop (cardWords * n) area) 0 (cardWords * c + k) inside
-      ∙ card-at L 0 all c k (omega (arith, has .sequences)) u
-      ∙ ap (λ (d : ℕ). cardWord L d k) (zero-add c) in
-      record {
-        words = words;
-        past = λ i l.
-            let beyond : i ≡ length (cards L) + (i - cardWords * n) = omega arith in
-            let back : cardWords * n + (i - cardWords * n) ≡ i = omega arith in
-            ap₂ (λ (a : List ℕ) (j : ℕ). getD a j 0) after beyond
-            ∙ getD-append-add (cards L) (drop (cardWords * n) area) (i - cardWords * n) 0
-            ∙ getD-drop (cardWords * n) area (i - cardWords * n) 0
-            ∙ ap (λ (j : ℕ). getD area j 0) back;
-        long = ap length after ∙ omega (arith, length-append (cards L) (drop (cardWords * n) area), length-drop (cardWords * n) area);
-        cards = λ c l. card-same L c (partWord (cardArea image area) c) (λ k u. words c k l u) (card-right L few c);
-        runs = λ c l. runs-same L c (partWord (cardArea image area) c) (λ k u. words c k l u) (runs-right L c);
-      }
+-- the words of a card in its own part
+pub card-words : (L : Library) (c k : ℕ) → c < length (L .sequences) → k < cardWords → partWord (cards L) c k ≡ cardWord L c k
+unfolding cards
+card-words L c k l u = card-at L 0 (length (L .sequences)) c k l u ∙ ap (λ (d : ℕ). cardWord L d k) (zero-add c)
+
+pub all-cards : (L : Library) → L .facts ≤ 64 → AllCards L (cards L)
+all-cards L few =
+    record {
+      long = length-cards L;
+      card = λ c l. card-same L c (partWord (cards L) c) (λ k u. card-words L c k l u) (card-right L few c);
+    }
+
+-- the cards are the only words of which `AllCards` holds
+pub cards-unique : (L : Library) (words others : List ℕ) → AllCards L words → AllCards L others → words ≡ others
+cards-unique L words others one two =
+    ext-getD 0 words others (one .long ∙ sym (two .long))
+    (λ i l.
+    let long = one .long in
+    let place : i ≡ cardWords * (i / cardWords) + i % cardWords = omega arith in
+    let low : i / cardWords < length (L .sequences) = omega arith in
+    ap (λ (j : ℕ). getD words j 0) place
+    ∙ card-unique L (i / cardWords) (partWord words (i / cardWords)) (partWord others (i / cardWords)) (one .card (i / cardWords) low)
+    (two .card (i / cardWords) low) (i % cardWords) (mod-lt i (zero-lt-suc 6))
+    ∙ ap (λ (j : ℕ). getD others j 0) (sym place))

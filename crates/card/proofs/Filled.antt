@@ -18,16 +18,16 @@ use Rattle.library.proofs.Accepted.{faultless, counted}
 use Rattle.outcome.specs.Area.{outcomes}
 use Rattle.card.specs.Card.{cards}
 use Rattle.card_words.specs.Row.{tableCards}
-use Rattle.card.specs.Answer.{answered, cardsOf, areaAfter, Called}
+use Rattle.card.specs.Answer.{cardsGiven, cardsOf, areaWith, Called}
 use Rattle.card.specs.declared.answer.Cards.{Cards}
 use Rattle.card.proofs.Table.{table-cards}
 
 -- an answer, and the area that goes with it
 called : (image area : List ℕ) (found : Checked) (answer : Cards) (after : List ℕ) → checked image ≡ found
-    → answered found (length area) ≡ answer → after ≡ areaAfter answer image area → Called image area answer after
+    → cardsGiven found (length area) ≡ answer → after ≡ areaWith answer image area → Called image area answer after
 called image area found answer after e a w =
-    let same : cardsOf image area ≡ answer = ap (λ (f : Checked). answered f (length area)) e ∙ a in
-    record { answer = sym same; area = w ∙ ap (λ (c : Cards). areaAfter c image area) (sym same) }
+    let same : cardsOf image area ≡ answer = ap (λ (f : Checked). cardsGiven f (length area)) e ∙ a in
+    record { answer = sym same; area = w ∙ ap (λ (c : Cards). areaWith c image area) (sym same) }
 
 -- 1 to 7
 pub call-refused : (image area : List ℕ) (r : Refusal) → checked image ≡ Checked.Refused r → Called image area (Cards.Refused r) area

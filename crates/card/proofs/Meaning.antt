@@ -21,9 +21,9 @@ use Rattle.runs.proofs.Tests.{passes-or-not}
 use Rattle.runs.proofs.Outcome.{present≢untouched, absent≢untouched}
 use Rattle.runs.proofs.Columns.{question-iff, hasRun-iff, hasEmptyRun-iff, blank-columns, always-iff, missing-iff}
 use Rattle.runs.proofs.Published.{published-columns}
-use Rattle.runs.proofs.Execution.{kept}
+use Rattle.runs.proofs.Execution.{needed-stood, set-stands, cleared-falls, gained-set, lost-cleared}
 use Rattle.card.specs.Card.{cardWords, may, always, changeable, flags, card, maySet, mayClear}
-use Rattle.card.specs.Meaning.{cardWord, Lacks, HasRun, NoRun, Columns, Flags, Blank, Card, Kept, Always, needed, set, cleared, place, Missing, Runs}
+use Rattle.card.specs.Meaning.{cardWord, Lacks, HasRun, NoRun, Columns, Flags, Blank, Card, Kept, Changed, Always, needed, set, cleared, place, Missing, Runs}
 
 -- ---- a word, one fact at a time
 
@@ -193,13 +193,18 @@ module _ (L : Library) (c : ℕ) where
   runs-kept : (w : List Item) → Run L c w → (s : State L) → Executes L w s → (f : Fact L) → Kept L (cardWord L c) w s f
   unfolding card
   runs-kept w r s ex f =
-      let k = kept L f w s ex in
       record {
-        needed = λ e. k .needed (always-run firstNeeded present≢untouched w r f e);
-        set = λ e. k .set (always-run lastSet present≢untouched w r f e);
-        cleared = λ e. k .cleared (always-run lastCleared absent≢untouched w r f e);
-        gained = λ e q. may-run lastSet w r f (k .gained e q);
-        lost = λ q e. may-run lastCleared w r f (k .lost q e);
+        needed = λ e. needed-stood L f w s ex (always-run firstNeeded present≢untouched w r f e);
+        set = λ e. set-stands L f w s (always-run lastSet present≢untouched w r f e);
+        cleared = λ e. cleared-falls L f w s (always-run lastCleared absent≢untouched w r f e);
+      }
+
+  runs-changed : (w : List Item) → Run L c w → (s : State L) → (f : Fact L) → Changed L (cardWord L c) w s f
+  unfolding card
+  runs-changed w r s f =
+      record {
+        gained = λ e q. may-run lastSet w r f (gained-set L f w s e q);
+        lost = λ q e. may-run lastCleared w r f (lost-cleared L f w s q e);
       }
 
   missing-right : (a : Always) (f : Fact L) → Missing L c (cardWord L c) a f
@@ -209,7 +214,7 @@ module _ (L : Library) (c : ℕ) where
   missing-right cleared f = Iff·trans (always-lacks L lastCleared c f) (missing-iff L lastCleared c (f .0) absent≢untouched)
 
   pub runs-right : Runs L c (cardWord L c)
-  runs-right = record { kept = runs-kept; missing = missing-right }
+  runs-right = record { kept = runs-kept; changed = runs-changed; missing = missing-right }
 
 -- ---- words found elsewhere that are the same
 
@@ -257,8 +262,9 @@ module _ (L : Library) (c : ℕ) (word : ℕ → ℕ) (same : (k : ℕ) → k < 
               needed = rw (same 1 (omega arith)) (kept .needed);
               set = rw (same 5 (omega arith)) (kept .set);
               cleared = rw (same 6 (omega arith)) (kept .cleared);
-              gained = rw (same 3 (omega arith)) (kept .gained);
-              lost = rw (same 4 (omega arith)) (kept .lost);
             };
+        changed = λ w r s f.
+            let changed = runs .changed w r s f in
+            record { gained = rw (same 3 (omega arith)) (changed .gained); lost = rw (same 4 (omega arith)) (changed .lost) };
         missing = λ a f. rw (same (place a) (place-low a)) (runs .missing a f);
       }

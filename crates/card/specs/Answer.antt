@@ -15,23 +15,23 @@ use Rattle.card.specs.Card.{cardWords, cards}
 use Rattle.card.specs.declared.answer.Cards.{Cards}
 
 -- 8: "The card area has fewer than 7 × C words of 64 bits." It comes after 1 to 7; "Otherwise .. the cards [answer] C"
-abbrev pub answered : Checked → ℕ → Cards
-answered (Checked.Refused r) room = Cards.Refused r
-answered (Checked.Accepted h) room =
+abbrev pub cardsGiven : Checked → ℕ → Cards
+cardsGiven (Checked.Refused r) room = Cards.Refused r
+cardsGiven (Checked.Accepted h) room =
     cond (ltb room (cardWords * h .sequences)) (Cards.Refused CardArea) (Cards.Filled (h .sequences))
 
 -- what the card call answers
 abbrev pub cardsOf : List ℕ → List ℕ → Cards
-cardsOf image area = answered (checked image) (length area)
+cardsOf image area = cardsGiven (checked image) (length area)
 
 -- "Nothing lent is changed." "Each sequence's words are written into its own part of the card area; words past 7 × C stay."
-abbrev pub areaAfter : Cards → List ℕ → List ℕ → List ℕ
-areaAfter (Cards.Refused r) image area = area
-areaAfter (Cards.Filled n) image area = cards (libraryOf image) ++ drop (cardWords * n) area
+abbrev pub areaWith : Cards → List ℕ → List ℕ → List ℕ
+areaWith (Cards.Refused r) image area = area
+areaWith (Cards.Filled n) image area = cards (libraryOf image) ++ drop (cardWords * n) area
 
 -- the card area after the call
 abbrev pub cardArea : List ℕ → List ℕ → List ℕ
-cardArea image area = areaAfter (cardsOf image area) image area
+cardArea image area = areaWith (cardsOf image area) image area
 
 -- "It gets one 64-bit number: N × 2^32 + P for refusal N at position P, otherwise .. C from the cards"
 abbrev pub cardsAnswer : Cards → ℕ

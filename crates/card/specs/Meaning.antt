@@ -77,6 +77,9 @@ pub record Kept (L : Library) (word : ℕ → ℕ) (w : List Item) (s : State L)
   pub set : Holds word 5 (f .0) → end L w s f ≡ true
   -- "and none in "always cleared" does"
   pub cleared : Holds word 6 (f .0) → end L w s f ≡ false
+
+-- of every run, executing or not, and whichever facts stand at the start
+pub record Changed (L : Library) (word : ℕ → ℕ) (w : List Item) (s : State L) (f : Fact L) : Type 0 where
   -- "A fact that stands at the end and not at the start is in "may set""
   pub gained : end L w s f ≡ true → s f ≡ false → Holds word 3 (f .0)
   -- "one that stands at the start and not at the end in "may clear""
@@ -111,4 +114,5 @@ Missing L c word a f = Lacks word (place a) (f .0) ↔ (NoRun L c ⊎ ((w : List
 -- what the words say of the runs of sequence c
 pub record Runs (L : Library) (c : ℕ) (word : ℕ → ℕ) : Type 0 where
   pub kept : (w : List Item) → Run L c w → (s : State L) → Executes L w s → (f : Fact L) → Kept L word w s f
+  pub changed : (w : List Item) → Run L c w → (s : State L) → (f : Fact L) → Changed L word w s f
   pub missing : (a : Always) (f : Fact L) → Missing L c word a f

@@ -7,7 +7,8 @@ use mathlib.Core.List.{List, [], _∷_, _++_}
 use lib.ListN.{length, take, drop, getD, length-take}
 use lib.Seq.{drop-cons, drop-length}
 use Rattle.card_text.specs.Text.{InFront, PutWithin}
-use Rattle.card_text.specs.Number.{numeral, NumeralAsked}
+use Rattle.card_text.specs.Number.{numeral}
+use Rattle.card_text.specs.Writers.{NumeralAsked}
 use Rattle.card_text.specs.Line.{spaced, cardLine, linesFrom, cardLines, refusedText, atText, refusalLine}
 use Rattle.card_text.proofs.Text.{front-none, front-join}
 use Rattle.card_text.proofs.Numeral.{numeral-length}

@@ -12,7 +12,8 @@ use lib.ListN.{length, drop, length-append}
 use lib.Dec.{ltb}
 use borrow.Author.Tests.{lt-ltb, le-ltb}
 use Rattle.card_text.specs.Text.{InFront}
-use Rattle.card_text.specs.Number.{digit, numeralIn, numeral, NumeralAsked}
+use Rattle.card_text.specs.Number.{digit, numeralIn, numeral}
+use Rattle.card_text.specs.Writers.{NumeralAsked}
 
 below-or-not : (n b : ℕ) → (n < b) ⊎ (b ≤ n)
 below-or-not n b = elim (decLt n b) [ yes p ↦ inl p | no p ↦ inr (omega arith) ]

@@ -16,12 +16,13 @@ use Rattle.image.specs.declared.answer.Refusal.the-variants.{CardArea}
 use Rattle.image.specs.declared.answer.Checked.{Checked}
 use Rattle.library.proofs.Accepted.{faultless, counted}
 use Rattle.card.specs.Card.{cards}
-use Rattle.card.specs.Answer.{answered, areaAfter, Called}
+use Rattle.card.specs.Answer.{cardsGiven, areaWith, Called}
 use Rattle.card.specs.declared.answer.Cards.{Cards}
 use Rattle.card.proofs.Area.{filled, length-cards}
 use Rattle.card_text.specs.Words.{wordsOf}
 use Rattle.card_text.specs.Line.{cardLine, linesFrom, cardLines, refusalLine}
-use Rattle.card_text.specs.Print.{answerText, imageText, printed, AnswerAsked}
+use Rattle.card_text.specs.Print.{imageText, printed}
+use Rattle.card_text.specs.Writers.{answerText, AnswerAsked}
 
 -- four bytes a word
 pub length-words : (bytes : List ℕ) → length (wordsOf bytes) ≡ length bytes / 4
@@ -49,7 +50,7 @@ lines-prefix xs ys c (suc n) l =
 module _ (image area : List ℕ) (room : 1792 ≤ length area) where
   -- the words of the cards in an area that has room for the cards of 256 sequences
   image-text : (found : Checked) → checked image ≡ found
-      → answerText (answered found (length area)) (areaAfter (answered found (length area)) image area) ≡ imageText found image
+      → answerText (cardsGiven found (length area)) (areaWith (cardsGiven found (length area)) image area) ≡ imageText found image
   unfolding cardLines
   image-text (Checked.Refused r) e = refl
   image-text (Checked.Accepted h) e =
@@ -57,7 +58,7 @@ module _ (image area : List ℕ) (room : 1792 ≤ length area) where
       let has : Counted L h = counted image h e in
       let few = faultless image h e .sequences-high in
       let enough = le-ltb (length area) (7 * h .sequences) (omega arith) in
-      ap (λ (a : Cards). answerText a (areaAfter a image area)) (ap (λ (b : Bool). cond b (Cards.Refused CardArea) (Cards.Filled (h .sequences))) enough)
+      ap (λ (a : Cards). answerText a (areaWith a image area)) (ap (λ (b : Bool). cond b (Cards.Refused CardArea) (Cards.Filled (h .sequences))) enough)
       ∙ lines-prefix (cards L) (drop (7 * h .sequences) area) 0 (h .sequences) (omega (arith, length-cards L, has .sequences))
 
   module _ (found : Cards) (after : List ℕ) (call : Called image area found after) where

@@ -3,3 +3,4 @@ pub mod Text
 pub mod Number
 pub mod Line
 pub mod Print
+pub mod Writers

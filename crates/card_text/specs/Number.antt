@@ -1,8 +1,7 @@
 -- Numbers as text: "in decimal", "in hexadecimal, lower case, no leading zeros" (document 01, "The printing program").
-use Prim.Native.Nat.{ℕ, zero, suc, _+_, _/_, _%_, _≤_}
+use Prim.Native.Nat.{ℕ, zero, suc, _+_, _/_, _%_}
 use mathlib.Core.Bool.{cond}
 use mathlib.Core.List.{List, [], _∷_, _++_}
-use lib.ListN.{length}
 use lib.Dec.{ltb}
 
 -- the ASCII code of a digit below 16: `0` to `9`, then `a` to `f`
@@ -20,10 +19,3 @@ numeralIn b (suc k) n =
 -- the numeral of n in base b: n has no more than n + 1 digits
 unfoldable pub numeral : ℕ → ℕ → List ℕ
 numeral b n = numeralIn b n n
-
--- what the writer of a numeral asks: a base with digits, and room in front of the text that begins at `at`
-pub record NumeralAsked (area : List ℕ) (at b n : ℕ) : Type 0 where
-  pub low : 2 ≤ b
-  pub high : b ≤ 16
-  pub room : length (numeral b n) ≤ at
-  pub within : at ≤ length area

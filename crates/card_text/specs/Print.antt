@@ -1,6 +1,5 @@
 -- What the printing program prints (document 01, "The printing program").
-use Prim.Native.Nat.{ℕ, _*_, _%_, _≤_}
-use mathlib.Core.Path.{_≡_}
+use Prim.Native.Nat.{ℕ, _%_}
 use mathlib.Core.Bool.{cond, _&&_}
 use mathlib.Core.List.{List}
 use lib.ListN.{length}
@@ -10,16 +9,10 @@ use Rattle.reader.specs.Checked.{checked}
 use Rattle.library.specs.Library.{libraryOf}
 use Rattle.image.specs.declared.answer.Checked.{Checked}
 use Rattle.card.specs.Card.{cards}
-use Rattle.card.specs.declared.answer.Cards.{Cards}
 use Rattle.card_text.specs.Words.{wordsOf}
 use Rattle.card_text.specs.Line.{cardLines, refusalLine}
 
--- for an answer of the card call, with the words that it wrote: "one line a sequence", or "A refusal prints `refused N at P`."
-abbrev pub answerText : Cards → List ℕ → List ℕ
-answerText (Cards.Filled n) words = cardLines words n
-answerText (Cards.Refused r) words = refusalLine (refusalNumber r) (refusalPosition r)
-
--- for an image
+-- for an image: "one line a sequence", or "A refusal prints `refused N at P`."
 abbrev pub imageText : Checked → List ℕ → List ℕ
 imageText (Checked.Accepted h) image = cardLines (cards (libraryOf image)) (h .sequences)
 imageText (Checked.Refused r) image = refusalLine (refusalNumber r) (refusalPosition r)
@@ -28,9 +21,3 @@ imageText (Checked.Refused r) image = refusalLine (refusalNumber r) (refusalPosi
 unfoldable pub printed : List ℕ → List ℕ
 printed bytes =
     cond (leb (length bytes) 32768 && eqb (length bytes % 4) 0) (imageText (checked (wordsOf bytes)) (wordsOf bytes)) (refusalLine 1 0)
-
--- what the writer of an answer asks: the words of the cards, at most 256, and room in front of the text that begins at `at`
-pub record AnswerAsked (area : List ℕ) (at : ℕ) (found : Cards) (words : List ℕ) : Type 0 where
-  pub filled : (n : ℕ) → found ≡ Cards.Filled n → (n ≤ 256) × (7 * n ≤ length words)
-  pub room : 33280 ≤ at
-  pub within : at ≤ length area

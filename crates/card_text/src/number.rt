@@ -2,7 +2,8 @@
 use crate::bytes::put_byte;
 ghost use mathlib.Core.Path.{_≡_};
 ghost use Prim.Native.Nat.{_<_};
-ghost use Rattle.card_text.specs.Number.{digit, numeral, NumeralAsked};
+ghost use Rattle.card_text.specs.Number.{digit, numeral};
+ghost use Rattle.card_text.specs.Writers.{NumeralAsked};
 ghost use Rattle.card_text.specs.Text.{InFront};
 
 // The ASCII code of a digit, lower case from 10 on.

@@ -11,7 +11,8 @@ ghost use lib.ListN.{length};
 ghost use Rattle.reader.specs.Checked.{checked};
 ghost use Rattle.card_text.specs.Words.{wordsOf};
 ghost use Rattle.card_text.specs.Text.{InFront};
-ghost use Rattle.card_text.specs.Print.{answerText, imageText, printed, AnswerAsked};
+ghost use Rattle.card_text.specs.Print.{imageText, printed};
+ghost use Rattle.card_text.specs.Writers.{answerText, AnswerAsked};
 
 // Puts the cards' lines, or the refusal's, in front of the text that begins at `at`.
 pub fn put_answer(text: &mut [u8], at: usize, found: Cards, cards: &[u64]) -> usize

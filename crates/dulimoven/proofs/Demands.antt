@@ -1,20 +1,17 @@
--- The engine that the contracts describe meets the three demands.
+-- The engine that the contracts describe meets the three demands, and what demand 1 says of a call no other number and no other area does.
 -- Assumes nothing.
-use Prim.Native.Nat.{ℕ, _*_, _≤_, _<_}
+use Prim.Native.Nat.{ℕ, _+_, _*_, _-_, _≤_, _<_}
 use native.Mathlib.Omega.{arith}
-use mathlib.Core.Path.{_≡_, refl, sym, ap, _∙_}
+use mathlib.Core.Path.{_≡_, refl, sym, ap, ap₂, _∙_}
 use mathlib.Core.Logic.{_↔_, inl, inr, ⊎-elim}
-use mathlib.Core.List.{List, [], _∷_, _++_}
-use mathlib.Core.Bool.{Bool, cond}
-use lib.ListN.{length, drop}
-use borrow.Author.Tests.{le-ltb}
-use Rattle.image.specs.Answer.{refusalNumber, refusalAnswer, checkedAnswer}
+use mathlib.Core.List.{List, _++_}
+use lib.ListN.{length, getD, drop, length-append, length-drop, List·getD-append}
+use lib.Seq.{getD-append-add, getD-drop}
+use Rattle.image.specs.Answer.{checkedAnswer}
 use Rattle.reader.specs.Checked.{checked}
 use Rattle.library.specs.Library.{Library, libraryOf}
 use Rattle.image.specs.declared.answer.Head.{Head}
 use Rattle.image.specs.declared.answer.Refusal.{Refusal}
-use Rattle.image.specs.declared.answer.Refusal.the-variants.{Length, SumWord, HeadWord, Kind, Payload, FactOrder, Missing, CardArea}
-use Rattle.image.specs.declared.answer.Refusal.the-variants as refusal
 use Rattle.image.specs.declared.answer.Checked.{Checked}
 use Rattle.library.proofs.Accepted.{faultless, counted}
 use Rattle.runs.specs.Run.{Item, Run}
@@ -22,42 +19,25 @@ use Rattle.runs.specs.Execution.{Fact}
 use Rattle.runs.specs.Touch.{Mark, present, absent, questionOf, HasOutcome, lastSet, lastCleared, lastUntouched, firstSet, firstUntouched}
 use Rattle.runs.proofs.Outcome.{present≢untouched, absent≢untouched}
 use Rattle.runs.proofs.Columns.{breaks-rule}
-use Rattle.card.specs.Answer as card
-use Rattle.card.specs.Area.{Written}
-use Rattle.card.specs.Card.{cardWords}
-use Rattle.card.specs.Meaning.{Always, needed, set, cleared, Breaks}
-use Rattle.card.specs.declared.answer.Cards.{Cards}
-use Rattle.card.proofs.Area.{filled, written-right}
-use Rattle.chain_words.specs.Link.{Chain, chainWords}
-use Rattle.rank.specs.Stands.{About}
-use Rattle.rank.specs.Answer.{none, shown}
-use Rattle.rank.specs.Call.{Reply, refused, answered, chained, areaAfter}
-use Rattle.link.specs.Reply.{replyNumber}
-use Rattle.rank.proofs.Words.{words-length}
-use Rattle.rank.proofs.Answers.{answer-shows}
-use Rattle.chain.proofs.Calls.{call-shows, call-answered}
+use Rattle.card.specs.Area.{partWord}
+use Rattle.card.specs.Card.{cardWords, cards}
+use Rattle.card.specs.Meaning.{Always, needed, set, cleared, Breaks, Card, Runs}
+use Rattle.card.proofs.Area.{length-cards, card-words, all-cards}
+use Rattle.card.proofs.Meaning.{card-right, runs-right, card-same, runs-same}
+use Rattle.chain_words.specs.Link.{Chain}
+use Rattle.rank.specs.Call.{Reply}
+use Rattle.chain.proofs.Calls.{call-shows}
 use Rattle.rank.proofs.Fits.{accepted-fits}
-use Rattle.dulimoven.specs.Demands.{engine, Refuses, Demand1, count, Ready, Demand2, Asks, Sees, Proves, Demand3, Demands}
+use Rattle.dulimoven.specs.Returned.{Returned}
+use Rattle.dulimoven.specs.CardCall.{filled}
+use Rattle.dulimoven.specs.ChainCall.{Links}
+use Rattle.dulimoven.specs.Demands.{Engine, Refuses, Demand1, count, Ready, Demand2, Asks, Proves, Demand3, Demands}
+use Rattle.dulimoven.specs.Engine.{engine, replied}
+use Rattle.dulimoven.proofs.Refusals.{refusal-high}
+use Rattle.dulimoven.proofs.CardCall.{few-facts, cards-return, cards-only, cards-told, cards-kept}
+use Rattle.dulimoven.proofs.ChainCall.{chain-return, chain-only, chain-told, chain-kept, none-kept}
 
 -- ---- demand 1
-
--- every refusal has a number from 1 on, so that it is told by 2^32
-number-low : (r : Refusal) → 1 ≤ refusalNumber r
-number-low Length = omega arith
-number-low (SumWord p) = omega arith
-number-low HeadWord = omega arith
-number-low (Kind p) = omega arith
-number-low (Payload p) = omega arith
-number-low (FactOrder p) = omega arith
-number-low (Missing p) = omega arith
-number-low CardArea = omega arith
-number-low refusal.Sequence = omega arith
-number-low refusal.Question = omega arith
-number-low refusal.Fact = omega arith
-number-low refusal.ChainArea = omega arith
-
-pub refusal-high : (r : Refusal) → Refuses (refusalAnswer r)
-refusal-high r = omega (arith, number-low r)
 
 check-told : (image : List ℕ) → Refuses (checkedAnswer (checked image)) ↔ ((r : Refusal) × (checked image ≡ Checked.Refused r))
 check-told image = go (checked image) refl
@@ -70,113 +50,85 @@ check-told image = go (checked image) refl
           λ (r, told). let no : _≡_ {A = ℕ} 0 1 = cc in absurd (omega arith),
         )
 
--- the cards answer no more than 256
-filled-low : (image area : List ℕ) (n : ℕ) → card.cardsOf image area ≡ Cards.Filled n → n ≤ 256
-filled-low image area n e =
-    let (h, accepted, same, room) = filled (checked image) (length area) n e in
-    omega (arith, faultless image h accepted .sequences-high)
-
-cards-told : (image area : List ℕ)
-    → Refuses (card.cardsAnswer (card.cardsOf image area)) ↔ ((r : Refusal) × (card.cardsOf image area ≡ Cards.Refused r))
-cards-told image area = go (card.cardsOf image area) refl
-  where
-    go : (k : Cards) → card.cardsOf image area ≡ k → Refuses (card.cardsAnswer k) ↔ ((r : Refusal) × (k ≡ Cards.Refused r))
-    go (Cards.Refused r) e = ((λ high. (r, refl)), λ told. refusal-high r)
-    go (Cards.Filled n) e = (
-      (λ high. absurd (omega (arith, filled-low image area n e))),
-      λ (r, told). let no : _≡_ {A = ℕ} 0 1 = cc in absurd (omega arith),
-    )
-
-cards-kept : (image area : List ℕ) → Refuses (card.cardsAnswer (card.cardsOf image area)) → card.cardArea image area ≡ area
-cards-kept image area high =
-    let (r, told) = cards-told image area .0 high in
-    ap (λ (k : Cards). card.areaAfter k image area) told
-
--- a chain that is answered has a link, and no more than 256
-few-links : (image : List ℕ) (c q f room : ℕ) (ls : Chain) → chained image c q f room ≡ answered (shown ls) → (1 ≤ length ls) × (length ls ≤ 256)
-few-links image c q f room ls e =
-    let call = call-answered image c q f room (shown ls) e in
-    let shows = answer-shows (libraryOf image) (questionOf q) c f ls (call .known) in
-    let size = counted image (call .head) (call .accepted) .sequences in
-    (one ls (shows .about), omega (arith, shows .few, size, faultless image (call .head) (call .accepted) .sequences-high))
-  where
-    one : (ms : Chain) → About c ms → 1 ≤ length ms
-    one [] about = absurd about
-    one (l ∷ ms) about = omega arith
-
-module _ (image : List ℕ) (c q f : ℕ) (area : List ℕ) where
-  chain-told : Refuses (replyNumber (chained image c q f (length area))) ↔ ((r : Refusal) × (chained image c q f (length area) ≡ refused r))
-  chain-told = go (chained image c q f (length area)) refl
-    where
-      go : (k : Reply) → chained image c q f (length area) ≡ k → Refuses (replyNumber k) ↔ ((r : Refusal) × (k ≡ refused r))
-      go (refused r) e = ((λ high. (r, refl)), λ told. refusal-high r)
-      go (answered none) e = (
-        (λ high. absurd (omega arith)),
-        λ (r, told). let no : _≡_ {A = ℕ} 0 1 = cc in absurd (omega arith),
-      )
-      go (answered (shown ls)) e = (
-        (λ high. absurd (omega (arith, few-links image c q f (length area) ls e .1))),
-        λ (r, told). let no : _≡_ {A = ℕ} 0 1 = cc in absurd (omega arith),
-      )
-
-  none-told : (replyNumber (chained image c q f (length area)) ≡ 0) ↔ (chained image c q f (length area) ≡ answered none)
-  none-told = go (chained image c q f (length area)) refl
-    where
-      go : (k : Reply) → chained image c q f (length area) ≡ k → (replyNumber k ≡ 0) ↔ (k ≡ answered none)
-      go (refused r) e = (
-        (λ told. absurd (omega (arith, number-low r))),
-        λ told. let no : _≡_ {A = ℕ} 0 1 = cc in absurd (omega arith),
-      )
-      go (answered none) e = ((λ told. refl), λ told. refl)
-      go (answered (shown ls)) e = (
-        (λ told. absurd (omega (arith, few-links image c q f (length area) ls e .0))),
-        λ told. let no : _≡_ {A = ℕ} 0 1 = cc in absurd (omega arith),
-      )
-
-  chain-kept : Refuses (replyNumber (chained image c q f (length area))) → areaAfter (chained image c q f (length area)) area ≡ area
-  chain-kept high =
-      let (r, told) = chain-told .0 high in
-      ap (λ (k : Reply). areaAfter k area) told
-
-  none-kept : replyNumber (chained image c q f (length area)) ≡ 0 → areaAfter (chained image c q f (length area)) area ≡ area
-  none-kept zero-links = ap (λ (k : Reply). areaAfter k area) (none-told .0 zero-links)
-
 pub total : Demand1 engine
 total =
     record {
       check = λ image. refl;
-      cards = λ image area. refl;
-      chain = λ image c q f area. refl;
-      cards-kept = cards-kept;
-      chain-kept = chain-kept;
-      none-kept = none-kept;
+      head = λ image h e. ap checkedAnswer e ∙ faultless image h e .payload;
+      cards = cards-return;
+      chain = chain-return;
+      cards-kept = λ image area. cards-kept image area (engine .cards image area) (cards-return image area);
+      chain-kept = λ image c q f area. chain-kept image c q f area (engine .chain image c q f area) (chain-return image c q f area);
+      none-kept = λ image c q f area. none-kept image c q f area (engine .chain image c q f area) (chain-return image c q f area);
       check-told = check-told;
-      cards-told = cards-told;
-      chain-told = chain-told;
-      none-told = none-told;
+      cards-told = λ image area. cards-told image area (engine .cards image area) (cards-return image area);
+      chain-told = λ image c q f area. chain-told image c q f area (engine .chain image c q f area) (chain-return image c q f area);
+    }
+
+-- demand 1 fixes every number and every word: an engine that meets it gives back what this one does
+pub record Same (e : Engine) : Type 0 where
+  pub check : (image : List ℕ) → e .check image ≡ engine .check image
+  pub cards : (image area : List ℕ) → e .cards image area ≡ engine .cards image area
+  pub chain : (image : List ℕ) (c q f : ℕ) (area : List ℕ) → e .chain image c q f area ≡ engine .chain image c q f area
+
+pub only-engine : (e : Engine) → Demand1 e → Same e
+only-engine e d =
+    record {
+      check = d .check;
+      cards = λ image area. cards-only image area (e .cards image area) (d .cards image area);
+      chain = λ image c q f area. chain-only image c q f area (e .chain image c q f area) (d .chain image c q f area);
     }
 
 -- ---- demand 2
 
--- an accepted image with room in the area has its cards written
-pub written : (image area : List ℕ) → Ready image area → Written image area (count (libraryOf image))
-written image area ready =
-    let h = ready .head in
-    let room = ready .room in
-    let size = counted image h (ready .accepted) .sequences in
-    let enough = le-ltb (length area) (cardWords * h .sequences) (omega arith) in
-    written-right image area (count (libraryOf image))
-    (ap (λ (k : Checked). card.answered k (length area)) (ready .accepted)
-    ∙ ap (λ (b : Bool). cond b (Cards.Refused CardArea) (Cards.Filled (h .sequences))) enough
-    ∙ ap Cards.Filled (sym size))
+module _ (image area : List ℕ) (ready : Ready image area) where
+  -- an accepted image with room in the area has its cards written
+  filled-area : engine .cards image area .area ≡ cards (libraryOf image) ++ drop (cardWords * count (libraryOf image)) area
+  filled-area =
+      let h = ready .head in
+      let room = ready .room in
+      let size = counted image h (ready .accepted) .sequences in
+      ap (λ (r : Returned). r .area)
+      (sym (cards-only image area _
+      (filled h (ready .accepted) (omega arith) (cards (libraryOf image)) (all-cards (libraryOf image) (few-facts image h (ready .accepted))) refl)))
+      ∙ ap (λ (n : ℕ). cards (libraryOf image) ++ drop (cardWords * n) area) (sym size)
+
+  -- a sequence's own part of the area has its card's words
+  part-words : (c k : ℕ) → c < count (libraryOf image) → k < cardWords
+      → partWord (engine .cards image area .area) c k ≡ partWord (cards (libraryOf image)) c k
+  part-words c k l u =
+      ap (λ (a : List ℕ). partWord a c k) filled-area
+      ∙ List·getD-append (cards (libraryOf image)) (drop (cardWords * count (libraryOf image)) area) 0 (cardWords * c + k)
+      (omega (arith, length-cards (libraryOf image)))
+
+  past-stays : (i : ℕ) → cardWords * count (libraryOf image) ≤ i → getD (engine .cards image area .area) i 0 ≡ getD area i 0
+  past-stays i l =
+      let n = cardWords * count (libraryOf image) in
+      let beyond : i ≡ length (cards (libraryOf image)) + (i - n) = omega (arith, length-cards (libraryOf image)) in
+      let back : n + (i - n) ≡ i = omega arith in
+      ap₂ (λ (a : List ℕ) (j : ℕ). getD a j 0) filled-area beyond
+      ∙ getD-append-add (cards (libraryOf image)) (drop n area) (i - n) 0
+      ∙ getD-drop n area (i - n) 0
+      ∙ ap (λ (j : ℕ). getD area j 0) back
+
+  length-stays : length (engine .cards image area .area) ≡ length area
+  length-stays =
+      let n = cardWords * count (libraryOf image) in
+      let room = ready .room in
+      ap length filled-area
+      ∙ omega (arith, length-append (cards (libraryOf image)) (drop n area), length-drop n area, length-cards (libraryOf image))
+
+  card-there : (c : ℕ) → c < count (libraryOf image) → Card (libraryOf image) c (partWord (engine .cards image area .area) c)
+  card-there c l =
+      card-same (libraryOf image) c _ (λ k u. part-words c k l u ∙ card-words (libraryOf image) c k l u)
+      (card-right (libraryOf image) (few-facts image (ready .head) (ready .accepted)) c)
+
+  runs-there : (c : ℕ) → c < count (libraryOf image) → Runs (libraryOf image) c (partWord (engine .cards image area .area) c)
+  runs-there c l =
+      runs-same (libraryOf image) c _ (λ k u. part-words c k l u ∙ card-words (libraryOf image) c k l u) (runs-right (libraryOf image) c)
 
 pub columns : Demand2 engine
-columns =
-    record {
-      card = λ image area ready c l. written image area ready .cards c l;
-      past = λ image area ready i l. written image area ready .past i l;
-      long = λ image area ready. written image area ready .long;
-    }
+columns = record { card = card-there; past = past-stays; long = length-stays }
 
 -- ---- demand 3
 
@@ -210,7 +162,7 @@ asked-low cleared q asks = ⊎-elim (λ e. omega arith) (λ e. omega arith) asks
 gets : (image : List ℕ) (h : Head) → checked image ≡ Checked.Accepted h → (c : ℕ) → c < count (libraryOf image) → (a : Always)
     (f : Fact (libraryOf image)) (w : List Item) → Run (libraryOf image) c w → (q : ℕ) → Asks a q
     → HasOutcome (libraryOf image) (questionOf q) (f .0) w → (area : List ℕ) → 2 * count (libraryOf image) ≤ length area
-    → (links : Chain) × Sees area (engine .chain image c q (f .0) area) links × Proves (libraryOf image) c a (f .0) q links
+    → (links : Chain) × Links area (engine .chain image c q (f .0) area) links × Proves (libraryOf image) c a (f .0) q links
 gets image h accepted c l a f w run q asks o area room =
     let L = libraryOf image in
     let size = counted image h accepted in
@@ -222,8 +174,8 @@ gets image h accepted c l a f w run q asks o area room =
     let here = shows .runs (shows .run) (shows .stands) in (
       ls,
       record {
-        number = ap replyNumber told;
-        area = ap (λ (k : Reply). areaAfter k area) told ∙ ap (λ (n : ℕ). chainWords ls ++ drop n area) (words-length ls);
+        number = ap (λ (k : Reply). replied k area .number) told;
+        area = ap (λ (k : Reply). replied k area .area) told;
         fits = accepted-fits image h (questionOf q) (f .0) ls (shows .run) accepted (shows .stands);
       },
       record {
@@ -237,10 +189,11 @@ pub runs : Demand3 engine
 runs =
     record {
       shown = λ image area ready c l.
-          let cards = written image area ready .runs c l in
+          let words = runs-there image area ready c l in
           record {
-            kept = cards .kept;
-            missing = cards .missing;
+            kept = words .kept;
+            changed = words .changed;
+            missing = words .missing;
             outcome = λ a f w run breaks. broken-outcome (libraryOf image) a (f .0) w breaks;
             answer = gets image (ready .head) (ready .accepted) c l;
           };

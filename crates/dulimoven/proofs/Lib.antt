@@ -1,3 +1,4 @@
+pub mod Refusals
+pub mod CardCall
+pub mod ChainCall
 pub mod Demands
-pub mod Fixed
-pub mod Wrong

@@ -3,11 +3,11 @@
 use Prim.Native.Nat.{ℕ, _*_, _^_, _≤_, _<_}
 use mathlib.Core.Path.{_≡_}
 use mathlib.Core.Logic.{_↔_, _⊎_}
-use mathlib.Core.List.{List, _++_}
-use lib.ListN.{length, getD, drop}
-use Rattle.library.specs.Accepted.{All}
+use mathlib.Core.List.{List}
+use lib.ListN.{length, getD}
+use Rattle.image.specs.Word.{payload}
 use Rattle.image.specs.Answer.{checkedAnswer}
-use Rattle.reader.specs.Checked.{checked}
+use Rattle.reader.specs.Checked.{checked, firstWord}
 use Rattle.library.specs.Library.{Library, libraryOf}
 use Rattle.image.specs.declared.answer.Head.{Head}
 use Rattle.image.specs.declared.answer.Refusal.{Refusal}
@@ -16,41 +16,21 @@ use Rattle.runs.specs.Run.{Item, Run}
 use Rattle.runs.specs.Execution.{Fact, State, Executes}
 use Rattle.runs.specs.Touch.{questionOf, HasOutcome}
 use Rattle.card.specs.Card.{cardWords}
-use Rattle.card.specs.Answer.{cardsOf, cardArea, cardsAnswer}
 use Rattle.card.specs.Area.{partWord}
-use Rattle.card.specs.Meaning.{Card, Kept, Always, needed, set, cleared, Breaks, Missing}
-use Rattle.card.specs.declared.answer.Cards.{Cards}
-use Rattle.chain_words.specs.Link.{Chain, chainWords, Fits}
+use Rattle.card.specs.Meaning.{Card, Kept, Changed, Always, needed, set, cleared, Breaks, Missing}
+use Rattle.chain_words.specs.Link.{Chain}
 use Rattle.rank.specs.Stands.{StandsFor}
-use Rattle.rank.specs.Answer.{none}
-use Rattle.rank.specs.Call.{Reply, refused, answered, chained, areaAfter}
-use Rattle.link.specs.Reply.{replyNumber}
+use Rattle.dulimoven.specs.Returned.{Returned}
+use Rattle.dulimoven.specs.CardCall.{CardsRefused, CardsReturn}
+use Rattle.dulimoven.specs.ChainCall.{ChainRefused, ChainReturn, Links}
 
 -- ---- what a caller sees
-
--- what a call leaves: the number that it answers, and the area that was lent to it
-pub record Left : Type 0 where
-  pub number : ℕ
-  pub area : List ℕ
 
 -- the three calls
 pub record Engine : Type 0 where
   pub check : (image : List ℕ) → ℕ
-  pub cards : (image area : List ℕ) → Left
-  pub chain : (image : List ℕ) (sequence question fact : ℕ) (area : List ℕ) → Left
-
--- what the chain call leaves by its contract
-abbrev pub leftBy : Reply → List ℕ → Left
-leftBy r area = record { number = replyNumber r; area = areaAfter r area }
-
--- the three calls as their contracts say them
-abbrev pub engine : Engine
-engine =
-    record {
-      check = λ image. checkedAnswer (checked image);
-      cards = λ image area. record { number = cardsAnswer (cardsOf image area); area = cardArea image area };
-      chain = λ image c q f area. leftBy (chained image c q f (length area)) area;
-    }
+  pub cards : (image area : List ℕ) → Returned
+  pub chain : (image : List ℕ) (sequence question fact : ℕ) (area : List ℕ) → Returned
 
 -- "N × 2^32 + P for refusal N at position P": a refusal is a number from 2^32 on
 abbrev pub Refuses : ℕ → Type 0
@@ -62,24 +42,23 @@ pub record Demand1 (e : Engine) : Type 0 where
   -- "A caller may hand over every list of words, every area and every number, and the call ends with an acceptance, .. or the first refusal
   -- in document 01 that applies"
   pub check : (image : List ℕ) → e .check image ≡ checkedAnswer (checked image)
+  -- "otherwise the head's payload from the check"
+  pub head : (image : List ℕ) (h : Head) → checked image ≡ Checked.Accepted h → e .check image ≡ payload (firstWord image)
   -- ".. cards, .."
-  pub cards : (image area : List ℕ) → e .cards image area .number ≡ cardsAnswer (cardsOf image area)
+  pub cards : (image area : List ℕ) → CardsReturn image area (e .cards image area)
   -- ".. a chain, "none", .."
-  pub chain : (image : List ℕ) (c q f : ℕ) (area : List ℕ)
-      → e .chain image c q f area .number ≡ replyNumber (chained image c q f (length area))
+  pub chain : (image : List ℕ) (c q f : ℕ) (area : List ℕ) → ChainReturn image c q f area (e .chain image c q f area)
   -- "a refusal changes no word of a lent area"
   pub cards-kept : (image area : List ℕ) → Refuses (e .cards image area .number) → e .cards image area .area ≡ area
   pub chain-kept : (image : List ℕ) (c q f : ℕ) (area : List ℕ) → Refuses (e .chain image c q f area .number)
       → e .chain image c q f area .area ≡ area
   -- ""none" writes nothing", "0 there for "none""
   pub none-kept : (image : List ℕ) (c q f : ℕ) (area : List ℕ) → e .chain image c q f area .number ≡ 0 → e .chain image c q f area .area ≡ area
-  -- the caller can tell a refusal from what is none, and "none" from a chain
+  -- the caller can tell a refusal by the number
   pub check-told : (image : List ℕ) → Refuses (e .check image) ↔ ((r : Refusal) × (checked image ≡ Checked.Refused r))
-  pub cards-told : (image area : List ℕ) → Refuses (e .cards image area .number) ↔ ((r : Refusal) × (cardsOf image area ≡ Cards.Refused r))
+  pub cards-told : (image area : List ℕ) → Refuses (e .cards image area .number) ↔ ((r : Refusal) × CardsRefused image (length area) r)
   pub chain-told : (image : List ℕ) (c q f : ℕ) (area : List ℕ)
-      → Refuses (e .chain image c q f area .number) ↔ ((r : Refusal) × (chained image c q f (length area) ≡ refused r))
-  pub none-told : (image : List ℕ) (c q f : ℕ) (area : List ℕ)
-      → (e .chain image c q f area .number ≡ 0) ↔ (chained image c q f (length area) ≡ answered none)
+      → Refuses (e .chain image c q f area .number) ↔ ((r : Refusal) × ChainRefused image c q f (length area) r)
 
 -- ---- demand 2
 
@@ -113,13 +92,6 @@ Asks needed q = (q ≡ 4) ⊎ (q ≡ 5)
 Asks set q = (q ≡ 1) ⊎ (q ≡ 2)
 Asks cleared q = (q ≡ 0) ⊎ (q ≡ 2)
 
--- the caller sees these links: their number is the answer, their words are in the area, "Words past the chain stay"; each number of a link
--- has room in its bits, so that the words tell the links
-pub record Sees (before : List ℕ) (left : Left) (links : Chain) : Type 0 where
-  pub number : left .number ≡ length links
-  pub area : left .area ≡ chainWords links ++ drop (2 * length links) before
-  pub fits : All Fits links
-
 -- the chain shows that sequence c breaks the rule of column a for fact f, by question q
 pub record Proves (L : Library) (c : ℕ) (a : Always) (f q : ℕ) (links : Chain) : Type 0 where
   -- "a chain of no more links than the library has sequences"
@@ -130,11 +102,12 @@ pub record Proves (L : Library) (c : ℕ) (a : Always) (f q : ℕ) (links : Chai
   pub every : (w : List Item) → StandsFor L (questionOf q) f links w → Run L c w × Breaks L a f w
 
 -- demand 3 of sequence c, where `word` is its card and `chain` answers a question about it: question, fact, area
-pub record Shown (L : Library) (c : ℕ) (word : ℕ → ℕ) (chain : ℕ → ℕ → List ℕ → Left) : Type 0 where
+pub record Shown (L : Library) (c : ℕ) (word : ℕ → ℕ) (chain : ℕ → ℕ → List ℕ → Returned) : Type 0 where
   -- "for every run of a sequence and whichever facts stand at the start: if the run executes from there, each fact in "always needed" stood
-  -- at the start, each in "always set" stands at the end, and none in "always cleared" does. A fact that stands at the end and not at the
-  -- start is in "may set", one that stands at the start and not at the end in "may clear"."
+  -- at the start, each in "always set" stands at the end, and none in "always cleared" does."
   pub kept : (w : List Item) → Run L c w → (s : State L) → Executes L w s → (f : Fact L) → Kept L word w s f
+  -- "A fact that stands at the end and not at the start is in "may set", one that stands at the start and not at the end in "may clear"."
+  pub changed : (w : List Item) → Run L c w → (s : State L) → (f : Fact L) → Changed L word w s f
   -- "A fact is missing from one of these three "always" columns exactly when the sequence has no run, or has one, executing or not, that
   -- breaks the column's rule."
   pub missing : (a : Always) (f : Fact L) → Missing L c word a f
@@ -145,7 +118,7 @@ pub record Shown (L : Library) (c : ℕ) (word : ℕ → ℕ) (chain : ℕ → �
   -- than the library has sequences. The chain stands for at least one run of that sequence, and every run it stands for is one of that
   -- sequence's and breaks the rule."
   pub answer : (a : Always) (f : Fact L) (w : List Item) → Run L c w → (q : ℕ) → Asks a q → HasOutcome L (questionOf q) (f .0) w
-      → (area : List ℕ) → 2 * count L ≤ length area → (links : Chain) × Sees area (chain q (f .0) area) links × Proves L c a (f .0) q links
+      → (area : List ℕ) → 2 * count L ≤ length area → (links : Chain) × Links area (chain q (f .0) area) links × Proves L c a (f .0) q links
 
 pub record Demand3 (e : Engine) : Type 0 where
   -- "For every accepted library, however its sequences nest or call themselves"

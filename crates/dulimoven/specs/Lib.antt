@@ -1,3 +1,5 @@
-pub mod Samples
+pub mod Returned
+pub mod CardCall
+pub mod ChainCall
 pub mod Demands
-pub mod Wrong
+pub mod Engine

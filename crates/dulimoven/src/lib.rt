@@ -1,16 +1,13 @@
-// The C side: the calls that a simulator makes, with plain numbers and lent arrays. include/dulimoven.h declares them.
+// The C side: the calls that a simulator makes, with plain numbers and lent arrays. include/dulimoven.h declares them. Each contract is one
+// equation: what the caller sees, the number and the area after the call, is what the engine of specs/Engine gives back.
 ghost use mathlib.Core.Path.{_≡_};
-ghost use Rattle.image.specs.Answer.{checkedAnswer};
-ghost use Rattle.reader.specs.Checked.{checked};
-ghost use Rattle.card.specs.Answer.{cardsOf, cardArea, cardsAnswer};
-ghost use Rattle.rank.specs.Call.{chained, areaAfter};
-ghost use Rattle.link.specs.Reply.{replyNumber};
-ghost use lib.ListN.{length};
+ghost use Rattle.dulimoven.specs.Returned.{returned};
+ghost use Rattle.dulimoven.specs.Engine.{engine};
 
 // The check: the head's payload for an accepted image, or N × 2^32 + P for refusal N at position P.
 #[no_mangle]
 pub extern "C" fn dulimoven_check(image: &[u32]) -> u64
-    ensures { λ r. ⌜ r ≡ checkedAnswer (checked (now (image .entry))) ⌝ }
+    ensures { λ r. ⌜ r ≡ engine .check (now (image .entry)) ⌝ }
 {
     image::answer::checked_answer(reader::check::check(image))
 }
@@ -19,8 +16,7 @@ pub extern "C" fn dulimoven_check(image: &[u32]) -> u64
 // it was.
 #[no_mangle]
 pub extern "C" fn dulimoven_cards(image: &[u32], area: &mut [u64]) -> u64
-    ensures answer { λ r. ⌜ r ≡ cardsAnswer (cardsOf (now (image .entry)) (now (area .entry))) ⌝ }
-    ensures area { λ _. ⌜ now (area .exit) ≡ cardArea (now (image .entry)) (now (area .entry)) ⌝ }
+    ensures { λ r. ⌜ returned r (now (area .exit)) ≡ engine .cards (now (image .entry)) (now (area .entry)) ⌝ }
 {
     card::answer::cards_answer(card::call::cards(image, area))
 }
@@ -35,8 +31,7 @@ pub extern "C" fn dulimoven_chain(
     fact: u64,
     area: &mut [u32],
 ) -> u64
-    ensures answer { λ r. ⌜ r ≡ replyNumber (chained (now (image .entry)) sequence question fact (length (now (area .entry)))) ⌝ }
-    ensures area { λ _. ⌜ now (area .exit) ≡ areaAfter (chained (now (image .entry)) sequence question fact (length (now (area .entry)))) (now (area .entry)) ⌝ }
+    ensures { λ r. ⌜ returned r (now (area .exit)) ≡ engine .chain (now (image .entry)) sequence question fact (now (area .entry)) ⌝ }
 {
     chain_words::answer::chain_answer(chain::call::chain(image, sequence, question, fact, area))
 }

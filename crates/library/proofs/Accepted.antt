@@ -14,7 +14,8 @@ use lib.Dec.{leb, ltb, eqb}
 use borrow.Author.Tests.{leb-true, ltb-true, eqb-true, eqb-false, ltb-false}
 use mir.Val.{boolByte}
 use Rattle.image.specs.Word.{kind, payload, isKind, isFact, isEntry, headOf, headRight, sumRight}
-use Rattle.rules.specs.Rules.{opened, earlier, mayStand, whereKind, payloadRight, inOrder, faultAt, after}
+use Rattle.rules.specs.Rules.{opened, earlier, mayStand, whereKind, payloadRight, inOrder, faultAt}
+use Rattle.rules.specs.Quick.{after}
 use Rattle.reader.specs.Checked.{atWord, scan, allButLast, between, firstWord, lastWord, checked}
 use Rattle.reader.specs.Walk.{walk, opening}
 use Rattle.library.specs.Library.{step, call, factsFrom, stepsFrom, entriesFrom, alternativesFrom, sequencesFrom, beforeSequences, fromSequences, stepsPart, sequencesPart, libraryOf}
@@ -429,6 +430,7 @@ module _ (image : List ℕ) (h : Head) (a : checked image ≡ Accepted h) where
 
   -- the members of the rule for the head
   head-rule : (isKind 1 (firstWord image) ≡ true) × (1 ≤ h .facts) × (h .facts ≤ 64) × (h .steps ≤ 1024) × (h .sequences ≤ 256)
+      × (payload (firstWord image) / 2 ^ 27 ≡ 0)
   head-rule =
       let w = firstWord image in
       let g = headOf w in
@@ -440,6 +442,7 @@ module _ (image : List ℕ) (h : Head) (a : checked image ≡ Accepted h) where
         rw head-is (leb-true (g .facts) 64 (and-right (leb 1 (g .facts)) _ (t .2))),
         rw head-is (leb-true (g .steps) 1024 (t .3)),
         rw head-is (leb-true (g .sequences) 256 (t .4)),
+        eqb-true (payload w / 2 ^ 27) 0 (t .5),
       )
 
   no-fault : (p : ℕ) → 1 ≤ p → p + 1 < length image → faultAt h (earlier (take p image)) p (getD image p 0) ≡ Nothing
@@ -462,6 +465,7 @@ module _ (image : List ℕ) (h : Head) (a : checked image ≡ Accepted h) where
         facts-high = r .2;
         steps-high = r .3;
         sequences-high = r .4;
+        payload = rw head-is (omega (arith, r .5));
         between = no-fault;
       }
 

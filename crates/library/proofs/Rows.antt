@@ -14,7 +14,8 @@ use Rattle.column.specs.Column.{withFact}
 use Rattle.column.proofs.Bits.{column-with, column-none}
 use Rattle.image.specs.Word.{kind, payload, isKind}
 use Rattle.rules.specs.Rules.{opened}
-use Rattle.library.specs.Library.{has, Step, factsFrom, stepsFrom, NoneOpens}
+use Rattle.library.specs.Library.{has, Step, factsFrom, stepsFrom}
+use Rattle.library.specs.Seam.{NoneOpens}
 use Rattle.library.specs.Accepted.{All, StepWord}
 use Rattle.library.specs.Tables.{maskOf, masks, placesFrom, masksFrom, withWord, withRow, NoPlaces, StepsAsked, SequencesAsked}
 use Rattle.image.specs.declared.answer.Head.{Head}

@@ -5,6 +5,7 @@ use mathlib.Core.Path.{_≡_}
 use mathlib.Core.List.{List, [], _∷_}
 use lib.ListN.{length, getD, take}
 use Rattle.image.specs.Word.{kind, payload, headOf}
+use Rattle.image.specs.Answer.{headPayload}
 use Rattle.rules.specs.Rules.{opened, earlier, faultAt}
 use Rattle.reader.specs.Checked.{firstWord}
 use Rattle.library.specs.Library.{Step, Entry, step, call, Library, stepsPart, sequencesPart}
@@ -25,6 +26,7 @@ pub record Faultless (image : List ℕ) (h : Head) : Type 0 where
   pub facts-high : h .facts ≤ 64
   pub steps-high : h .steps ≤ 1024
   pub sequences-high : h .sequences ≤ 256
+  pub payload : headPayload h ≡ payload (firstWord image)
   pub between : (p : ℕ) → 1 ≤ p → p + 1 < length image → faultAt h (earlier (take p image)) p (getD image p 0) ≡ Nothing
 
 -- a word of the steps' part: an opener or a fact word, whose fact is below F

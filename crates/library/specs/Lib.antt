@@ -1,3 +1,4 @@
 pub mod Library
+pub mod Seam
 pub mod Accepted
 pub mod Tables

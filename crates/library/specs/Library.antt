@@ -4,13 +4,11 @@
 --
 -- Each list is read off the words from a word on: a step's facts up to the next word that is no fact word, an alternative's
 -- entries up to the next word that is no entry, a sequence's alternatives up to the next sequence.
-use Prim.Native.Nat.{ℕ, _+_, _≤_}
-use mathlib.Core.Path.{_≡_}
-use lib.ListN.{length, getD, drop}
+use Prim.Native.Nat.{ℕ}
 use mathlib.Core.Bool.{Bool, false, cond, _||_}
 use mathlib.Core.List.{List, [], _∷_}
 use lib.Dec.{eqb}
-use Rattle.image.specs.Word.{kind, payload, isKind, isFact, isEntry, headOf}
+use Rattle.image.specs.Word.{payload, isKind, isFact, isEntry, headOf}
 use Rattle.reader.specs.Checked.{firstWord, between}
 
 -- "Kinds 2, 3 and 4 follow a step's opener: the step needs, sets or clears the fact with that number"
@@ -96,17 +94,3 @@ unfoldable pub libraryOf : List ℕ → Library
 unfolding stepsPart sequencesPart stepsFrom sequencesFrom
 libraryOf image =
     record { facts = headOf (firstWord image) .facts; steps = stepsFrom (stepsPart image); sequences = sequencesFrom (sequencesPart image) }
-
--- ---- in the form that a loop follows
-
--- the first i of the words were passed, and none of them opens a sequence
-pub record Passed (ws : List ℕ) (i : ℕ) : Type 0 where
-  pub within : i ≤ length ws
-  pub before : length (beforeSequences ws) ≡ i + length (beforeSequences (drop i ws))
-
--- none of the four words from index i on opens a sequence
-pub record NoneOpens (ws : List ℕ) (i : ℕ) : Type 0 where
-  pub first : isKind 6 (getD ws i 0) ≡ false
-  pub second : isKind 6 (getD ws (i + 1) 0) ≡ false
-  pub third : isKind 6 (getD ws (i + 2) 0) ≡ false
-  pub fourth : isKind 6 (getD ws (i + 3) 0) ≡ false

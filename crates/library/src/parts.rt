@@ -5,7 +5,8 @@ ghost use mathlib.Core.Bool.{true};
 ghost use Prim.Native.Nat.{_+_, _≤_};
 ghost use lib.ListN.{length};
 ghost use Rattle.reader.specs.Checked.{between};
-ghost use Rattle.library.specs.Library.{beforeSequences, stepsPart, sequencesPart, Passed, NoneOpens};
+ghost use Rattle.library.specs.Library.{beforeSequences, stepsPart, sequencesPart};
+ghost use Rattle.library.specs.Seam.{Passed, NoneOpens};
 
 // Whether none of the four words from index `at` on opens a sequence. One test without a way out, so that it compiles to vector code.
 pub fn none_opens(words: &[u32], at: usize) -> bool

@@ -9,7 +9,8 @@ use lib.ListN.{length, take, drop, length-drop}
 use lib.Seq.{take-all}
 use borrow.Author.Tests.{le-leb, lt-leb, eqb-true, ne-eqb}
 use Rattle.image.specs.Word.{kind, isKind, sumRight, headOf, headRight}
-use Rattle.rules.specs.Rules.{Counts, opened, lastOf, earlier}
+use Rattle.rules.specs.Rules.{opened, lastOf, earlier}
+use Rattle.rules.specs.Quick.{Counts}
 use Rattle.reader.specs.Checked.{allButLast, between, firstWord, lastWord, checked}
 use Rattle.reader.specs.Walk.{walk, opening, resume, Left, StepsRead}
 use Rattle.image.specs.declared.answer.Head.{Head}

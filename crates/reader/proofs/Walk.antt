@@ -11,7 +11,8 @@ use mathlib.Core.Bool.{true}
 use mir.Val.{boolByte}
 use lib.Seq.{drop-cons, drop-length}
 use Rattle.image.specs.Word.{isKind}
-use Rattle.rules.specs.Rules.{opened, lastOf, earlier, bodyRight, insideRight, factAbove, faultAt, after, withLast, inAlternative}
+use Rattle.rules.specs.Rules.{opened, lastOf, earlier, faultAt}
+use Rattle.rules.specs.Quick.{bodyRight, insideRight, factAbove, after, withLast, inAlternative}
 use Rattle.reader.specs.Checked.{atWord, scan}
 use Rattle.reader.specs.Walk.{ended, walk, BodyRead, FourRight}
 use Rattle.image.specs.declared.answer.Head.{Head}

@@ -6,7 +6,8 @@ use lib.ListN.{length, getD, drop}
 use mathlib.Core.Bool.{true, cond, _||_}
 use mathlib.Core.List.{List, [], _∷_}
 use lib.Dec.{ltb}
-use Rattle.rules.specs.Rules.{insideRight, faultAt, after, withLast}
+use Rattle.rules.specs.Rules.{faultAt}
+use Rattle.rules.specs.Quick.{insideRight, after, withLast}
 use Rattle.reader.specs.Checked.{atWord}
 use Rattle.image.specs.declared.answer.Head.{Head}
 use Rattle.image.specs.declared.answer.Refusal.the-variants.{Missing}

@@ -19,7 +19,7 @@ ghost use mathlib.Core.Bool.{true};
 ghost use Prim.Native.Nat.{_+_, _≤_, _<_};
 ghost use lib.ListN.{length};
 ghost use Rattle.reader.specs.Checked.{checked};
-ghost use Rattle.rules.specs.Rules.{Counts, withLast, inAlternative};
+ghost use Rattle.rules.specs.Quick.{Counts, withLast, inAlternative};
 ghost use Rattle.reader.specs.Walk.{walk, ended, opening, StepsRead, BodyRead, FactsRead, FoursRead, FourRight};
 ghost use Rattle.image.specs.Word.{headOf};
 

@@ -9,7 +9,8 @@ use lib.Dec.{eqb, leb, ltb}
 use borrow.Author.Tests.{eqb-true, ne-eqb, eq-eqb, ltb-true, lt-ltb}
 use mir.Val.{boolByte}
 use Rattle.image.specs.Word.{kind, payload, isKind, isFact, isEntry}
-use Rattle.rules.specs.Rules.{entryRight, alternativeRight, bodyRight, insideRight, Counts, stepRight, sequenceRight, factRight, factAbove, faultAt, after, withLast, inAlternative}
+use Rattle.rules.specs.Rules.{faultAt}
+use Rattle.rules.specs.Quick.{entryRight, alternativeRight, bodyRight, insideRight, Counts, stepRight, sequenceRight, factRight, factAbove, after, withLast, inAlternative}
 use Rattle.image.specs.declared.answer.Head.{Head}
 use Rattle.rules.specs.declared.rules.Earlier.{Earlier}
 use Rattle.rules.specs.declared.rules.Fault.the-variants.{Nothing}

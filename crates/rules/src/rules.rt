@@ -4,7 +4,8 @@ use image::answer::Refusal;
 ghost use mathlib.Core.Path.{_≡_};
 ghost use mathlib.Core.Bool.{true};
 ghost use Prim.Native.Nat.{_+_, _<_};
-ghost use Rattle.rules.specs.Rules.{mayStand, payloadRight, inOrder, entryRight, alternativeRight, bodyRight, insideRight, Counts, stepRight, sequenceRight, factAbove, faultAt, after};
+ghost use Rattle.rules.specs.Rules.{mayStand, payloadRight, inOrder, faultAt};
+ghost use Rattle.rules.specs.Quick.{entryRight, alternativeRight, bodyRight, insideRight, Counts, stepRight, sequenceRight, factAbove, after};
 
 // What the rules ask of the words before a word: how many steps and sequences they open, and the word right before it.
 pub struct Earlier {

@@ -1,4 +1,4 @@
--- What the outcomes of a run say of its start and its end, where it executes: the five sentences of demand 3 over runs.
+-- What the outcomes of a run say of its start and its end: the five sentences of demand 3 over runs. Only the first asks that it executes.
 use mathlib.Core.Path.{_≡_, refl, sym, _∙_, ap, subst}
 use mathlib.Core.Logic.{_⊎_, inl, inr, ⊎-elim}
 use mathlib.Core.Bool.{Bool, true, false, not, _&&_, _||_, cond, false≢true, true≢false}
@@ -9,7 +9,7 @@ use Rattle.runs.specs.Tests.{and-parts}
 use Rattle.runs.specs.Run.{Item}
 use Rattle.runs.specs.Execution.{Fact, State, apply, stepOf, Executes, end}
 use Rattle.runs.specs.Touch.{Mark, present, absent, untouched, orElse, last, first, touch, decided, outcomeOf, HasOutcome}
-use Rattle.runs.specs.Touch.{lastSet, lastCleared, firstNeeded}
+use Rattle.runs.specs.Touch.{lastSet, lastCleared}
 use Rattle.runs.specs.Algebra.{sameMark}
 use Rattle.runs.proofs.Tests.{or-cases}
 
@@ -55,7 +55,8 @@ stood-before : (b clears sets : Bool) → sets ≡ false → (b && not clears ||
 stood-before b clears sets q e =
     ⊎-elim (λ p. and-parts b (not clears) p .0) (λ p. absurd (false≢true (sym q ∙ p))) (or-cases (b && not clears) sets e)
 
-needed-stood : (L : Library) (f : Fact L) (w : List Item) (s : State L) → Executes L w s → outcomeOf L first (f .0) w ≡ present → s f ≡ true
+-- "each fact in "always needed" stood at the start"
+pub needed-stood : (L : Library) (f : Fact L) (w : List Item) (s : State L) → Executes L w s → outcomeOf L first (f .0) w ≡ present → s f ≡ true
 unfolding decided
 needed-stood L f [] s ex e = absurd (false≢true (ap (sameMark present) e))
 needed-stood L f (x ∷ w) s ex e =
@@ -76,25 +77,19 @@ after-lost present b e q = absurd (true≢false e)
 after-lost absent b e q = refl
 after-lost untouched b e q = absurd (true≢false (sym q ∙ e))
 
--- the five sentences, of a run w from a state s and a fact f
-pub record Kept (L : Library) (f : Fact L) (w : List Item) (s : State L) : Type 0 where
-  -- "each fact in "always needed" stood at the start"
-  pub needed : HasOutcome L firstNeeded (f .0) w → s f ≡ true
+module _ (L : Library) (f : Fact L) (w : List Item) (s : State L) where
   -- "each in "always set" stands at the end"
-  pub set : HasOutcome L lastSet (f .0) w → end L w s f ≡ true
-  -- "and none in "always cleared" does"
-  pub cleared : HasOutcome L lastCleared (f .0) w → end L w s f ≡ false
-  -- "A fact that stands at the end and not at the start is in "may set""
-  pub gained : end L w s f ≡ true → s f ≡ false → HasOutcome L lastSet (f .0) w
-  -- "one that stands at the start and not at the end in "may clear""
-  pub lost : s f ≡ true → end L w s f ≡ false → HasOutcome L lastCleared (f .0) w
+  pub set-stands : HasOutcome L lastSet (f .0) w → end L w s f ≡ true
+  set-stands e = end-after L f w s ∙ ap (λ m. after m (s f)) e
 
-pub kept : (L : Library) (f : Fact L) (w : List Item) (s : State L) → Executes L w s → Kept L f w s
-kept L f w s ex =
-    record {
-      needed = needed-stood L f w s ex;
-      set = λ e. end-after L f w s ∙ ap (λ m. after m (s f)) e;
-      cleared = λ e. end-after L f w s ∙ ap (λ m. after m (s f)) e;
-      gained = λ e q. after-gained (outcomeOf L last (f .0) w) (s f) (sym (end-after L f w s) ∙ e) q;
-      lost = λ q e. after-lost (outcomeOf L last (f .0) w) (s f) (sym (end-after L f w s) ∙ e) q;
-    }
+  -- "and none in "always cleared" does"
+  pub cleared-falls : HasOutcome L lastCleared (f .0) w → end L w s f ≡ false
+  cleared-falls e = end-after L f w s ∙ ap (λ m. after m (s f)) e
+
+  -- "A fact that stands at the end and not at the start is in "may set""
+  pub gained-set : end L w s f ≡ true → s f ≡ false → HasOutcome L lastSet (f .0) w
+  gained-set e q = after-gained (outcomeOf L last (f .0) w) (s f) (sym (end-after L f w s) ∙ e) q
+
+  -- "one that stands at the start and not at the end in "may clear""
+  pub lost-cleared : s f ≡ true → end L w s f ≡ false → HasOutcome L lastCleared (f .0) w
+  lost-cleared q e = after-lost (outcomeOf L last (f .0) w) (s f) (sym (end-after L f w s) ∙ e) q

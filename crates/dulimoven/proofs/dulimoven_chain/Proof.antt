@@ -1,8 +1,9 @@
 -- `dulimoven_chain` meets its contract, by those of the chain call and of its answer's number.
 -- Assumes nothing.
 use borrow.Author.Needs.{needs}
-use mathlib.Core.Path.{ap, _∙_}
+use mathlib.Core.Path.{ap, ap₂, _∙_}
 use Rattle.chain_words.specs.Answer.{chainAnswer}
+use Rattle.dulimoven.specs.Returned.{returned}
 use Rattle.dulimoven.proofs.dulimoven_chain.Statement.{statement}
 use Rattle.dulimoven.proofs.dulimoven_chain.Tie as tie
 
@@ -16,7 +17,9 @@ same-length : tie.Need-same-length
 same-length c = search needs
 
 returns : tie.Need-returns
-returns c = (c .chain-answer .ensures ∙ ap chainAnswer (c .before .before .before .chain .ensures .answer), c .before .before .before .chain .ensures .area)
+returns c =
+    let called = c .before .before .before .chain .ensures in
+    ap₂ returned (c .chain-answer .ensures ∙ ap chainAnswer (called .answer)) (called .area)
 
 pub dulimoven-chain-spec : {M : Type 1} → statement M
 dulimoven-chain-spec =

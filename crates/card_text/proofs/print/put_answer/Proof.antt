@@ -6,7 +6,7 @@ use mathlib.Core.Path.{sym, ap, ap₂, _∙_, subst}
 use Rattle.card.specs.declared.answer.Cards.{Cards}
 use Rattle.card_text.specs.Text.{InFront}
 use Rattle.card_text.specs.Line.{refusalLine}
-use Rattle.card_text.specs.Print.{answerText}
+use Rattle.card_text.specs.Writers.{answerText}
 use Rattle.card_text.proofs.print.put_answer.Statement.{statement}
 use Rattle.card_text.proofs.print.put_answer.Tie as tie
 use Rattle.card_text.proofs.print.put_answer.Reads as reads

@@ -5,7 +5,7 @@ use native.Mathlib.Omega.{arith}
 use Prim.Native.Nat.{_-_, _≤_}
 use mathlib.Core.Path.{sym, _∙_}
 use lib.ListN.{length}
-use Rattle.library.specs.Library.{Passed}
+use Rattle.library.specs.Seam.{Passed}
 use Rattle.library.proofs.Seam.{passed-found, passed-turn, passed-end}
 use Rattle.library.proofs.parts.first_sequence.Statement.{statement}
 use Rattle.library.proofs.parts.first_sequence.Tie as tie

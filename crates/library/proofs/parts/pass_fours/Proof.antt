@@ -5,7 +5,7 @@ use borrow.Author.Tests.{not-false}
 use native.Mathlib.Omega.{arith}
 use Prim.Native.Nat.{_-_, _≤_}
 use lib.ListN.{length}
-use Rattle.library.specs.Library.{Passed}
+use Rattle.library.specs.Seam.{Passed}
 use Rattle.library.proofs.Seam.{passed-start, passed-four}
 use Rattle.library.proofs.parts.pass_fours.Statement.{statement}
 use Rattle.library.proofs.parts.pass_fours.Tie as tie

@@ -5,7 +5,7 @@ use native.Mathlib.Omega.{arith}
 use mathlib.Core.Path.{sym, ap, _∙_, subst}
 use Prim.Native.Nat.{_+_, _≤_}
 use lib.ListN.{length, length-drop}
-use Rattle.rules.specs.Rules.{Counts}
+use Rattle.rules.specs.Quick.{Counts}
 use Rattle.reader.specs.Walk.{walk, opening}
 use Rattle.image.specs.declared.answer.Head.{Head}
 use Rattle.reader.proofs.Read.{whole-rest, head-counts, stopped-refused, stopped-end, stopped-within}

@@ -6,7 +6,7 @@ use native.Mathlib.Omega.{arith}
 use Prim.Native.Nat.{_-_, _^_, _<_}
 use mathlib.Core.Path.{sym, _∙_}
 use lib.ListN.{length}
-use Rattle.rules.specs.Rules.{withLast}
+use Rattle.rules.specs.Quick.{withLast}
 use Rattle.rules.proofs.Right.{above-opener}
 use Rattle.reader.proofs.Walk.{Facts, skipping-start, skipping-stop, facts-turn}
 use Rattle.reader.proofs.check.read_facts.Statement.{statement}

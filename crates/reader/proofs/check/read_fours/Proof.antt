@@ -5,7 +5,7 @@ use borrow.Author.Tests.{not-false}
 use native.Mathlib.Omega.{arith}
 use Prim.Native.Nat.{_-_, _≤_}
 use lib.ListN.{length}
-use Rattle.rules.specs.Rules.{withLast}
+use Rattle.rules.specs.Quick.{withLast}
 use Rattle.reader.proofs.Walk.{Fours, skipping-start, skipping-stop, fours-turn}
 use Rattle.reader.proofs.check.read_fours.Statement.{statement}
 use Rattle.reader.proofs.check.read_fours.Tie as tie

@@ -5,7 +5,7 @@ use native.Mathlib.Omega.{arith}
 use Prim.Native.Nat.{_+_, _-_}
 use mathlib.Core.Path.{sym, _∙_}
 use lib.ListN.{length, getD}
-use Rattle.rules.specs.Rules.{after}
+use Rattle.rules.specs.Quick.{after}
 use Rattle.reader.specs.Walk.{opening}
 use Rattle.reader.proofs.Walk.{Reading, reading-turn, reading-refused, reading-body}
 use Rattle.reader.proofs.check.read_steps.Statement.{statement}

@@ -1,12 +1,15 @@
 -- No engine that is wrong in one of the ways of specs/Wrong meets the demand that names it.
 -- Assumes nothing.
-use Prim.Native.Nat.{ℕ, zero, suc, _+_, _*_, _/_, _^_, _<_}
+use Prim.Native.Nat.{ℕ, zero, suc, _+_, _*_, _^_, _<_}
 use native.Mathlib.Omega.{arith}
 use mathlib.Core.Path.{_≡_, refl, sym, ap, subst, _∙_}
 use mathlib.Core.Logic.{inl, inr}
-use mathlib.Core.List.{List, [], _∷_}
-use lib.ListN.{length, getD, replicate}
+use mathlib.Core.Bool.{_||_}
+use mathlib.Core.List.{List, [], _∷_, _++_}
+use lib.ListN.{length, getD, drop, replicate}
+use lib.ListN as list
 use Rattle.column.specs.Column.{bit}
+use Rattle.column.specs.Sets.{inColumn, countBelow}
 use Rattle.column.proofs.Bits.{bit-zero, bit-none}
 use Rattle.image.specs.Answer.{checkedAnswer}
 use Rattle.reader.specs.Checked.{scan, checked}
@@ -17,26 +20,36 @@ use Rattle.image.specs.declared.answer.Checked.{Checked}
 use Rattle.library.proofs.Accepted.{counted}
 use Rattle.runs.specs.Possible.{possible}
 use Rattle.runs.proofs.Outcome.{present≢untouched}
-use Rattle.card.specs.Answer.{cardArea, cardsOf, cardsAnswer}
 use Rattle.card.specs.Area.{partWord}
 use Rattle.card.specs.Card.{card, cards}
-use Rattle.card.specs.Meaning.{Always, needed, set, cleared, place, cardWord}
-use Rattle.card.proofs.Meaning.{flags-count}
-use Rattle.chain_words.specs.Link.{Link, touchLink, untouchedLink, Chain, Fits}
+use Rattle.card.specs.Meaning.{Always, needed, set, cleared, place}
+use Rattle.runs.specs.Touch.{questionOf}
+use Rattle.chain_words.specs.Link.{Link, touchLink, untouchedLink, Chain, chainWords, Fits}
+use Rattle.rank.proofs.Fits.{accepted-fits}
 use Rattle.rank.specs.Answer.{shown}
 use Rattle.rank.specs.Call.{answered, chained}
-use Rattle.link.specs.Reply.{replyNumber}
-use Rattle.dulimoven.specs.Samples.{L, selfCall, clearThenNeed, pulse}
-use Rattle.dulimoven.specs.Demands.{Engine, count, Ready, Demand1, Demand2, Sees, Proves, Demand3}
-use Rattle.dulimoven.specs.Wrong.{BlankColumn, OneCard, Untouched, NoneAtOnce, AlwaysTwelve, SameLink, InventedLinks, InventedCount, RefusesAll, RefusesAllCards, RefusesAllChains}
-use Rattle.dulimoven.specs.Wrong.{blankCards, lazyCards, fixedChain, fixedLink, noImage}
-use Rattle.dulimoven.proofs.Demands.{written, runs}
-use Rattle.dulimoven.proofs.Fixed.{cards-fixed, area-fixed, links-told, chain-shown}
+use Rattle.agreement.specs.Samples.{L, selfCall, clearThenNeed, pulse}
+use Rattle.dulimoven.specs.Returned.{Returned, returned}
+use Rattle.dulimoven.specs.ChainCall.{Asked, Answers, Links, ChainReturn}
+use Rattle.dulimoven.specs.ChainCall as chain
+use Rattle.dulimoven.specs.Demands.{Engine, count, Ready, Demand1, Demand2, Proves, Demand3}
+use Rattle.dulimoven.specs.Engine.{engine}
+use Rattle.agreement.specs.Wrong.{Gets, Unwritten, LongerChain, BlankColumn, OneCard, Untouched, NoneAtOnce, AlwaysTwelve, SameLink, InventedLinks, InventedCount, RefusesAll, RefusesAllCards, RefusesAllChains}
+use Rattle.agreement.specs.Wrong.{blankCards, flaglessCards, lazyCards, fixedChain, unwritten, fixedLinks, noImage}
+use Rattle.dulimoven.proofs.ChainCall.{chain-only}
+use Rattle.dulimoven.proofs.Demands.{only-engine, runs}
+use Rattle.agreement.proofs.Fixed.{cards-fixed, area-fixed, links-told, gets-chain, chain-shown}
 
 -- ---- the samples, by computation
 
 abbrev zeros : ℕ → List ℕ
 zeros n = replicate n 0
+
+-- one step, which sets the fact; sequence 0 has the alternatives <step 0> and <sequence 1>, sequence 1 the alternative <step 0>
+abbrev detour : List ℕ
+detour =
+    0x10080081 ∷ 0x50000000 ∷ 0x30000000 ∷ 0x60000000 ∷ 0x70000000 ∷ 0x80000000 ∷ 0x70000000 ∷ 0x90000001 ∷ 0x60000001 ∷ 0x70000000
+    ∷ 0x80000000 ∷ 0xf0080086 ∷ []
 
 accepted-L : checked L ≡ Checked.Accepted (record { facts = 3; steps = 3; sequences = 3 })
 unfolding checked scan total opened lastOf
@@ -54,20 +67,16 @@ accepted-pulse : checked pulse ≡ Checked.Accepted (record { facts = 1; steps =
 unfolding checked scan total opened lastOf
 accepted-pulse = refl
 
-cards-L : cardArea L (zeros 21)
-    ≡ 0x103 ∷ 0 ∷ 0 ∷ 1 ∷ 0 ∷ 0 ∷ 0 ∷ 0x201 ∷ 0 ∷ 1 ∷ 3 ∷ 0 ∷ 2 ∷ 0 ∷ 0 ∷ 0 ∷ 0 ∷ 0 ∷ 0 ∷ 0 ∷ 0 ∷ []
+cards-L : engine .cards L (zeros 21)
+    ≡ returned 3 (0x103 ∷ 0 ∷ 0 ∷ 1 ∷ 0 ∷ 0 ∷ 0 ∷ 0x201 ∷ 0 ∷ 1 ∷ 3 ∷ 0 ∷ 2 ∷ 0 ∷ 0 ∷ 0 ∷ 0 ∷ 0 ∷ 0 ∷ 0 ∷ 0 ∷ [])
 unfolding checked scan total opened lastOf libraryOf has possible cards card
 cards-L = refl
 
-filled-L : cardsAnswer (cardsOf L (zeros 21)) ≡ 3
-unfolding checked scan total opened lastOf
-filled-L = refl
-
-cards-clearThenNeed : cardArea clearThenNeed (zeros 7) ≡ 0x101 ∷ 1 ∷ 1 ∷ 0 ∷ 1 ∷ 0 ∷ 1 ∷ []
+cards-clearThenNeed : engine .cards clearThenNeed (zeros 7) ≡ returned 1 (0x101 ∷ 1 ∷ 1 ∷ 0 ∷ 1 ∷ 0 ∷ 1 ∷ [])
 unfolding checked scan total opened lastOf libraryOf has possible cards card
 cards-clearThenNeed = refl
 
-cards-pulse : cardArea pulse (zeros 7) ≡ 0x101 ∷ 0 ∷ 0 ∷ 1 ∷ 0 ∷ 1 ∷ 0 ∷ []
+cards-pulse : engine .cards pulse (zeros 7) ≡ returned 1 (0x101 ∷ 0 ∷ 0 ∷ 1 ∷ 0 ∷ 1 ∷ 0 ∷ [])
 unfolding checked scan total opened lastOf libraryOf has possible cards card
 cards-pulse = refl
 
@@ -78,6 +87,15 @@ chain-selfCall = refl
 chain-L : chained L 1 0 0 (length (zeros 6)) ≡ answered (shown (touchLink 1 0 0 ∷ touchLink 0 0 0 ∷ []))
 unfolding chained total opened lastOf has possible
 chain-L = refl
+
+-- sequence 1 of L, question 3, fact 0: entry 1 of its alternative, step 1, needs the fact
+chain-needed : chained L 1 3 0 (length (zeros 2)) ≡ answered (shown (touchLink 1 0 1 ∷ []))
+unfolding chained total opened lastOf has possible
+chain-needed = refl
+
+chain-detour : chained detour 0 0 0 (length (zeros 4)) ≡ answered (shown (touchLink 0 0 0 ∷ []))
+unfolding chained total opened lastOf has possible
+chain-detour = refl
 
 ready-L : Ready L (zeros 21)
 ready-L =
@@ -94,6 +112,19 @@ ready-pulse =
     let size : length (zeros 7) ≡ 7 = refl in
     record { head = _; accepted = accepted-pulse; room = omega (arith, counted pulse _ accepted-pulse .sequences) }
 
+-- the questions of the samples that get a chain
+gets-selfCall : Gets selfCall 0 2 0 (zeros 2) (untouchedLink 0 1 ∷ [])
+unfolding chainWords
+gets-selfCall = gets-chain selfCall 0 2 0 (zeros 2) (untouchedLink 0 1 ∷ []) chain-selfCall (omega arith)
+
+gets-L : Gets L 1 0 0 (zeros 6) (touchLink 1 0 0 ∷ touchLink 0 0 0 ∷ [])
+unfolding chainWords
+gets-L = gets-chain L 1 0 0 (zeros 6) (touchLink 1 0 0 ∷ touchLink 0 0 0 ∷ []) chain-L (omega arith)
+
+gets-detour : Gets detour 0 0 0 (zeros 4) (touchLink 0 0 0 ∷ [])
+unfolding chainWords
+gets-detour = gets-chain detour 0 0 0 (zeros 4) (touchLink 0 0 0 ∷ []) chain-detour (omega arith)
+
 -- ---- demand 1
 
 -- "refusing all images"
@@ -105,22 +136,65 @@ refuses-all e wrong d =
 
 pub refuses-all-cards : (e : Engine) → RefusesAllCards e → ¬ Demand1 e
 refuses-all-cards e wrong d =
-    let right : e .cards L (zeros 21) .number ≡ 3 = d .cards L (zeros 21) ∙ filled-L in
+    let right : e .cards L (zeros 21) .number ≡ 3 = ap (λ (r : Returned). r .number) (only-engine e d .cards L (zeros 21) ∙ cards-L) in
     let high = wrong L (zeros 21) in
     omega arith
 
+-- by demand 1 a question that gets a chain gets its links
+module _ (e : Engine) (d : Demand1 e) (image : List ℕ) (c q f : ℕ) (area : List ℕ) (ls : Chain) (gets : Gets image c q f area ls) where
+  links-fixed : Links area (e .chain image c q f area) ls
+  links-fixed =
+      let asked = gets .asked in
+      let shows = gets .answers in
+      subst (λ (r : Returned). Links area r ls)
+      (chain-only image c q f area (returned (length ls) (chainWords ls ++ drop (length (chainWords ls)) area)) (case asked shows)
+      ∙ sym (only-engine e d .chain image c q f area))
+      (links asked shows)
+    where
+      links : Asked image c q f → Answers image c q f ls → Links area (returned (length ls) (chainWords ls ++ drop (length (chainWords ls)) area)) ls
+      links asked shows =
+          record {
+            number = refl;
+            area = refl;
+            fits = accepted-fits image (asked .head) (questionOf q) f ls (shows .run) (asked .accepted) (shows .stands);
+          }
+
+      case : Asked image c q f → Answers image c q f ls
+          → ChainReturn image c q f area (returned (length ls) (chainWords ls ++ drop (length (chainWords ls)) area))
+      case asked shows = chain.shown asked ls shows (gets .room) (links asked shows)
+
+-- one link, and one number: what a question of the samples gets
+one-link : (e : Engine) → Demand1 e → e .chain selfCall 0 2 0 (zeros 2) .number ≡ 1
+one-link e d = links-fixed e d selfCall 0 2 0 (zeros 2) (untouchedLink 0 1 ∷ []) gets-selfCall .number
+
 pub refuses-all-chains : (e : Engine) → RefusesAllChains e → ¬ Demand1 e
 refuses-all-chains e wrong d =
-    let right : e .chain selfCall 0 2 0 (zeros 2) .number ≡ 1 = d .chain selfCall 0 2 0 (zeros 2) ∙ ap replyNumber chain-selfCall in
+    let right = one-link e d in
     let high = wrong selfCall 0 2 0 (zeros 2) in
     omega arith
 
 -- "12 whatever the area"
 pub always-twelve : (e : Engine) → AlwaysTwelve e → ¬ Demand1 e
 always-twelve e wrong d =
-    let right : e .chain selfCall 0 2 0 (zeros 2) .number ≡ 1 = d .chain selfCall 0 2 0 (zeros 2) ∙ ap replyNumber chain-selfCall in
-    let twelve = wrong selfCall 0 2 0 (zeros 2) (untouchedLink 0 1 ∷ []) chain-selfCall in
+    let right = one-link e d in
+    let twelve = wrong selfCall 0 2 0 (zeros 2) (untouchedLink 0 1 ∷ []) gets-selfCall in
     omega arith
+
+-- no words for question 3
+pub unwritten-chain : (e : Engine) → Unwritten 3 e → ¬ Demand1 e
+unfolding chainWords
+unwritten-chain e wrong d =
+    let gets = gets-chain L 1 3 0 (zeros 2) (touchLink 1 0 1 ∷ []) chain-needed (omega arith) in
+    let words = links-fixed e d L 1 3 0 (zeros 2) (touchLink 1 0 1 ∷ []) gets .area in
+    let word : _≡_ {A = ℕ} 0 0xa0000001 = ap (λ (a : List ℕ). getD a 0 0) (sym (wrong L 1 0 (zeros 2)) ∙ words) in
+    omega arith
+
+-- a link more than the fewest
+pub longer-chain : (e : Engine) → LongerChain e → ¬ Demand1 e
+longer-chain e wrong d =
+    let fixed =
+    links-fixed e d (wrong .image) (wrong .sequence) (wrong .question) (wrong .fact) (wrong .area) (wrong .right) (wrong .gets) .number in
+    omega (arith, wrong .returns .number, wrong .longer)
 
 -- ---- demand 2
 
@@ -131,8 +205,8 @@ one-card e wrong d =
     let first = cards-fixed e d L (zeros 21) ready-L 0 0 (omega arith) (omega arith) in
     let third = cards-fixed e d L (zeros 21) ready-L 2 0 (omega arith) (omega arith) in
     let same = wrong L (zeros 21) ready-L 0 2 0 (omega arith) (omega arith) (omega arith) in
-    let one : partWord (cardArea L (zeros 21)) 0 0 ≡ 0x103 = ap (λ (a : List ℕ). partWord a 0 0) cards-L in
-    let none : partWord (cardArea L (zeros 21)) 2 0 ≡ 0 = ap (λ (a : List ℕ). partWord a 2 0) cards-L in
+    let one : partWord (engine .cards L (zeros 21) .area) 0 0 ≡ 0x103 = ap (λ (r : Returned). partWord (r .area) 0 0) cards-L in
+    let none : partWord (engine .cards L (zeros 21) .area) 2 0 ≡ 0 = ap (λ (r : Returned). partWord (r .area) 2 0) cards-L in
     omega arith
 
 -- "an untouched area"
@@ -140,23 +214,19 @@ pub untouched : (e : Engine) → Untouched e → ¬ Demand2 e
 untouched e wrong d =
     let fixed = area-fixed e d L (zeros 21) ready-L in
     let same = wrong L (zeros 21) ready-L in
-    let word : _≡_ {A = ℕ} 0 0x103 = ap (λ (a : List ℕ). getD a 0 0) (sym same ∙ fixed ∙ cards-L) in
+    let word : _≡_ {A = ℕ} 0 0x103 = ap (λ (a : List ℕ). getD a 0 0) (sym same ∙ fixed ∙ ap (λ (r : Returned). r .area) cards-L) in
     omega arith
 
 -- "an invented .. fact count"
 pub invented-count : (e : Engine) → InventedCount e → ¬ Demand2 e
-invented-count e wrong d =
-    wrong .invented
-    (ap (λ (n : ℕ). n / 2 ^ 8) (cards-fixed e d (wrong .image) (wrong .area) (wrong .ready) (wrong .sequence) 0 (wrong .low) (omega arith))
-    ∙ ap (λ (n : ℕ). n / 2 ^ 8) (written (wrong .image) (wrong .area) (wrong .ready) .words (wrong .sequence) 0 (wrong .low) (omega arith))
-    ∙ flags-count (libraryOf (wrong .image)) (wrong .sequence))
+invented-count e wrong d = wrong .invented (d .card (wrong .image) (wrong .area) (wrong .ready) (wrong .sequence) (wrong .low) .flags .count)
 
 -- ---- demand 3
 
 -- an "always" column that is blank on a card has no fact of the right one
 module _ (a : Always) (e : Engine) (wrong : BlankColumn a e) (d : Demand3 e) where
   blank-right : (image area : List ℕ) → Ready image area → (c : ℕ) → c < count (libraryOf image) → (f : ℕ) → f < libraryOf image .facts
-      → bit (partWord (cardArea image area) c (place a)) f ≡ 0
+      → bit (partWord (engine .cards image area .area) c (place a)) f ≡ 0
   blank-right image area ready c l f low =
       let lacks : bit (partWord (e .cards image area .area) c (place a)) f ≡ 0 =
       ap (λ (n : ℕ). bit n f) (wrong image area ready c l) ∙ bit-none f in
@@ -167,26 +237,26 @@ pub blank-column : (a : Always) (e : Engine) → BlankColumn a e → ¬ Demand3 
 blank-column needed e wrong d =
     let size = counted clearThenNeed _ accepted-clearThenNeed in
     let zero-bit = blank-right needed e wrong d clearThenNeed (zeros 7) ready-clearThenNeed 0 (omega (arith, size .sequences)) 0 (omega (arith, size .facts)) in
-    let one-bit = ap (λ (l : List ℕ). bit (partWord l 0 1) 0) cards-clearThenNeed ∙ bit-zero 1 in
+    let one-bit = ap (λ (r : Returned). bit (partWord (r .area) 0 1) 0) cards-clearThenNeed ∙ bit-zero 1 in
     omega arith
 blank-column set e wrong d =
     let size = counted pulse _ accepted-pulse in
     let zero-bit = blank-right set e wrong d pulse (zeros 7) ready-pulse 0 (omega (arith, size .sequences)) 0 (omega (arith, size .facts)) in
-    let one-bit = ap (λ (l : List ℕ). bit (partWord l 0 5) 0) cards-pulse ∙ bit-zero 1 in
+    let one-bit = ap (λ (r : Returned). bit (partWord (r .area) 0 5) 0) cards-pulse ∙ bit-zero 1 in
     omega arith
 blank-column cleared e wrong d =
     let size = counted clearThenNeed _ accepted-clearThenNeed in
     let zero-bit = blank-right cleared e wrong d clearThenNeed (zeros 7) ready-clearThenNeed 0 (omega (arith, size .sequences)) 0 (omega (arith, size .facts)) in
-    let one-bit = ap (λ (l : List ℕ). bit (partWord l 0 6) 0) cards-clearThenNeed ∙ bit-zero 1 in
+    let one-bit = ap (λ (r : Returned). bit (partWord (r .area) 0 6) 0) cards-clearThenNeed ∙ bit-zero 1 in
     omega arith
 
 -- the question of the sample with the endless sequence
 shown-selfCall : (e : Engine) → Demand3 e
-    → (links : Chain) × Sees (zeros 2) (e .chain selfCall 0 2 0 (zeros 2)) links × Proves (libraryOf selfCall) 0 set 0 2 links
+    → (links : Chain) × Links (zeros 2) (e .chain selfCall 0 2 0 (zeros 2)) links × Proves (libraryOf selfCall) 0 set 0 2 links
 shown-selfCall e d =
     let room : length (zeros 2) ≡ 2 = refl in
     chain-shown e d selfCall 0 2 0 set (inr refl) (zeros 2) (omega (arith, counted selfCall _ accepted-selfCall .sequences)) (untouchedLink 0 1 ∷ [])
-    chain-selfCall
+    gets-selfCall
 
 -- a chain without a link stands for no run
 no-links : (K : Library) (c : ℕ) (a : Always) (f q : ℕ) (links : Chain) → length links ≡ 0 → ¬ Proves K c a f q links
@@ -197,14 +267,14 @@ no-links K c a f q (l ∷ ls) e p = omega arith
 pub none-at-once : (e : Engine) → NoneAtOnce e → ¬ Demand3 e
 none-at-once e wrong d =
     let (links, sees, proves) = shown-selfCall e d in
-    let none = wrong selfCall 0 2 0 (zeros 2) (shown (untouchedLink 0 1 ∷ [])) chain-selfCall in
+    let none = wrong selfCall 0 2 0 (zeros 2) (untouchedLink 0 1 ∷ []) gets-selfCall in
     no-links (libraryOf selfCall) 0 set 0 2 links (sym (sees .number) ∙ none) proves
 
 -- "12 whatever the area"
 pub twelve-unshown : (e : Engine) → AlwaysTwelve e → ¬ Demand3 e
 twelve-unshown e wrong d =
     let (links, sees, proves) = shown-selfCall e d in
-    let twelve = wrong selfCall 0 2 0 (zeros 2) (untouchedLink 0 1 ∷ []) chain-selfCall in
+    let twelve = wrong selfCall 0 2 0 (zeros 2) (untouchedLink 0 1 ∷ []) gets-selfCall in
     let number = sees .number in
     let few = proves .few in
     omega (arith, counted selfCall _ accepted-selfCall .sequences)
@@ -214,8 +284,8 @@ pub invented-links : (e : Engine) → InventedLinks e → ¬ Demand3 e
 invented-links e wrong d =
     let (links, sees, proves) =
     chain-shown e d (wrong .image) (wrong .sequence) (wrong .question) (wrong .fact) (wrong .column) (wrong .asks) (wrong .area) (wrong .room)
-    (wrong .right) (wrong .told) in
-    let same = links-told (wrong .area) (e .chain (wrong .image) (wrong .sequence) (wrong .question) (wrong .fact) (wrong .area)) links (wrong .links) sees (wrong .sees) in
+    (wrong .right) (wrong .gets) in
+    let same = links-told (wrong .area) (e .chain (wrong .image) (wrong .sequence) (wrong .question) (wrong .fact) (wrong .area)) links (wrong .links) sees (wrong .returns) in
     wrong .invented (subst (Proves (libraryOf (wrong .image)) (wrong .sequence) (wrong .column) (wrong .fact) (wrong .question)) same proves)
 
 -- one link of kind 11 does not answer question 2, one of kind 12 does not answer question 0
@@ -231,14 +301,14 @@ untouched-unasked K c f d i a proves =
 pub same-link : (l : Link) (e : Engine) → SameLink l e → ¬ Demand3 e
 same-link (touchLink c i p) e wrong d =
     let (links, sees, proves) = shown-selfCall e d in
-    let told = wrong selfCall 0 2 0 (zeros 2) (untouchedLink 0 1 ∷ []) chain-selfCall in
+    let told = wrong selfCall 0 2 0 (zeros 2) (untouchedLink 0 1 ∷ []) gets-selfCall in
     let same = links-told (zeros 2) (e .chain selfCall 0 2 0 (zeros 2)) links (touchLink c i p ∷ []) sees told in
     touch-unasked (libraryOf selfCall) 0 0 c i p set (subst (Proves (libraryOf selfCall) 0 set 0 2) same proves)
 same-link (untouchedLink c i) e wrong d =
     let room : length (zeros 6) ≡ 6 = refl in
     let (links, sees, proves) =
-    chain-shown e d L 1 0 0 cleared (inl refl) (zeros 6) (omega (arith, counted L _ accepted-L .sequences)) (touchLink 1 0 0 ∷ touchLink 0 0 0 ∷ []) chain-L in
-    let told = wrong L 1 0 0 (zeros 6) (touchLink 1 0 0 ∷ touchLink 0 0 0 ∷ []) chain-L in
+    chain-shown e d L 1 0 0 cleared (inl refl) (zeros 6) (omega (arith, counted L _ accepted-L .sequences)) (touchLink 1 0 0 ∷ touchLink 0 0 0 ∷ []) gets-L in
+    let told = wrong L 1 0 0 (zeros 6) (touchLink 1 0 0 ∷ touchLink 0 0 0 ∷ []) gets-L in
     let same = links-told (zeros 6) (e .chain L 1 0 0 (zeros 6)) links (untouchedLink c i ∷ []) sees told in
     untouched-unasked (libraryOf L) 1 0 c i cleared (subst (Proves (libraryOf L) 1 cleared 0 0) same proves)
 
@@ -258,7 +328,22 @@ one-card-goes image area ready c d k l m u = blank-word (length area) (7 * c + k
 pub untouched-goes : Untouched lazyCards
 untouched-goes image area ready = refl
 
-pub invented-count-goes : InventedCount blankCards
+-- a card's word where the flags of sequence 0 are 0
+abbrev flagless : Returned → ℕ → ℕ
+flagless r k = partWord (list.set (r .area) 0 0) 0 k
+
+abbrev counts : Returned → ℕ
+counts r = countBelow (libraryOf L .facts) (λ (f : ℕ). inColumn (flagless r 3) f || inColumn (flagless r 4) f)
+
+-- sequence 0 of L may set one fact
+one-changes : counts (engine .cards L (zeros 21)) ≡ 1
+unfolding countBelow inColumn libraryOf has
+one-changes = ap counts cards-L
+
+no-flags : flagless (engine .cards L (zeros 21)) 0 ≡ 0
+no-flags = ap (λ (r : Returned). flagless r 0) cards-L
+
+pub invented-count-goes : InventedCount flaglessCards
 invented-count-goes =
     record {
       image = L;
@@ -266,25 +351,37 @@ invented-count-goes =
       ready = ready-L;
       sequence = 0;
       low = omega (arith, counted L _ accepted-L .sequences);
-      invented = λ same.
-          let right = flags-count (libraryOf L) 0 in
-          let word : cardWord (libraryOf L) 0 0 ≡ 0x103 =
-          sym (written L (zeros 21) ready-L .words 0 0 (omega (arith, counted L _ accepted-L .sequences)) (omega arith))
-          ∙ ap (λ (a : List ℕ). partWord a 0 0) cards-L in
-          let blank = blank-word (length (zeros 21)) 0 in
-          omega arith;
+      invented = λ same. omega (arith, one-changes, no-flags, same);
     }
 
 pub none-goes : NoneAtOnce (fixedChain 0)
-none-goes image c q f area a told = refl
+none-goes image c q f area ls gets = refl
 
 pub twelve-goes : AlwaysTwelve (fixedChain (12 * 2 ^ 32))
-twelve-goes image c q f area ls told = refl
+twelve-goes image c q f area ls gets = refl
 
-pub same-link-goes : (l : Link) → Fits l → SameLink l (fixedLink l)
-same-link-goes l fits image c q f area ls told = record { number = refl; area = refl; fits = (fits, tt) }
+pub unwritten-goes : Unwritten 3 (unwritten 3)
+unwritten-goes image c f area = refl
 
-pub invented-links-goes : InventedLinks (fixedLink (touchLink 0 0 0))
+pub longer-goes : LongerChain (fixedLinks (touchLink 0 1 0 ∷ touchLink 1 0 0 ∷ []))
+longer-goes =
+    record {
+      image = detour;
+      sequence = 0;
+      question = 0;
+      fact = 0;
+      area = zeros 4;
+      right = touchLink 0 0 0 ∷ [];
+      gets = gets-detour;
+      links = touchLink 0 1 0 ∷ touchLink 1 0 0 ∷ [];
+      returns = record { number = refl; area = refl; fits = ((omega arith, omega arith, omega arith), ((omega arith, omega arith, omega arith), tt)) };
+      longer = omega arith;
+    }
+
+pub same-link-goes : (l : Link) → Fits l → SameLink l (fixedLinks (l ∷ []))
+same-link-goes l fits image c q f area ls gets = record { number = refl; area = refl; fits = (fits, tt) }
+
+pub invented-links-goes : InventedLinks (fixedLinks (touchLink 0 0 0 ∷ []))
 invented-links-goes =
     let size : length (zeros 2) ≡ 2 = refl in
     record {
@@ -297,9 +394,9 @@ invented-links-goes =
       area = zeros 2;
       room = omega (arith, counted selfCall _ accepted-selfCall .sequences);
       right = untouchedLink 0 1 ∷ [];
-      told = chain-selfCall;
+      gets = gets-selfCall;
       links = touchLink 0 0 0 ∷ [];
-      sees = same-link-goes (touchLink 0 0 0) (omega arith, omega arith, omega arith) selfCall 0 2 0 (zeros 2) (untouchedLink 0 1 ∷ []) chain-selfCall;
+      returns = same-link-goes (touchLink 0 0 0) (omega arith, omega arith, omega arith) selfCall 0 2 0 (zeros 2) (untouchedLink 0 1 ∷ []) gets-selfCall;
       invented = touch-unasked (libraryOf selfCall) 0 0 0 0 0 set;
     }
 

@@ -16,7 +16,6 @@ use Rattle.image.specs.declared.answer.Head.{Head}
 use Rattle.image.specs.declared.answer.Checked.{Checked}
 use Rattle.library.proofs.Accepted.{counted}
 use Rattle.runs.specs.Touch.{questionOf}
-use Rattle.card.specs.Answer.{cardArea}
 use Rattle.card.specs.Area.{partWord}
 use Rattle.card.specs.Card.{cardWords}
 use Rattle.card.specs.Meaning.{Always}
@@ -27,43 +26,47 @@ use Rattle.rank.specs.Call.{answered, chained}
 use Rattle.rank.proofs.Words.{words-length, words-same}
 use Rattle.rank.proofs.Answers.{answer-shows}
 use Rattle.chain.proofs.Calls.{call-answered}
-use Rattle.dulimoven.specs.Demands.{Engine, Left, count, Ready, Demand2, Asks, Sees, Proves, Demand3}
+use Rattle.dulimoven.specs.Returned.{Returned}
+use Rattle.dulimoven.specs.ChainCall.{Links}
+use Rattle.dulimoven.specs.Demands.{Engine, count, Ready, Demand2, Asks, Proves, Demand3}
+use Rattle.dulimoven.specs.Engine.{engine}
 use Rattle.dulimoven.proofs.Demands.{columns}
+use Rattle.agreement.specs.Wrong.{Gets}
 
 -- ---- demand 2
 
 module _ (e : Engine) (d : Demand2 e) (image area : List ℕ) (ready : Ready image area) where
   pub cards-fixed : (c k : ℕ) → c < count (libraryOf image) → k < cardWords
-      → partWord (e .cards image area .area) c k ≡ partWord (cardArea image area) c k
+      → partWord (e .cards image area .area) c k ≡ partWord (engine .cards image area .area) c k
   cards-fixed c k l u =
-      card-unique (libraryOf image) c (partWord (e .cards image area .area) c) (partWord (cardArea image area) c) (d .card image area ready c l)
+      card-unique (libraryOf image) c (partWord (e .cards image area .area) c) (partWord (engine .cards image area .area) c) (d .card image area ready c l)
       (columns .card image area ready c l) k u
 
-  pub area-fixed : e .cards image area .area ≡ cardArea image area
+  pub area-fixed : e .cards image area .area ≡ engine .cards image area .area
   area-fixed =
-      ext-getD 0 (e .cards image area .area) (cardArea image area) (d .long image area ready ∙ sym (columns .long image area ready))
+      ext-getD 0 (e .cards image area .area) (engine .cards image area .area) (d .long image area ready ∙ sym (columns .long image area ready))
       (λ i l. by-cases (decLt i (cardWords * count (libraryOf image))) (inside i)
       (λ high. let from : cardWords * count (libraryOf image) ≤ i = omega arith in
       d .past image area ready i from ∙ sym (columns .past image area ready i from)))
     where
-      inside : (i : ℕ) → i < cardWords * count (libraryOf image) → getD (e .cards image area .area) i 0 ≡ getD (cardArea image area) i 0
+      inside : (i : ℕ) → i < cardWords * count (libraryOf image) → getD (e .cards image area .area) i 0 ≡ getD (engine .cards image area .area) i 0
       inside i l =
           let place : i ≡ cardWords * (i / 7) + i % 7 = omega arith in
           ap (λ (j : ℕ). getD (e .cards image area .area) j 0) place
           ∙ cards-fixed (i / 7) (i % 7) (omega arith) (mod-lt i (zero-lt-suc 6))
-          ∙ ap (λ (j : ℕ). getD (cardArea image area) j 0) (sym place)
+          ∙ ap (λ (j : ℕ). getD (engine .cards image area .area) j 0) (sym place)
 
 -- ---- demand 3
 
 -- the words in the area tell the links
-pub links-told : (before : List ℕ) (left : Left) (ls ms : Chain) → Sees before left ls → Sees before left ms → ls ≡ ms
-links-told before left ls ms one two =
+pub links-told : (before : List ℕ) (r : Returned) (ls ms : Chain) → Links before r ls → Links before r ms → ls ≡ ms
+links-told before r ls ms one two =
     let same : length ls ≡ length ms = sym (one .number) ∙ two .number in
     let size : length (chainWords ls) ≡ length (chainWords ms) = omega (arith, words-length ls, words-length ms) in
     words-same ls ms (one .fits) (two .fits)
-    (sym (take-append-seam (chainWords ls) (drop (2 * length ls) before))
+    (sym (take-append-seam (chainWords ls) (drop (length (chainWords ls)) before))
     ∙ ap₂ (λ (n : ℕ) (ws : List ℕ). take n ws) size (sym (one .area) ∙ two .area)
-    ∙ take-append-seam (chainWords ms) (drop (2 * length ms) before))
+    ∙ take-append-seam (chainWords ms) (drop (length (chainWords ms)) before))
 
 -- a card area with room for an accepted image
 pub some-area : List ℕ → List ℕ
@@ -74,18 +77,36 @@ unfolding some-area
 ready-for image h accepted =
     record { head = h; accepted = accepted; room = omega (arith, length-replicate {A = ℕ} (cardWords * count (libraryOf image)) 0) }
 
+-- a chain that the engine answers, with room in the area
+pub gets-chain : (image : List ℕ) (c q f : ℕ) (area : List ℕ) (ls : Chain) → chained image c q f (length area) ≡ answered (shown ls)
+    → length (chainWords ls) ≤ length area → Gets image c q f area ls
+gets-chain image c q f area ls told room =
+    let call = call-answered image c q f (length area) (shown ls) told in
+    record {
+      asked =
+          record {
+            head = call .head;
+            accepted = call .accepted;
+            sequence = call .sequence;
+            question = call .question;
+            fact = call .fact;
+          };
+      answers = answer-shows (libraryOf image) (questionOf q) c f ls (call .known);
+      room = room;
+    }
+
 -- by demand 3 a question about a broken rule that has a chain gets one that shows it
 pub chain-shown : (e : Engine) → Demand3 e → (image : List ℕ) (c q f : ℕ) (a : Always) → Asks a q → (area : List ℕ)
-    → 2 * count (libraryOf image) ≤ length area → (right : Chain) → chained image c q f (length area) ≡ answered (shown right)
-    → (links : Chain) × Sees area (e .chain image c q f area) links × Proves (libraryOf image) c a f q links
-chain-shown e d image c q f a asks area room right told =
-    let call = call-answered image c q f (length area) (shown right) told in
-    let size = counted image (call .head) (call .accepted) in
+    → 2 * count (libraryOf image) ≤ length area → (right : Chain) → Gets image c q f area right
+    → (links : Chain) × Links area (e .chain image c q f area) links × Proves (libraryOf image) c a f q links
+chain-shown e d image c q f a asks area room right gets =
+    let asked = gets .asked in
+    let size = counted image (asked .head) (asked .accepted) in
     let sequences = size .sequences in
     let facts = size .facts in
-    let sequence = call .sequence in
-    let fact = call .fact in
-    let shows = answer-shows (libraryOf image) (questionOf q) c f right (call .known) in
+    let sequence = asked .sequence in
+    let fact = asked .fact in
+    let shows = gets .answers in
     let (run, outcome) = shows .runs (shows .run) (shows .stands) in
-    d .shown image (some-area image) (ready-for image (call .head) (call .accepted)) c (omega arith) .answer a (f, omega arith) (shows .run) run q asks
+    d .shown image (some-area image) (ready-for image (asked .head) (asked .accepted)) c (omega arith) .answer a (f, omega arith) (shows .run) run q asks
     outcome area room

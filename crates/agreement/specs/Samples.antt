@@ -1,0 +1,144 @@
+-- The starred samples of document 01: one table of calls, with the answers that the paper gives, and one fact, that each answer follows from
+-- the definitions (`starred-hold`). Where the paper says of a sample that a run executes, or that none does, the states are those of `standing`.
+use Prim.Native.Nat.{ℕ, _+_, _*_, _/_, _%_, _^_}
+use Prim.Native.Char.{code}
+use Prim.Native.String.{String}
+use Prim.Native.String as string
+use mathlib.Core.Path.{_≡_}
+use mathlib.Core.List.{List, [], _∷_, _++_}
+use lib.ListN.{length, replicate}
+use Rattle.library.specs.Library.{Library, has, libraryOf}
+use Rattle.runs.specs.Run.{Item, Run}
+use Rattle.runs.specs.Execution.{Fact, State, Executes, end}
+use Rattle.card.specs.Card.{cardWords}
+use Rattle.card_text.specs.Print.{printed}
+use Rattle.dulimoven.specs.Returned.{returned}
+use Rattle.dulimoven.specs.Engine.{engine}
+
+-- "Library L, 20 words in hexadecimal, F = A = C = 3"
+abbrev pub L : List ℕ
+L =
+    0x100c0183 ∷ 0x50000000 ∷ 0x30000000 ∷ 0x50000001 ∷ 0x20000000 ∷ 0x30000001 ∷ 0x50000002 ∷ 0x40000001 ∷ 0x60000000 ∷ 0x70000000
+    ∷ 0x80000000 ∷ 0x70000000 ∷ 0x60000001 ∷ 0x70000000 ∷ 0x90000000 ∷ 0x80000001 ∷ 0x60000002 ∷ 0x70000000 ∷ 0x90000002 ∷ 0xf00c019a
+    ∷ []
+
+-- one fact and nothing else: 10000001 f0000002
+abbrev pub bare : List ℕ
+bare = 0x10000001 ∷ 0xf0000002 ∷ []
+
+-- one sequence with the alternatives <itself> and <>
+abbrev pub selfCall : List ℕ
+selfCall = 0x10040001 ∷ 0x60000000 ∷ 0x70000000 ∷ 0x90000000 ∷ 0x70000000 ∷ 0xf004000f ∷ []
+
+-- sequence 0 with the alternatives <set f, sequence 1> and <clear f>; sequence 1 is endless, its one alternative is <itself>
+abbrev pub endlessFirst : List ℕ
+endlessFirst =
+    0x10080101 ∷ 0x50000000 ∷ 0x30000000 ∷ 0x50000001 ∷ 0x40000000 ∷ 0x60000000 ∷ 0x70000000 ∷ 0x80000000 ∷ 0x90000001 ∷ 0x70000000
+    ∷ 0x80000001 ∷ 0x60000001 ∷ 0x70000000 ∷ 0x90000001 ∷ 0xf008010b ∷ []
+
+-- one alternative <clear f, need f>
+abbrev pub clearThenNeed : List ℕ
+clearThenNeed =
+    0x10040101 ∷ 0x50000000 ∷ 0x40000000 ∷ 0x50000001 ∷ 0x20000000 ∷ 0x60000000 ∷ 0x70000000 ∷ 0x80000000 ∷ 0x80000001 ∷ 0xf0040111 ∷ []
+
+-- one alternative with one step that sets and clears f
+abbrev pub pulse : List ℕ
+pulse = 0x10040081 ∷ 0x50000000 ∷ 0x30000000 ∷ 0x40000000 ∷ 0x60000000 ∷ 0x70000000 ∷ 0x80000000 ∷ 0xf0040083 ∷ []
+
+-- ---- the table
+
+-- the bytes of an image: "little-endian words"
+abbrev pub bytesOf : List ℕ → List ℕ
+bytesOf [] = []
+bytesOf (w ∷ ws) = w % 256 ∷ w / 256 % 256 ∷ w / 65536 % 256 ∷ w / 16777216 ∷ bytesOf ws
+
+-- the codes of a text's characters
+abbrev pub codes : String → List ℕ
+codes string.[] = []
+codes (string._∷_ c text) = code c ∷ codes text
+
+-- the state in which just these facts stand
+abbrev pub standing : (L : Library) → List ℕ → State L
+standing L facts f = has (f .0) facts
+
+-- what is asked of an image, with what the paper answers
+pub data Sample : Type 0 where
+  -- the check accepts: F, A and C
+  accepts : List ℕ → ℕ → ℕ → ℕ → Sample
+  -- the check refuses: number and position
+  refuses : List ℕ → ℕ → ℕ → Sample
+  -- the cards, seven words for each sequence, in an area of just enough words
+  fills : List ℕ → List (List ℕ) → Sample
+  -- what the program prints, whole
+  prints : List ℕ → String → Sample
+  -- the chain call on a sequence, a question, a fact and an area: the number that it answers, and the area after it
+  chains : List ℕ → ℕ → ℕ → ℕ → List ℕ → ℕ → List ℕ → Sample
+  -- a run of a sequence executes where just some facts stand at the start, and just some stand at its end
+  executes : List ℕ → ℕ → List Item → List ℕ → List ℕ → Sample
+  -- a run of a sequence does not execute where just some facts stand at the start
+  fails : List ℕ → ℕ → List Item → List ℕ → Sample
+
+abbrev pub joined : List (List ℕ) → List ℕ
+joined [] = []
+joined (l ∷ ls) = l ++ joined ls
+
+-- an area for chains, of words that no chain has
+abbrev pub spare : List ℕ
+spare = 7 ∷ 7 ∷ 7 ∷ 7 ∷ 7 ∷ []
+
+-- "N × 2^32 + P for refusal N at position P, otherwise the head's payload from the check, C from the cards, the number of links from the
+-- chain, 0 there for "none""; F in bits 0 to 6, A in bits 7 to 17, C in bits 18 to 26
+abbrev pub Holds : Sample → Type 0
+Holds (accepts image f a c) = engine .check image ≡ f + a * 2 ^ 7 + c * 2 ^ 18
+Holds (refuses image n p) = engine .check image ≡ n * 2 ^ 32 + p
+Holds (fills image lines) = engine .cards image (replicate (cardWords * length lines) 0) ≡ returned (length lines) (joined lines)
+Holds (prints image text) = printed (bytesOf image) ≡ codes text
+Holds (chains image c q f before n after) = engine .chain image c q f before ≡ returned n after
+Holds (executes image c w start after) =
+    Run (libraryOf image) c w
+    × Executes (libraryOf image) w (standing (libraryOf image) start)
+    × ((f : Fact (libraryOf image)) → end (libraryOf image) w (standing (libraryOf image) start) f ≡ has (f .0) after)
+Holds (fails image c w start) = Run (libraryOf image) c w × ¬ Executes (libraryOf image) w (standing (libraryOf image) start)
+
+abbrev pub starred : List Sample
+starred =
+    -- L is read: F = A = C = 3
+    accepts L 3 3 3
+    -- "L prints, whole"
+    ∷ fills L
+    ((0x103 ∷ 0 ∷ 0 ∷ 1 ∷ 0 ∷ 0 ∷ 0 ∷ []) ∷ (0x201 ∷ 0 ∷ 1 ∷ 3 ∷ 0 ∷ 2 ∷ 0 ∷ []) ∷ (0 ∷ 0 ∷ 0 ∷ 0 ∷ 0 ∷ 0 ∷ 0 ∷ []) ∷ [])
+    ∷ prints L "0 103 0 0 1 0 0 0\n1 201 0 1 3 0 2 0\n2 0 0 0 0 0 0 0\n"
+    -- "L, sequence 1, question 2, fact 0: 1 link, a0000001 c0000000."
+    ∷ chains L 1 2 0 spare 1 (0xa0000001 ∷ 0xc0000000 ∷ 7 ∷ 7 ∷ 7 ∷ [])
+    -- "The same, question 0: 2 links, a0000001 b0000000 a0000000 b0000000; an area of 3 words gets 12."
+    ∷ chains L 1 0 0 spare 2 (0xa0000001 ∷ 0xb0000000 ∷ 0xa0000000 ∷ 0xb0000000 ∷ 7 ∷ [])
+    ∷ chains L 1 0 0 (7 ∷ 7 ∷ 7 ∷ []) (12 * 2 ^ 32) (7 ∷ 7 ∷ 7 ∷ [])
+    -- "L, sequence 1, question 1, fact 1: none. Sequence 2, question 2, fact 0: none."
+    ∷ chains L 1 1 1 spare 0 spare
+    ∷ chains L 2 2 0 spare 0 spare
+    -- the runs of L's sequence 1: <step 0, step 1> executes where nothing stands, since step 0 sets what step 1 needs, and leaves facts 0 and 1
+    -- standing; <step 1>, with the empty alternative, does not, and does where fact 0 stands
+    ∷ executes L 1 (0 ∷ 1 ∷ []) [] (0 ∷ 1 ∷ [])
+    ∷ fails L 1 (1 ∷ []) []
+    ∷ executes L 1 (1 ∷ []) (0 ∷ []) (0 ∷ 1 ∷ [])
+    -- "10000001 f0000002 is accepted and prints nothing"
+    ∷ accepts bare 1 0 0
+    ∷ fills bare []
+    ∷ prints bare ""
+    -- "10000000 f0000001 gets 3"
+    ∷ refuses (0x10000000 ∷ 0xf0000001 ∷ []) 3 0
+    -- "Alternatives <itself> and <>: flags 3; question 2 names alternative 1."
+    ∷ fills selfCall ((3 ∷ 0 ∷ 0 ∷ 0 ∷ 0 ∷ 0 ∷ 0 ∷ []) ∷ [])
+    ∷ chains selfCall 0 2 0 spare 1 (0xa0000100 ∷ 0xc0000000 ∷ 7 ∷ 7 ∷ 7 ∷ [])
+    -- "Alternatives <set f, L's kind of endless sequence> and <clear f>: always cleared." It may clear f, so one fact is changeable
+    ∷ fills endlessFirst ((0x101 ∷ 0 ∷ 0 ∷ 0 ∷ 1 ∷ 0 ∷ 1 ∷ []) ∷ (0 ∷ 0 ∷ 0 ∷ 0 ∷ 0 ∷ 0 ∷ 0 ∷ []) ∷ [])
+    -- the step that clears f takes it away
+    ∷ executes endlessFirst 0 (1 ∷ []) (0 ∷ []) []
+    -- "Alternative <clear f, need f>: always needed, though no run executes." It may need f, and always clears it. That no run executes from any
+    -- state is `never-executes` (proofs/Samples)
+    ∷ fills clearThenNeed ((0x101 ∷ 1 ∷ 1 ∷ 0 ∷ 1 ∷ 0 ∷ 1 ∷ []) ∷ [])
+    ∷ fails clearThenNeed 0 (0 ∷ 1 ∷ []) (0 ∷ [])
+    -- "One step sets and clears f: always set, not may clear."
+    ∷ fills pulse ((0x101 ∷ 0 ∷ 0 ∷ 1 ∷ 0 ∷ 1 ∷ 0 ∷ []) ∷ [])
+    ∷ executes pulse 0 (0 ∷ []) [] (0 ∷ [])
+    ∷ []

@@ -1,0 +1,27 @@
+-- What the writers of the text ask, and the text for an answer of the card call.
+use Prim.Native.Nat.{ℕ, _*_, _≤_}
+use mathlib.Core.Path.{_≡_}
+use mathlib.Core.List.{List}
+use lib.ListN.{length}
+use Rattle.image.specs.Answer.{refusalNumber, refusalPosition}
+use Rattle.card.specs.declared.answer.Cards.{Cards}
+use Rattle.card_text.specs.Number.{numeral}
+use Rattle.card_text.specs.Line.{cardLines, refusalLine}
+
+-- for an answer of the card call, with the words that it wrote: "one line a sequence", or "A refusal prints `refused N at P`."
+abbrev pub answerText : Cards → List ℕ → List ℕ
+answerText (Cards.Filled n) words = cardLines words n
+answerText (Cards.Refused r) words = refusalLine (refusalNumber r) (refusalPosition r)
+
+-- what the writer of a numeral asks: a base with digits, and room in front of the text that begins at `at`
+pub record NumeralAsked (area : List ℕ) (at b n : ℕ) : Type 0 where
+  pub low : 2 ≤ b
+  pub high : b ≤ 16
+  pub room : length (numeral b n) ≤ at
+  pub within : at ≤ length area
+
+-- what the writer of an answer asks: the words of the cards, at most 256, and room in front of the text that begins at `at`
+pub record AnswerAsked (area : List ℕ) (at : ℕ) (found : Cards) (words : List ℕ) : Type 0 where
+  pub filled : (n : ℕ) → found ≡ Cards.Filled n → (n ≤ 256) × (7 * n ≤ length words)
+  pub room : 33280 ≤ at
+  pub within : at ≤ length area

@@ -1,0 +1,24 @@
+-- The engine: the three calls, as the contracts of the exports cite them. What its answers mean is `Demands`, which it meets (`demands-met`,
+-- proofs/Demands).
+use Prim.Native.Nat.{ℕ}
+use mathlib.Core.List.{List}
+use lib.ListN.{length}
+use Rattle.image.specs.Answer.{checkedAnswer}
+use Rattle.reader.specs.Checked.{checked}
+use Rattle.card.specs.Answer.{cardsOf, cardArea, cardsAnswer}
+use Rattle.rank.specs.Call.{Reply, chained, areaAfter}
+use Rattle.link.specs.Reply.{replyNumber}
+use Rattle.dulimoven.specs.Returned.{Returned, returned}
+use Rattle.dulimoven.specs.Demands.{Engine}
+
+-- a reply of the chain call in its area
+abbrev pub replied : Reply → List ℕ → Returned
+replied r area = returned (replyNumber r) (areaAfter r area)
+
+abbrev pub engine : Engine
+engine =
+    record {
+      check = λ image. checkedAnswer (checked image);
+      cards = λ image area. returned (cardsAnswer (cardsOf image area)) (cardArea image area);
+      chain = λ image c q f area. replied (chained image c q f (length area)) area;
+    }
