@@ -10,4 +10,3 @@ pub mod Words
 pub mod Columns
 pub mod Execution
 pub mod Published
-pub mod Sample
