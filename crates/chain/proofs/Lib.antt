@@ -2,4 +2,3 @@ pub mod Whether
 pub mod Calls
 pub mod Describes
 pub mod Finding
-pub mod Sample

@@ -1,5 +1,6 @@
 pub mod Tests
 pub mod Run
+pub mod Refinement
 pub mod Levels
 pub mod Outcome
 pub mod Possible
@@ -9,4 +10,3 @@ pub mod Words
 pub mod Columns
 pub mod Execution
 pub mod Published
-pub mod Sample

@@ -8,6 +8,7 @@ use native.Mathlib.Omega.{arith}
 use lib.ListN.{getD, List·getD-map}
 use Rattle.library.specs.Library.{has, Library, Step}
 use Rattle.runs.specs.Run.{Item, Run}
+use Rattle.runs.specs.Refinement.{Refines}
 use Rattle.runs.specs.Execution.{Fact, State, noStep, stepOf, apply, Executes, end}
 use Rattle.runs.specs.Touch.{Mark, present, absent, untouched, orElse, last, first, touch, decided, outcomeOf, HasOutcome}
 use Rattle.runs.specs.Touch.{Question, lastSet, lastCleared, firstNeeded}
@@ -15,6 +16,7 @@ use Rattle.runs.specs.Algebra.{sameMark}
 use Rattle.runs.specs.Possible.{possibleOutcome, alwaysOutcome, hasRun}
 use Rattle.runs.specs.Published.{E, R, relaxed, relaxedStep, eff*∅+, eff*∅-, poss-eff*∅+, poss-eff*∅-, Required, prec∅, poss-prec∅}
 use Rattle.library.proofs.Decode.{has-none}
+use Rattle.runs.proofs.Refinement.{refinement-run}
 use Rattle.runs.proofs.Outcome.{present≢untouched, absent≢untouched}
 use Rattle.runs.proofs.Columns.{question-iff, hasRun-iff, always-iff}
 use Rattle.runs.proofs.Execution.{after, end-after, after-gained, after-lost, needed-first}
@@ -23,7 +25,7 @@ use Rattle.runs.proofs.Execution.{after, end-after, after-gained, after
 relaxed-step : (L : Library) (x : Item) → stepOf (relaxed L) x ≡ relaxedStep (stepOf L x)
 relaxed-step L x = List·getD-map relaxedStep (L .steps) x noStep
 
--- every run executes from every state
+-- every list of steps executes from every state
 relaxed-executes : (L : Library) (w : List Item) (s : State L) → Executes (relaxed L) w s
 relaxed-executes L [] s = tt
 relaxed-executes L (x ∷ w) s = (
@@ -37,10 +39,10 @@ relaxed-end L f w s =
     end-after (relaxed L) f w s
     ∙ ap (λ (t : Item → Mark). after (decided last t w) (s f)) (fun-ext (λ x. ap (λ a. touch last a (f .0)) (relaxed-step L x)))
 
-relaxed-enabling : (L : Library) (c : ℕ) (s : State L) (w : List Item) → Run L c w → E (relaxed L) c s
+relaxed-enabling : (L : Library) (c : ℕ) (s : State L) (w : List Item) → Refines L c w → E (relaxed L) c s
 relaxed-enabling L c s w r = (w, r, relaxed-executes L w s)
 
-relaxed-result : (L : Library) (c : ℕ) (s : State L) (w : List Item) → Run L c w → R (relaxed L) s c (end (relaxed L) w s)
+relaxed-result : (L : Library) (c : ℕ) (s : State L) (w : List Item) → Refines L c w → R (relaxed L) s c (end (relaxed L) w s)
 relaxed-result L c s w r = (w, r, relaxed-executes L w s, refl)
 
 -- the state in which no fact stands, and the one in which every fact does
@@ -92,18 +94,18 @@ first-required L f (x ∷ w) e =
     later i unset none-before (suc j) below set = none-before (j, omega arith, set)
 
 module _ (L : Library) (c : ℕ) (f : Fact L) where
-  -- every run of the sequence has the outcome asked for; some run has
+  -- every primitive refinement has the outcome asked for; some primitive refinement has
   abbrev pub Always : Question → Type 0
-  Always q = (w : List Item) → Run L c w → HasOutcome L q (f .0) w
+  Always q = (w : List Item) → Refines L c w → HasOutcome L q (f .0) w
 
   abbrev pub May : Question → Type 0
-  May q = (w : List Item) × Run L c w × HasOutcome L q (f .0) w
+  May q = (w : List Item) × Refines L c w × HasOutcome L q (f .0) w
 
   -- the fact in a resulting state
   resulting : (s s′ : State L) (r : R (relaxed L) s c s′) → s′ f ≡ after (outcomeOf L last (f .0) (r .0)) (s f)
   resulting s s′ r = sym (ap (λ (t : State L). t f) (r .3)) ∙ relaxed-end L f (r .0) s
 
-  pub eff-plus-iff : ((w : List Item) × Run L c w) → eff*∅+ L c f ↔ Always lastSet
+  pub eff-plus-iff : ((w : List Item) × Refines L c w) → eff*∅+ L c f ↔ Always lastSet
   eff-plus-iff run = (
     (λ h w r. after-gained (outcomeOf L last (f .0) w) false
         (sym (relaxed-end L f w (none L))
@@ -114,7 +116,7 @@ module _ (L : Library) (c : ℕ) (f : Fact L) where
     ),
   )
 
-  pub eff-minus-iff : ((w : List Item) × Run L c w) → eff*∅- L c f ↔ Always lastCleared
+  pub eff-minus-iff : ((w : List Item) × Refines L c w) → eff*∅- L c f ↔ Always lastCleared
   eff-minus-iff run = (
     (λ h w r. after-lost (outcomeOf L last (f .0) w) true
         (sym (relaxed-end L f w (every L))
@@ -171,15 +173,26 @@ pub published-columns : (L : Library) (c : ℕ) (f : Fact L) → hasRun L c ≡ 
 published-columns L c f exists =
     record {
       always-needed = Iff·trans (always firstNeeded present≢untouched) (Iff·symm (prec-iff L c f));
-      may-need = Iff·trans (question-iff L firstNeeded c (f .0)) (Iff·symm (poss-prec-iff L c f));
-      may-set = Iff·trans (question-iff L lastSet c (f .0)) (Iff·symm (poss-eff-plus-iff L c f));
-      may-clear = Iff·trans (question-iff L lastCleared c (f .0)) (Iff·symm (poss-eff-minus-iff L c f));
-      always-set = Iff·trans (always lastSet present≢untouched) (Iff·symm (eff-plus-iff L c f run));
-      always-cleared = Iff·trans (always lastCleared absent≢untouched) (Iff·symm (eff-minus-iff L c f run));
+      may-need = Iff·trans (may firstNeeded) (Iff·symm (poss-prec-iff L c f));
+      may-set = Iff·trans (may lastSet) (Iff·symm (poss-eff-plus-iff L c f));
+      may-clear = Iff·trans (may lastCleared) (Iff·symm (poss-eff-minus-iff L c f));
+      always-set = Iff·trans (always lastSet present≢untouched) (Iff·symm (eff-plus-iff L c f refined));
+      always-cleared = Iff·trans (always lastCleared absent≢untouched) (Iff·symm (eff-minus-iff L c f refined));
     }
   where
     run : (w : List Item) × Run L c w
     run = hasRun-iff L c .0 exists
 
+    refined : (w : List Item) × Refines L c w
+    refined = (run .0, refinement-run L c (run .0) .1 (run .1))
+
+    may : (q : Question) → (possibleOutcome L q c (f .0) ≡ true) ↔ May L c f q
+    may q =
+        Iff·trans (question-iff L q c (f .0))
+        ((λ (w, r, o). (w, refinement-run L c w .1 r, o)), λ (w, r, o). (w, refinement-run L c w .0 r, o))
+
     always : (q : Question) → q .mark ≢ untouched → (alwaysOutcome L q c (f .0) ≡ true) ↔ Always L c f q
-    always q touch = ((λ e. always-iff L q c (f .0) touch .0 e .1), λ h. always-iff L q c (f .0) touch .1 (run, h))
+    always q touch = (
+      (λ e w r. always-iff L q c (f .0) touch .0 e .1 w (refinement-run L c w .0 r)),
+      λ h. always-iff L q c (f .0) touch .1 (run, λ w r. h w (refinement-run L c w .1 r)),
+    )

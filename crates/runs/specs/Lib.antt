@@ -1,5 +1,6 @@
 pub mod Tests
 pub mod Run
+pub mod Refinement
 pub mod Execution
 pub mod Touch
 pub mod Algebra

@@ -1,10 +1,11 @@
 -- The inferred preconditions and effects of a compound task, as printed in source document 001 (Definitions 1, 2 and 4 to 8). A
--- planning domain D = (F, A, C, M) is a library: F its facts, A its steps, C its sequences and M their alternatives. A refinement
--- c → ā into a sequence of actions is a run of c. A set of facts is a predicate on facts below F, a set of states one on states.
+-- planning domain D = (F, A, C, M) is a library: F its facts, A its steps, C its sequences and M their alternatives. That c → ā, of a
+-- sequence of actions ā, is `Refines` (specs/Refinement). A set of facts is a predicate on facts below F, a set of states one on states.
 --
--- "undef" (Definition 2, where E(c) or R_s(c) is empty) is not modelled: there a meet below holds of every fact and a join of none.
--- Document 01 leaves a card without a run blank. What is proved of these sets is proved of a sequence with a run; in the
--- precondition-relaxation every state is then in E(c), and no R_s(c) is empty.
+-- "undef" (Definition 2, where E(c) or R_s(c) is empty) is not modelled: the formulas are taken as they stand. There a meet, and F without
+-- a join, holds of every fact, a join of none, and eff_*^+, a difference of two meets, of none. Document 01 leaves a card without a
+-- run blank. What is proved of these sets is proved of a sequence with a run; in the precondition-relaxation every state is then in E(c),
+-- and no R_s(c) is empty.
 --
 -- The procedures of 001 assume more: prec(a) ∩ add(a) = ∅ and add(a) ∩ del(a) = ∅ for all actions, and that every task has a
 -- primitive refinement. None of that is assumed here.
@@ -14,22 +15,24 @@ use mathlib.Core.Bool.{true}
 use mathlib.Core.List.{List, [], map}
 use lib.ListN.{length, getD}
 use Rattle.library.specs.Library.{has, Library, Step}
-use Rattle.runs.specs.Run.{Item, Run}
+use Rattle.runs.specs.Run.{Item}
+use Rattle.runs.specs.Refinement.{Refines}
 use Rattle.runs.specs.Execution.{Fact, State, stepOf, Executes, end}
 
 -- f ∈ s
 abbrev pub Stands : (L : Library) → Fact L → State L → Type 0
 Stands L f s = s f ≡ true
 
--- Definition 1 (Executability-Enabling and Resulting States). "E(c) ⊆ 2^F is the set of all states s ∈ 2^F for which there exists a
--- sequence of actions ā, such that c → ā and ā is applicable in s."
+-- Definition 1 (Executability-Enabling and Resulting States). "E(c) ⊆ 2^F is the set of all states s̃ ∈ 2^F for which there exists a
+-- sequence of actions ā, such that c → ā and ā is applicable in s̃."
 abbrev pub E : (L : Library) → ℕ → State L → Type 0
-E L c s = (w : List Item) × Run L c w × Executes L w s
+E L c s = (w : List Item) × Refines L c w × Executes L w s
 
--- "R_s(c) ⊆ 2^F is the set of all (resulting) states s' ∈ 2^F for which there exists a sequence of actions ā, such that c → ā, ā is
--- applicable in s, and ā executed in s results in s'."
+-- "R_s(c) ⊆ 2^F is the set of all states into which the execution of refinements of c can result, i.e., R_s(c) is the set of all
+-- (resulting) states s' ∈ 2^F for which there exists a sequence of actions ā, such that c → ā, ā is applicable in s, and ā executed in s
+-- results in s'."
 abbrev pub R : (L : Library) → State L → ℕ → State L → Type 0
-R L s c s′ = (w : List Item) × Run L c w × Executes L w s × (end L w s ≡ s′)
+R L s c s′ = (w : List Item) × Refines L c w × Executes L w s × (end L w s ≡ s′)
 
 -- Definition 2. "post_s^+(c) := ⋂_{s' ∈ R_s(c)} s'"
 abbrev pub post+ : (L : Library) → State L → ℕ → Fact L → Type 0
@@ -47,13 +50,13 @@ post*+ L c f = (s : State L) → E L c s → post+ L s c f
 abbrev pub post*- : (L : Library) → ℕ → Fact L → Type 0
 post*- L c f = (s : State L) → E L c s → post- L s c f
 
--- "eff_*^+(c) := (⋂_{s ∈ E(c)} post_s^+(c)) \ (⋂_{s ∈ E(c)} s)"
+-- "eff_*^+(c) := (⋂_{s ∈ E(c)} post_s^+(c)) \ (⋂_{s ∈ E(c)} s)", where the first meet is post_*^+(c)
 abbrev pub eff*+ : (L : Library) → ℕ → Fact L → Type 0
-eff*+ L c f = ((s : State L) → E L c s → post+ L s c f) × ¬ ((s : State L) → E L c s → Stands L f s)
+eff*+ L c f = post*+ L c f × ¬ ((s : State L) → E L c s → Stands L f s)
 
--- "eff_*^-(c) := ⋂_{s ∈ E(c)} post_s^-(c)"
+-- "eff_*^-(c) := ⋂_{s ∈ E(c)} post_s^-(c)": "the guaranteed negative effects are identical to the guaranteed negative postconditions."
 abbrev pub eff*- : (L : Library) → ℕ → Fact L → Type 0
-eff*- L c f = (s : State L) → E L c s → post- L s c f
+eff*- L c f = post*- L c f
 
 -- "poss-post_s^+(c) := ⋃_{s' ∈ R_s(c)} s'"
 abbrev pub poss-post+ : (L : Library) → State L → ℕ → Fact L → Type 0
@@ -103,13 +106,15 @@ Required L w f =
 
 -- Definition 6 (Executability-Relaxed Precondition). "We call a fact f an executability-relaxed precondition of c if and only if for
 -- all primitive refinements (i.e., ignoring executability) <a_0 .. a_n> of c there exists an action a_i with f ∈ prec(a_i) and there
--- does not exist an action a_j with j < i and f ∈ add(a_j)". "prec^∅(c) := {f ∈ F | f is an executability-relaxed precondition of c}."
+-- does not exist an action a_j with j < i and f ∈ add(a_j), where i, j ∈ {0 .. n}. Then the set of executability-relaxed preconditions of
+-- c is prec^∅(c) := {f ∈ F | f is an executability-relaxed precondition of c}."
 abbrev pub prec∅ : (L : Library) → ℕ → Fact L → Type 0
-prec∅ L c f = (w : List Item) → Run L c w → Required L w f
+prec∅ L c f = (w : List Item) → Refines L c w → Required L w f
 
 -- Definition 7 (Possible Executability-Relaxed Precondition). "We call a fact f a possible executability-relaxed precondition of c if
 -- and only if there exists a primitive refinement (i.e., ignoring executability) <a_0 .. a_n> of c such that there exists an action
--- a_i with f ∈ prec(a_i) and there does not exist an action a_j with j < i and f ∈ add(a_j)".
--- Definition 8. "poss-prec^∅(c) := {f ∈ F | f is a possible executability-relaxed precondition of c}."
+-- a_i with f ∈ prec(a_i) and there does not exist an action a_j with j < i and f ∈ add(a_j), where i, j ∈ {0 .. n}."
+-- Definition 8 (Possible Executability-Relaxed Preconditions). "Then the set of possible executability-relaxed preconditions of c is
+-- poss-prec^0(c) := {f ∈ F | f is a possible executability-relaxed precondition of c}." Further on it is printed poss-prec^∅(c).
 abbrev pub poss-prec∅ : (L : Library) → ℕ → Fact L → Type 0
-poss-prec∅ L c f = (w : List Item) × Run L c w × Required L w f
+poss-prec∅ L c f = (w : List Item) × Refines L c w × Required L w f
