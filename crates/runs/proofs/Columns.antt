@@ -10,7 +10,7 @@ use Rattle.runs.specs.Run.{Item, Run}
 use Rattle.runs.specs.Touch.{Question, questionNumber, questionOf, rival, untouchedOn, otherTouch, HasOutcome, itemTouch}
 use Rattle.runs.specs.Touch.{outcomeOf, Mark, present, absent, untouched, Side, last, first}
 use Rattle.runs.specs.Algebra.{outcome, emptyAlgebra, sideAlgebra, sameMark, sameMark-refl, sameMark-eq}
-use Rattle.runs.specs.Possible.{Column, inColumn, questionColumn, emptyColumn, runColumn, columnPossible, possibleOutcome}
+use Rattle.runs.specs.Possible.{Column, columnHas, questionColumn, emptyColumn, runColumn, columnPossible, possibleOutcome}
 use Rattle.runs.specs.Possible.{hasRun, hasEmptyRun, brokenRule, alwaysOutcome}
 use Rattle.runs.specs.Rows.{columnNumber}
 use borrow.Author.Tests.{not-true}
@@ -20,7 +20,7 @@ use Rattle.runs.proofs.Possible.{possible-iff}
 
 -- each column: exactly when some run has its outcome
 pub column-iff : (K : Column) (L : Library) (c f : ℕ)
-    → (inColumn K L c f ≡ true) ↔ ((w : List Item) × Run L c w × (outcome (K .algebra) (K .marking L f) w ≡ K .asked))
+    → (columnHas K L c f ≡ true) ↔ ((w : List Item) × Run L c w × (outcome (K .algebra) (K .marking L f) w ≡ K .asked))
 column-iff K L c f = possible-iff (L .sequences) (K .algebra) (K .marking L f) c (K .asked)
 
 -- each question
@@ -41,12 +41,12 @@ hasRun-iff L c = (
 )
 
 -- without a run every column is blank
-pub blank-columns : (K : Column) (L : Library) (c f : ℕ) → hasRun L c ≡ false → inColumn K L c f ≡ false
+pub blank-columns : (K : Column) (L : Library) (c f : ℕ) → hasRun L c ≡ false → columnHas K L c f ≡ false
 blank-columns K L c f none =
     ⊎-elim
     (λ e. let r = column-iff K L c f .0 e in absurd (true≢false (sym (hasRun-iff L c .1 (r .0, r .1)) ∙ none)))
     (λ e. e)
-    (passes-or-not (inColumn K L c f))
+    (passes-or-not (columnHas K L c f))
 
 -- a question by its number, and its column
 pub question-number : (s : Side) (m : Mark) → questionOf (questionNumber s m) ≡ record { side = s; mark = m }

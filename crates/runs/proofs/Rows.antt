@@ -14,7 +14,7 @@ use Rattle.runs.specs.Execution.{stepOf}
 use Rattle.runs.specs.Run.{Item, alternativesOf, alternativeOf}
 use Rattle.runs.specs.Touch.{Mark, present, absent, untouched, Side, last, first, itemTouch}
 use Rattle.runs.specs.Algebra.{sideAlgebra, anyAlgebra, emptyAlgebra, sameMark}
-use Rattle.runs.specs.Possible.{Table, Column, columnOf, runColumn, emptyColumn, questionColumn, columnPossible, inColumn, can}
+use Rattle.runs.specs.Possible.{Table, Column, columnOf, runColumn, emptyColumn, questionColumn, columnPossible, columnHas, can}
 use Rattle.runs.specs.Table.{whole, noItem, Occurs, Sound, Closed}
 use Rattle.runs.specs.Reading.{entryOutcomes}
 use Rattle.runs.specs.Rows.{Row, rowOf, columnNumber, rowSide, joinSets, joinRow, startRow, stepRow, touchRow, entryRow}
@@ -205,7 +205,7 @@ module _ (L : Library) (f : ℕ) (B : ℕ → Row) where
         (λ c. table-possible (L .sequences) emptyAlgebra (emptyColumn .marking L f) noItem (λ d b. B d 1) empty-sound empty-closed c true refl)
         (λ s m c.
         table-possible (L .sequences) (sideAlgebra s) (itemTouch L s f) (whole (sideAlgebra s)) (sideTable s) (side-sound s) (side-closed s) c m tt
-        ∙ ap (λ K. inColumn K L c f) (sym (side-column s m)))
+        ∙ ap (λ K. columnHas K L c f) (sym (side-column s m)))
       where
         run-closed : Closed (L .sequences) anyAlgebra (runColumn .marking L f) (whole anyAlgebra) (λ c m. B c 0)
         run-closed c m h e =

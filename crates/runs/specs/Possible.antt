@@ -82,22 +82,22 @@ columnOf j =
     j runColumn
 
 -- some run of sequence c has the outcome of the column for fact f
-abbrev pub inColumn : Column → Library → ℕ → ℕ → Bool
-inColumn K L c f = possible (L .sequences) (K .algebra) (K .marking L f) c (K .asked)
+abbrev pub columnHas : Column → Library → ℕ → ℕ → Bool
+columnHas K L c f = possible (L .sequences) (K .algebra) (K .marking L f) c (K .asked)
 
 abbrev pub columnPossible : Library → ℕ → ℕ → ℕ → Bool
-columnPossible L j c f = inColumn (columnOf j) L c f
+columnPossible L j c f = columnHas (columnOf j) L c f
 
 -- some run of sequence c has the outcome of question q for fact f
 abbrev pub possibleOutcome : Library → Question → ℕ → ℕ → Bool
-possibleOutcome L q c f = inColumn (questionColumn q) L c f
+possibleOutcome L q c f = columnHas (questionColumn q) L c f
 
 -- "a run exists", "an empty run exists"
 abbrev pub hasRun : Library → ℕ → Bool
-hasRun L c = inColumn runColumn L c 0
+hasRun L c = columnHas runColumn L c 0
 
 abbrev pub hasEmptyRun : Library → ℕ → Bool
-hasEmptyRun L c = inColumn emptyColumn L c 0
+hasEmptyRun L c = columnHas emptyColumn L c 0
 
 -- some run breaks the rule of a touch: one of the touch's two questions is possible
 abbrev pub brokenRule : Library → Question → ℕ → ℕ → Bool

@@ -61,6 +61,15 @@ without-other a f k l u other =
     omega (arith, bit-and a (2 ^ 64 - 1 - 2 ^ f) k, bit-not 64 (2 ^ f) k small u, bit-pow f k, off, bit-le a k) in
     ap (λ (b : ℕ). eqb b 1) (ap (λ (b : ℕ). bit (difference 64 a b) k) one ∙ same)
 
+without-same : (a f : ℕ) → f < 64 → inColumn (difference 64 a (withFact 0 f)) f ≡ false
+unfolding inColumn
+without-same a f low =
+    let one : withFact 0 f ≡ 2 ^ f = or-zero-l (2 ^ f) in
+    let small : 2 ^ f < 2 ^ 64 = pow-lt low in
+    let gone : bit (difference 64 a (2 ^ f)) f ≡ 0 =
+    omega (arith, bit-and a (2 ^ 64 - 1 - 2 ^ f) f, bit-not 64 (2 ^ f) f small low, bit-pow f f, ap boolByte (eq-eqb f f refl), bit-le a f) in
+    ap (λ (b : ℕ). eqb b 1) (ap (λ (b : ℕ). bit (difference 64 a b) f) one ∙ gone)
+
 -- tests against each other
 pub back : (a b : Bool) → (a ≡ true → b ≡ true) → b ≡ false → a ≡ false
 back true b there e = absurd (false≢true (sym e ∙ there refl))
@@ -72,8 +81,9 @@ must false never = absurd (never refl)
 
 -- ---- the stale sequences
 
-pub removed : (s : List ℕ) (c v : ℕ) → v ≡ difference 64 (getD s (c / 64) 0) (withFact 0 (c % 64)) → c / 64 < length s → Removed c s (set s (c / 64) v)
-removed s c v e l d other =
+others-stay : (s : List ℕ) (c v : ℕ) → v ≡ difference 64 (getD s (c / 64) 0) (withFact 0 (c % 64)) → c / 64 < length s → (d : ℕ) → (d ≡ c → ⊥)
+    → isStale (set s (c / 64) v) d ≡ isStale s d
+others-stay s c v e l d other =
     elim (ℕ-discrete (d / 64) (c / 64)) [
       | yes same ↦
           ap (λ (k : ℕ). inColumn (getD (set s (c / 64) v) k 0) (d % 64)) same
@@ -82,6 +92,13 @@ removed s c v e l d other =
           ∙ ap (λ (k : ℕ). inColumn (getD s k 0) (d % 64)) (sym same)
       | no apart ↦ ap (λ (w : ℕ). inColumn w (d % 64)) (getD-set-other s (c / 64) (d / 64) v 0 apart)
     ]
+
+pub removed : (s : List ℕ) (c v : ℕ) → v ≡ difference 64 (getD s (c / 64) 0) (withFact 0 (c % 64)) → c / 64 < length s → Removed c s (set s (c / 64) v)
+removed s c v e l =
+    record {
+      out = ap (λ (w : ℕ). inColumn w (c % 64)) (getD-set-same s (c / 64) v 0 l ∙ e) ∙ without-same (getD s (c / 64) 0) (c % 64) (omega arith);
+      others = others-stay s c v e l;
+    }
 
 -- the words one after the other
 pub united : (d : ℕ) (callers s : List ℕ) (v₀ v₁ v₂ v₃ : ℕ) → length s ≡ 4 → v₀ ≡ bitOr (getD s 0 0) (getD callers (4 * d) 0)
@@ -112,12 +129,12 @@ united-out d callers s s′ words c l e =
 -- ---- a visit
 
 pub freshened-same : (n : ℕ) (callers : List ℕ) (c : ℕ) (s s′ : List ℕ) → Removed c s s′ → Freshened n callers c s s′ false
-freshened-same n callers c s s′ out d l e = (λ other. sym (out d other) ∙ e, λ q. absurd (false≢true q))
+freshened-same n callers c s s′ out d l e = (λ other. sym (out .others d other) ∙ e, λ q. absurd (false≢true q))
 
 pub freshened-changed : (n : ℕ) (callers : List ℕ) (c : ℕ) (s s′ s″ : List ℕ) → n ≤ 256 → Removed c s s′ → United c callers s′ s″ → Freshened n callers c s s″ true
 freshened-changed n callers c s s′ s″ few out words d l e =
     let before = united-out c callers s′ s″ words d (omega arith) e in
-    (λ other. sym (out d other) ∙ before .0, λ q. before .1)
+    (λ other. sym (out .others d other) ∙ before .0, λ q. before .1)
 
 -- ---- the callers
 

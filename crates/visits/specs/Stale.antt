@@ -38,8 +38,9 @@ abbrev pub calls : List ℕ → List ℕ → ℕ → ℕ → Bool
 calls part places c d = callsIn d (drop (getD places c 0 + 1) part)
 
 -- sequence c is taken out, and none else
-abbrev pub Removed : ℕ → List ℕ → List ℕ → Type 0
-Removed c before after = (d : ℕ) → (d ≡ c → ⊥) → isStale after d ≡ isStale before d
+pub record Removed (c : ℕ) (before after : List ℕ) : Type 0 where
+  pub out : isStale after c ≡ false
+  pub others : (d : ℕ) → (d ≡ c → ⊥) → isStale after d ≡ isStale before d
 
 -- the callers of sequence d are put in
 abbrev pub United : ℕ → List ℕ → List ℕ → List ℕ → Type 0
