@@ -9,12 +9,16 @@
  * a step that does neither, and <..> is an alternative with its entries.
  */
 #include "harness.h"
+#include "samples.h"
 
 /*
  * The chain area under test, with guard words on both sides, and what it has to
- * be after the call.
+ * be after the call. A long area has 3 words more than any chain.
  */
-enum { CHAIN = 2 * 256 + 3, CHAIN_AREA = GUARD + CHAIN + GUARD };
+enum {
+    LONG_AREA = DULIMOVEN_MOST_CHAIN_WORDS + 3,
+    CHAIN_AREA = GUARD + LONG_AREA + GUARD
+};
 static uint32_t chain_area[CHAIN_AREA];
 static uint32_t expected_area[CHAIN_AREA];
 
@@ -66,7 +70,7 @@ static void shown(const char *name, uint64_t sequence, uint64_t question,
     uint64_t links = count / 2;
     chain(name, sequence, question, fact, count, links, given, count);
     chain(name, sequence, question, fact, count + 1, links, given, count);
-    chain(name, sequence, question, fact, CHAIN, links, given, count);
+    chain(name, sequence, question, fact, LONG_AREA, links, given, count);
     chain(name, sequence, question, fact, 0, REFUSED(12, 0), NULL, 0);
     chain(name, sequence, question, fact, count - 1, REFUSED(12, 0), NULL, 0);
 }
@@ -84,7 +88,7 @@ static void unwritten(const char *name, uint64_t sequence, uint64_t question,
 {
     chain(name, sequence, question, fact, 0, expected, NULL, 0);
     chain(name, sequence, question, fact, 1, expected, NULL, 0);
-    chain(name, sequence, question, fact, CHAIN, expected, NULL, 0);
+    chain(name, sequence, question, fact, LONG_AREA, expected, NULL, 0);
     hold(name, dulimoven_chain(area + GUARD, words, sequence, question, fact,
                                NULL, 0) == expected);
 }
@@ -98,39 +102,36 @@ static void none(const char *name, uint64_t sequence, uint64_t question,
 /* The chain samples of document 01, their words as printed there. */
 static void samples(void)
 {
-    static const uint32_t two_links[] = {0xa0000001, 0xb0000000, 0xa0000000,
-                                         0xb0000000};
-    build(library_l, 19);
-    hold("L has its sum word", area[GUARD + 19] == library_l[19]);
-    SHOWN("L, 1, question 2, fact 0", 1, 2, 0, 0xa0000001, 0xc0000000);
-    shown("L, 1, question 0, fact 0", 1, 0, 0, two_links, 4);
+    build(library_l, L_SUM);
+    hold("L has its sum word", *word_at(L_SUM) == library_l[L_SUM]);
+    shown("L, 1, question 2, fact 0", 1, 2, 0, untouched_in_l,
+          COUNT(untouched_in_l));
+    shown("L, 1, question 0, fact 0", 1, 0, 0, set_in_l, COUNT(set_in_l));
     chain("L, 1, question 0, fact 0, an area of 3 words", 1, 0, 0, 3,
           REFUSED(12, 0), NULL, 0);
     none("L, 1, question 1, fact 1", 1, 1, 1);
     none("L, 2, question 2, fact 0", 2, 2, 0);
     unwritten("L, sequence 3", 3, 0, 0, REFUSED(9, 0));
+    unwritten("L, question 6, fact 3", 0, 6, 3, REFUSED(10, 0));
     unwritten("L, question 6, fact 3", 1, 6, 3, REFUSED(10, 0));
 
-    /* the word pairs that are printed there: no sequence, and no fact */
     start();
-    put(0x10000001);
-    put(0xf0000002);
+    put_all(no_sequence, COUNT(no_sequence));
     unwritten("no sequence, sequence 0", 0, 0, 0, REFUSED(9, 0));
     start();
-    put(0x10000000);
-    put(0xf0000001);
+    put_all(no_fact, COUNT(no_fact));
     unwritten("no fact", 0, 0, 0, REFUSED(3, 0));
+    unwritten("no fact, and 9, 10 and 11", 3, 6, 3, REFUSED(3, 0));
 
     /* <itself>, <>: the only finite choice is alternative 1 */
-    BUILD(HEAD(1, 0, 1), SEQUENCE(0), ALTERNATIVE, ENTRY_SEQUENCE(0),
-          ALTERNATIVE);
+    BUILD(HEAD(1, 0, 1), SEQUENCE(0), ALTERNATIVE, CALL(0), ALTERNATIVE);
     SHOWN("<itself>, <>, question 2", 0, 2, 0, CHOICE(0, 1), UNTOUCHED);
     SHOWN("<itself>, <>, question 5", 0, 5, 0, CHOICE(0, 1), UNTOUCHED);
 
     /* always cleared: 0 and 2 have no chain, 1 has alternative 1's step */
-    BUILD(HEAD(1, 2, 2), STEP(0), SETS(0), STEP(1), CLEARS(0), SEQUENCE(0),
-          ALTERNATIVE, ENTRY_STEP(0), ENTRY_SEQUENCE(1), ALTERNATIVE,
-          ENTRY_STEP(1), SEQUENCE(1), ALTERNATIVE, ENTRY_SEQUENCE(1));
+    BUILD(HEAD(1, 2, 2), STEP(0), SETS(0), STEP(1), CLEARS(0),
+          SEQUENCE(0), ALTERNATIVE, DO(0), CALL(1), ALTERNATIVE, DO(1),
+          SEQUENCE(1), ALTERNATIVE, CALL(1));
     none("<set, endless>, <clear>, question 0", 0, 0, 0);
     SHOWN("<set, endless>, <clear>, question 1", 0, 1, 0, CHOICE(0, 1), AT(0));
     none("<set, endless>, <clear>, question 2", 0, 2, 0);
@@ -141,28 +142,26 @@ static void samples(void)
 
     /* always needed: a clear is no touch on the first side, so the first touch
        is the need at position 1 */
-    BUILD(HEAD(1, 2, 1), STEP(0), CLEARS(0), STEP(1), NEEDS(0), SEQUENCE(0),
-          ALTERNATIVE, ENTRY_STEP(0), ENTRY_STEP(1));
+    BUILD(HEAD(1, 2, 1), STEP(0), CLEARS(0), STEP(1), NEEDS(0),
+          SEQUENCE(0), ALTERNATIVE, DO(0), DO(1));
     SHOWN("<clear, need>, question 3", 0, 3, 0, CHOICE(0, 0), AT(1));
     none("<clear, need>, question 4", 0, 4, 0);
     none("<clear, need>, question 5", 0, 5, 0);
     SHOWN("<clear, need>, question 1", 0, 1, 0, CHOICE(0, 0), AT(0));
 
     /* set and cleared by one step means set */
-    BUILD(HEAD(1, 1, 1), STEP(0), SETS(0), CLEARS(0), SEQUENCE(0), ALTERNATIVE,
-          ENTRY_STEP(0));
+    BUILD(HEAD(1, 1, 1), STEP(0), SETS(0), CLEARS(0),
+          SEQUENCE(0), ALTERNATIVE, DO(0));
     SHOWN("<set and clear>, question 0", 0, 0, 0, CHOICE(0, 0), AT(0));
     none("<set and clear>, question 1", 0, 1, 0);
     none("<set and clear>, question 2", 0, 2, 0);
 
     /* 64 facts are read, 65 are not */
-    BUILD(HEAD(64, 1, 1), STEP(0), SETS(63), SEQUENCE(0), ALTERNATIVE,
-          ENTRY_STEP(0));
+    BUILD(HEAD(64, 1, 1), STEP(0), SETS(63), SEQUENCE(0), ALTERNATIVE, DO(0));
     SHOWN("fact 63 of 64", 0, 0, 63, CHOICE(0, 0), AT(0));
     SHOWN("fact 62 of 64", 0, 2, 62, CHOICE(0, 0), UNTOUCHED);
     unwritten("fact 64 of 64", 0, 0, 64, REFUSED(11, 0));
-    BUILD(HEAD(65, 1, 1), STEP(0), SETS(63), SEQUENCE(0), ALTERNATIVE,
-          ENTRY_STEP(0));
+    BUILD(HEAD(65, 1, 1), STEP(0), SETS(63), SEQUENCE(0), ALTERNATIVE, DO(0));
     unwritten("fact 63 of 65", 0, 0, 63, REFUSED(3, 0));
 }
 
@@ -188,25 +187,25 @@ static void every_question_of_l(void)
         uint64_t sequence, question, fact, links;
         uint32_t given[4];
     } chains[] = {
-        {0, 0, 0, 1, {0xa0000000, 0xb0000000, 0, 0}},
-        {0, 2, 0, 1, {0xa0000100, 0xc0000000, 0, 0}},
-        {0, 4, 0, 1, {0xa0000000, 0xb0000000, 0, 0}},
-        {0, 5, 0, 1, {0xa0000100, 0xc0000000, 0, 0}},
-        {0, 2, 1, 1, {0xa0000000, 0xc0000000, 0, 0}},
-        {0, 5, 1, 1, {0xa0000000, 0xc0000000, 0, 0}},
-        {0, 2, 2, 1, {0xa0000000, 0xc0000000, 0, 0}},
-        {0, 5, 2, 1, {0xa0000000, 0xc0000000, 0, 0}},
-        {1, 0, 0, 2, {0xa0000001, 0xb0000000, 0xa0000000, 0xb0000000}},
-        {1, 2, 0, 1, {0xa0000001, 0xc0000000, 0, 0}},
-        {1, 3, 0, 1, {0xa0000001, 0xb0000001, 0, 0}},
-        {1, 4, 0, 2, {0xa0000001, 0xb0000000, 0xa0000000, 0xb0000000}},
-        {1, 0, 1, 1, {0xa0000001, 0xb0000001, 0, 0}},
-        {1, 4, 1, 1, {0xa0000001, 0xb0000001, 0, 0}},
-        {1, 2, 2, 1, {0xa0000001, 0xc0000000, 0, 0}},
-        {1, 5, 2, 1, {0xa0000001, 0xc0000000, 0, 0}},
+        {0, 0, 0, 1, {CHOICE(0, 0), AT(0), 0, 0}},
+        {0, 2, 0, 1, {CHOICE(0, 1), UNTOUCHED, 0, 0}},
+        {0, 4, 0, 1, {CHOICE(0, 0), AT(0), 0, 0}},
+        {0, 5, 0, 1, {CHOICE(0, 1), UNTOUCHED, 0, 0}},
+        {0, 2, 1, 1, {CHOICE(0, 0), UNTOUCHED, 0, 0}},
+        {0, 5, 1, 1, {CHOICE(0, 0), UNTOUCHED, 0, 0}},
+        {0, 2, 2, 1, {CHOICE(0, 0), UNTOUCHED, 0, 0}},
+        {0, 5, 2, 1, {CHOICE(0, 0), UNTOUCHED, 0, 0}},
+        {1, 0, 0, 2, {CHOICE(1, 0), AT(0), CHOICE(0, 0), AT(0)}},
+        {1, 2, 0, 1, {CHOICE(1, 0), UNTOUCHED, 0, 0}},
+        {1, 3, 0, 1, {CHOICE(1, 0), AT(1), 0, 0}},
+        {1, 4, 0, 2, {CHOICE(1, 0), AT(0), CHOICE(0, 0), AT(0)}},
+        {1, 0, 1, 1, {CHOICE(1, 0), AT(1), 0, 0}},
+        {1, 4, 1, 1, {CHOICE(1, 0), AT(1), 0, 0}},
+        {1, 2, 2, 1, {CHOICE(1, 0), UNTOUCHED, 0, 0}},
+        {1, 5, 2, 1, {CHOICE(1, 0), UNTOUCHED, 0, 0}},
     };
     uint64_t sequence, question, fact;
-    build(library_l, 19);
+    build(library_l, L_SUM);
     for (sequence = 0; sequence < 3; sequence++) {
         for (question = 0; question < 6; question++) {
             for (fact = 0; fact < 3; fact++) {
@@ -236,8 +235,9 @@ static void order(void)
                                     UINT64_C(0x8000000000000000),
                                     UINT64_C(0xffffffff00000000)};
     static const uint64_t all = UINT64_C(0xffffffffffffffff);
+    uint64_t low;
     size_t i;
-    build(library_l, 19);
+    build(library_l, L_SUM);
 
     unwritten("9, 10 and 11", 3, 6, 3, REFUSED(9, 0));
     unwritten("9 and 10", 3, 6, 2, REFUSED(9, 0));
@@ -246,6 +246,7 @@ static void order(void)
     unwritten("10 and 11", 2, 6, 3, REFUSED(10, 0));
     unwritten("10", 2, 6, 2, REFUSED(10, 0));
     unwritten("11", 2, 5, 3, REFUSED(11, 0));
+    unwritten("11, sequence 0", 0, 0, 3, REFUSED(11, 0));
     unwritten("none of them", 2, 5, 2, 0);
     /* 12 is for a chain that exists, with the other three in order */
     chain("12", 1, 0, 0, 3, REFUSED(12, 0), NULL, 0);
@@ -253,16 +254,20 @@ static void order(void)
     chain("10 before 12", 1, 256, 0, 3, REFUSED(10, 0), NULL, 0);
     chain("11 before 12", 1, 0, 256, 3, REFUSED(11, 0), NULL, 0);
 
-    /* the low bits are sequence 1, question 0, fact 0, which have a chain */
+    /* the low bits are sequence 0 or 1, question 0, fact 0, which have a
+       chain */
     for (i = 0; i < COUNT(high); i++) {
-        unwritten("a long sequence", high[i] + 1, 0, 0, REFUSED(9, 0));
-        unwritten("a long question", 1, high[i], 0, REFUSED(10, 0));
-        unwritten("a long question, 2", 1, high[i] + 2, 0, REFUSED(10, 0));
-        unwritten("a long fact", 1, 0, high[i], REFUSED(11, 0));
-        unwritten("a long question and fact", 1, high[i], high[i],
-                  REFUSED(10, 0));
-        unwritten("three long numbers", high[i] + 1, high[i], high[i],
-                  REFUSED(9, 0));
+        for (low = 0; low < 2; low++) {
+            unwritten("a long sequence", high[i] + low, 0, 0, REFUSED(9, 0));
+            unwritten("a long question", low, high[i], 0, REFUSED(10, 0));
+            unwritten("a long question, 2", low, high[i] + 2, 0,
+                      REFUSED(10, 0));
+            unwritten("a long fact", low, 0, high[i], REFUSED(11, 0));
+            unwritten("a long question and fact", low, high[i], high[i],
+                      REFUSED(10, 0));
+            unwritten("three long numbers", high[i] + low, high[i], high[i],
+                      REFUSED(9, 0));
+        }
     }
     unwritten("the greatest sequence", all, 0, 0, REFUSED(9, 0));
     unwritten("the greatest question", 1, all, 0, REFUSED(10, 0));
@@ -285,14 +290,14 @@ static void refusals(void)
         unwritten("1: no word", n, n, n, REFUSED(1, 0));
         put(HEAD(1, 0, 0));
         unwritten("1: one word", n, n, n, REFUSED(1, 0));
-        build(library_l, 19);
-        area[GUARD + 19] ^= 1;
-        unwritten("2: L with a wrong sum word", n, n, n, REFUSED(2, 19));
-        BUILD(HEAD(65, 0, 1), SEQUENCE(0));
-        unwritten("3: F = 65", n, n, n, REFUSED(3, 0));
+        build(library_l, L_SUM);
+        miss_sum(1);
+        unwritten("2: L with a wrong sum word", n, n, n, REFUSED(2, L_SUM));
+        BUILD(HEAD(MOST_F + 1, 0, 1), SEQUENCE(0));
+        unwritten("3: F above the greatest", n, n, n, REFUSED(3, 0));
         BUILD(HEAD(1, 0, 1), SEQUENCE(0), WORD(0, 0));
         unwritten("4: kind 0", n, n, n, REFUSED(4, 2));
-        BUILD(HEAD(1, 0, 1), SEQUENCE(0), WORD(7, 1));
+        BUILD(HEAD(1, 0, 1), SEQUENCE(0), WORD(KIND_ALTERNATIVE, 1));
         unwritten("5: an alternative with payload 1", n, n, n, REFUSED(5, 2));
         BUILD(HEAD(1, 1, 1), STEP(0), SETS(0), SETS(0), SEQUENCE(0));
         unwritten("6: a fact word twice", n, n, n, REFUSED(6, 3));
@@ -302,8 +307,7 @@ static void refusals(void)
              dulimoven_chain(NULL, 0, n, n, n, NULL, 0) == REFUSED(1, 0));
     }
     start();
-    while (words < 8193)
-        put(WORD(15, 0));
+    fill(WORD(KIND_SUM, 0), FULL + 1);
     unwritten("1: 8,193 words", 0, 0, 0, REFUSED(1, 0));
 }
 
@@ -314,19 +318,19 @@ static void refusals(void)
 #define STEPS                                                         \
     STEP(0), SETS(0), STEP(1), CLEARS(0), STEP(2), NEEDS(0), STEP(3), \
         STEP(4), NEEDS(0), SETS(0)
-#define SET ENTRY_STEP(0)
-#define CLEAR ENTRY_STEP(1)
-#define NEED ENTRY_STEP(2)
-#define OTHER ENTRY_STEP(3)
-#define NEED_SET ENTRY_STEP(4)
+#define SET DO(0)
+#define CLEAR DO(1)
+#define NEED DO(2)
+#define OTHER DO(3)
+#define NEED_SET DO(4)
 
 /* What counts as a touch, and which touch decides. */
 static void sides(void)
 {
     /* last side: the clear at 2 is the last touch. First side: the need at 0 is
        the first; the other two questions of each side have no chain. */
-    BUILD(HEAD(1, 5, 1), STEPS, SEQUENCE(0), ALTERNATIVE, NEED, SET, CLEAR,
-          OTHER);
+    BUILD(HEAD(1, 5, 1), STEPS,
+          SEQUENCE(0), ALTERNATIVE, NEED, SET, CLEAR, OTHER);
     none("<need, set, clear, other>, 0", 0, 0, 0);
     SHOWN("<need, set, clear, other>, 1", 0, 1, 0, CHOICE(0, 0), AT(2));
     none("<need, set, clear, other>, 2", 0, 2, 0);
@@ -340,14 +344,15 @@ static void sides(void)
     none("<clear, set, need>, 1", 0, 1, 0);
     none("<clear, set, need>, 3", 0, 3, 0);
     SHOWN("<clear, set, need>, 4", 0, 4, 0, CHOICE(0, 0), AT(1));
-    BUILD(HEAD(1, 5, 2), STEPS, SEQUENCE(0), ALTERNATIVE, NEED, SEQUENCE(1),
-          ALTERNATIVE, CLEAR);
+    BUILD(HEAD(1, 5, 2), STEPS,
+          SEQUENCE(0), ALTERNATIVE, NEED,
+          SEQUENCE(1), ALTERNATIVE, CLEAR);
     SHOWN("<need>, 2", 0, 2, 0, CHOICE(0, 0), UNTOUCHED);
     none("<need>, 5", 0, 5, 0);
     none("<clear>, 2", 1, 2, 0);
     SHOWN("<clear>, 5", 1, 5, 0, CHOICE(1, 0), UNTOUCHED);
 
-    /* a step that needs and sets: it sets on the last side, needs on the first */
+    /* a step that needs and sets sets on the last side, needs on the first */
     BUILD(HEAD(1, 5, 1), STEPS, SEQUENCE(0), ALTERNATIVE, NEED_SET);
     SHOWN("<need and set>, 0", 0, 0, 0, CHOICE(0, 0), AT(0));
     SHOWN("<need and set>, 3", 0, 3, 0, CHOICE(0, 0), AT(0));
@@ -355,29 +360,34 @@ static void sides(void)
 
     /* past sequence 1, which always clears or needs, nothing is seen; past
        sequence 2, <clear>, <> or <need>, <>, it is */
-    BUILD(HEAD(1, 5, 3), STEPS, SEQUENCE(0), ALTERNATIVE, SET,
-          ENTRY_SEQUENCE(1), ALTERNATIVE, SET, ENTRY_SEQUENCE(2), SEQUENCE(1),
-          ALTERNATIVE, CLEAR, SEQUENCE(2), ALTERNATIVE, CLEAR, ALTERNATIVE);
+    BUILD(HEAD(1, 5, 3), STEPS,
+          SEQUENCE(0), ALTERNATIVE, SET, CALL(1), ALTERNATIVE, SET, CALL(2),
+          SEQUENCE(1), ALTERNATIVE, CLEAR,
+          SEQUENCE(2), ALTERNATIVE, CLEAR, ALTERNATIVE);
     SHOWN("<set, clears>, <set, may clear>, 0", 0, 0, 0, CHOICE(0, 1), AT(0));
-    BUILD(HEAD(1, 5, 3), STEPS, SEQUENCE(0), ALTERNATIVE, ENTRY_SEQUENCE(1),
-          SET, ALTERNATIVE, ENTRY_SEQUENCE(2), SET, SEQUENCE(1), ALTERNATIVE,
-          NEED, SEQUENCE(2), ALTERNATIVE, NEED, ALTERNATIVE);
+    BUILD(HEAD(1, 5, 3), STEPS,
+          SEQUENCE(0), ALTERNATIVE, CALL(1), SET, ALTERNATIVE, CALL(2), SET,
+          SEQUENCE(1), ALTERNATIVE, NEED,
+          SEQUENCE(2), ALTERNATIVE, NEED, ALTERNATIVE);
     SHOWN("<needs, set>, <may need, set>, 4", 0, 4, 0, CHOICE(0, 1), AT(1));
 
     /* the other way round an entry must have a run, and no more is asked of it:
        sequence 1 always clears or needs, sequence 2 is endless */
-    BUILD(HEAD(1, 5, 3), STEPS, SEQUENCE(0), ALTERNATIVE, ENTRY_SEQUENCE(2),
-          SET, ALTERNATIVE, ENTRY_SEQUENCE(1), SET, SEQUENCE(1), ALTERNATIVE,
-          CLEAR, SEQUENCE(2), ALTERNATIVE, ENTRY_SEQUENCE(2));
+    BUILD(HEAD(1, 5, 3), STEPS,
+          SEQUENCE(0), ALTERNATIVE, CALL(2), SET, ALTERNATIVE, CALL(1), SET,
+          SEQUENCE(1), ALTERNATIVE, CLEAR,
+          SEQUENCE(2), ALTERNATIVE, CALL(2));
     SHOWN("<endless, set>, <clears, set>, 0", 0, 0, 0, CHOICE(0, 1), AT(1));
-    BUILD(HEAD(1, 5, 3), STEPS, SEQUENCE(0), ALTERNATIVE, SET,
-          ENTRY_SEQUENCE(2), ALTERNATIVE, SET, ENTRY_SEQUENCE(1), SEQUENCE(1),
-          ALTERNATIVE, NEED, SEQUENCE(2), ALTERNATIVE, ENTRY_SEQUENCE(2));
+    BUILD(HEAD(1, 5, 3), STEPS,
+          SEQUENCE(0), ALTERNATIVE, SET, CALL(2), ALTERNATIVE, SET, CALL(1),
+          SEQUENCE(1), ALTERNATIVE, NEED,
+          SEQUENCE(2), ALTERNATIVE, CALL(2));
     SHOWN("<set, endless>, <set, needs>, 4", 0, 4, 0, CHOICE(0, 1), AT(0));
 
     /* no alternative, no run: none of the six */
-    BUILD(HEAD(1, 5, 2), STEPS, SEQUENCE(0), SEQUENCE(1), ALTERNATIVE, SET,
-          ENTRY_SEQUENCE(0), NEED);
+    BUILD(HEAD(1, 5, 2), STEPS,
+          SEQUENCE(0),
+          SEQUENCE(1), ALTERNATIVE, SET, CALL(0), NEED);
     {
         uint64_t question;
         for (question = 0; question < 6; question++) {
@@ -387,24 +397,25 @@ static void sides(void)
     }
 }
 
-/* "The chain has the fewest links", then the lowest alternative and position. */
+/* "The chain has the fewest links", then lowest alternative and position. */
 static void fewest(void)
 {
     /* sequence 1 is <set>, <>. Alternative 0 has 2 links, by its call; 1 has 2,
        by position 0 or 1; 2 has 1, by its step at 1: the call at 2 would make 2
        and the call at 0 is no choice, for the step sets after it */
-    BUILD(HEAD(1, 5, 2), STEPS, SEQUENCE(0), ALTERNATIVE, ENTRY_SEQUENCE(1),
-          ALTERNATIVE, ENTRY_SEQUENCE(1), ENTRY_SEQUENCE(1), ALTERNATIVE,
-          ENTRY_SEQUENCE(1), SET, ENTRY_SEQUENCE(1), SEQUENCE(1), ALTERNATIVE,
-          SET, ALTERNATIVE);
+    BUILD(HEAD(1, 5, 2), STEPS,
+          SEQUENCE(0), ALTERNATIVE, CALL(1), ALTERNATIVE, CALL(1), CALL(1),
+              ALTERNATIVE, CALL(1), SET, CALL(1),
+          SEQUENCE(1), ALTERNATIVE, SET, ALTERNATIVE);
     SHOWN("fewest, last side", 0, 0, 0, CHOICE(0, 2), AT(1));
     SHOWN("fewest, first side", 0, 4, 0, CHOICE(0, 2), AT(1));
 
     /* without the step: 2 links in each alternative, so the lowest, 0. Other is
-       at 0, the calls at 1 and 2 have 2 links each: the lowest, 1. Sequence 1 is
-       <>, <set>, <set>: the lowest that sets, 1. */
-    BUILD(HEAD(1, 5, 2), STEPS, SEQUENCE(0), ALTERNATIVE, OTHER,
-          ENTRY_SEQUENCE(1), ENTRY_SEQUENCE(1), ALTERNATIVE, ENTRY_SEQUENCE(1),
+       at 0, the calls at 1 and 2 have 2 links each: the lowest, 1. Sequence 1
+       is <>, <set>, <set>: the lowest that sets, 1. */
+    BUILD(HEAD(1, 5, 2), STEPS,
+          SEQUENCE(0), ALTERNATIVE, OTHER, CALL(1), CALL(1),
+              ALTERNATIVE, CALL(1),
           SEQUENCE(1), ALTERNATIVE, ALTERNATIVE, SET, ALTERNATIVE, SET);
     SHOWN("ties, last side", 0, 0, 0, CHOICE(0, 0), AT(1), CHOICE(1, 1), AT(0));
     SHOWN("ties, first side", 0, 4, 0, CHOICE(0, 0), AT(1), CHOICE(1, 1),
@@ -412,8 +423,8 @@ static void fewest(void)
 
     /* position before alternative would be wrong: alternative 0 has its step at
        2, alternative 1 at 0 */
-    BUILD(HEAD(1, 5, 1), STEPS, SEQUENCE(0), ALTERNATIVE, OTHER, OTHER, SET,
-          ALTERNATIVE, SET);
+    BUILD(HEAD(1, 5, 1), STEPS,
+          SEQUENCE(0), ALTERNATIVE, OTHER, OTHER, SET, ALTERNATIVE, SET);
     SHOWN("the alternative first, last side", 0, 0, 0, CHOICE(0, 0), AT(2));
     SHOWN("the alternative first, first side", 0, 4, 0, CHOICE(0, 0), AT(2));
 
@@ -421,21 +432,23 @@ static void fewest(void)
        more links. By links to a need: sequence 3 has 1, <need>; 2 has 2, <3>; 1
        has 2, by its alternative 1, <3> (alternative 0, <2>, has 3); 0 has 3, by
        either alternative: <2> is alternative 1, <1> is alternative 0. */
-    BUILD(HEAD(1, 5, 4), STEPS, SEQUENCE(0), ALTERNATIVE, ENTRY_SEQUENCE(1),
-          ALTERNATIVE, ENTRY_SEQUENCE(2), SEQUENCE(1), ALTERNATIVE,
-          ENTRY_SEQUENCE(2), ALTERNATIVE, ENTRY_SEQUENCE(3), SEQUENCE(2),
-          ALTERNATIVE, ENTRY_SEQUENCE(3), SEQUENCE(3), ALTERNATIVE, NEED);
+    BUILD(HEAD(1, 5, 4), STEPS,
+          SEQUENCE(0), ALTERNATIVE, CALL(1), ALTERNATIVE, CALL(2),
+          SEQUENCE(1), ALTERNATIVE, CALL(2), ALTERNATIVE, CALL(3),
+          SEQUENCE(2), ALTERNATIVE, CALL(3),
+          SEQUENCE(3), ALTERNATIVE, NEED);
     SHOWN("at each link, 0", 0, 3, 0, CHOICE(0, 0), AT(0), CHOICE(1, 1), AT(0),
           CHOICE(3, 0), AT(0));
     SHOWN("at each link, 1", 1, 3, 0, CHOICE(1, 1), AT(0), CHOICE(3, 0), AT(0));
     SHOWN("at each link, 2", 2, 3, 0, CHOICE(2, 0), AT(0), CHOICE(3, 0), AT(0));
 
-    /* calls of itself and in a ring: sequence 0 is <0, need>, <1>; sequence 1 is
-       <0>, <need, clear>. A chain through <0, need> has one link more than the
-       chain that it calls for, so the fewest is <1>, then the clear at 1. */
-    BUILD(HEAD(1, 5, 2), STEPS, SEQUENCE(0), ALTERNATIVE, ENTRY_SEQUENCE(0),
-          NEED, ALTERNATIVE, ENTRY_SEQUENCE(1), SEQUENCE(1), ALTERNATIVE,
-          ENTRY_SEQUENCE(0), ALTERNATIVE, NEED, CLEAR);
+    /* calls of itself and in a ring: sequence 0 is <0, need>, <1>; sequence 1
+       is <0>, <need, clear>. A chain through <0, need> has one link more than
+       the chain that it calls for, so the fewest is <1>, then the clear at 1.
+     */
+    BUILD(HEAD(1, 5, 2), STEPS,
+          SEQUENCE(0), ALTERNATIVE, CALL(0), NEED, ALTERNATIVE, CALL(1),
+          SEQUENCE(1), ALTERNATIVE, CALL(0), ALTERNATIVE, NEED, CLEAR);
     SHOWN("a ring, 0, question 1", 0, 1, 0, CHOICE(0, 1), AT(0), CHOICE(1, 1),
           AT(1));
     SHOWN("a ring, 1, question 1", 1, 1, 0, CHOICE(1, 1), AT(1));
@@ -446,13 +459,61 @@ static void fewest(void)
     none("a ring, 0, question 5", 0, 5, 0);
 }
 
-#define DEPTHS(touch)                                                      \
-    HEAD(1, 5, 4), STEPS, SEQUENCE(0), ALTERNATIVE, ENTRY_SEQUENCE(3),     \
-        ENTRY_SEQUENCE(1), ALTERNATIVE, ENTRY_SEQUENCE(2),                 \
-        ENTRY_SEQUENCE(2), ENTRY_SEQUENCE(2), ALTERNATIVE,                 \
-        ENTRY_SEQUENCE(2), ALTERNATIVE, ENTRY_SEQUENCE(3), touch,          \
-        SEQUENCE(1), ALTERNATIVE, ENTRY_SEQUENCE(2), SEQUENCE(2),          \
-        ALTERNATIVE, ENTRY_SEQUENCE(3), SEQUENCE(3), ALTERNATIVE
+/* Chains with a choice, in one library. */
+static void choices(void)
+{
+    BUILD(HEAD(1, 5, 4), STEPS,
+          SEQUENCE(0), ALTERNATIVE, CALL(1), ALTERNATIVE, OTHER, SET,
+              ALTERNATIVE, OTHER,
+          SEQUENCE(1), ALTERNATIVE, SET, CLEAR, ALTERNATIVE, CALL(2), CALL(2),
+              ALTERNATIVE, CALL(2),
+          SEQUENCE(2), ALTERNATIVE, SET, ALTERNATIVE, OTHER,
+          SEQUENCE(3), ALTERNATIVE, CLEAR, CALL(3),
+              ALTERNATIVE, CALL(2), NEED, SET);
+
+    /* sequence 0, last set: alternative 0 calls sequence 1, which takes 2 links
+       more; the set at position 1 of alternative 1 ends the chain */
+    SHOWN("choices, 0, question 0", 0, 0, 0, CHOICE(0, 1), AT(1));
+    /* last cleared: by sequence 1, whose alternative 0 ends with a clear */
+    SHOWN("choices, 0, question 1", 0, 1, 0, CHOICE(0, 0), AT(0), CHOICE(1, 0),
+          AT(1));
+    /* untouched on either side: alternative 0 calls sequence 1, which calls
+       sequence 2; alternative 2 has a step alone, the least depth */
+    SHOWN("choices, 0, question 2", 0, 2, 0, CHOICE(0, 2), UNTOUCHED);
+    SHOWN("choices, 0, question 5", 0, 5, 0, CHOICE(0, 2), UNTOUCHED);
+
+    /* sequence 1, last set: the clear after the set rules alternative 0 out; of
+       alternative 1 the first call, since the second can stay untouched */
+    SHOWN("choices, 1, question 0", 1, 0, 0, CHOICE(1, 1), AT(0), CHOICE(2, 0),
+          AT(0));
+    /* first set: on this side the set decides, whatever clears after it */
+    SHOWN("choices, 1, question 4", 1, 4, 0, CHOICE(1, 0), AT(0));
+    /* untouched: alternatives 1 and 2 are equally deep */
+    SHOWN("choices, 1, question 2", 1, 2, 0, CHOICE(1, 1), UNTOUCHED);
+
+    /* sequence 3, last set: the set ends alternative 1; alternative 0 takes a
+       link more, by the sequence itself */
+    SHOWN("choices, 3, question 0", 3, 0, 0, CHOICE(3, 1), AT(2));
+    /* first needed: by the need, since sequence 2 before it can stay
+       untouched */
+    SHOWN("choices, 3, question 3", 3, 3, 0, CHOICE(3, 1), AT(1));
+    /* first set: by sequence 2 alone, since the need comes before the set */
+    SHOWN("choices, 3, question 4", 3, 4, 0, CHOICE(3, 1), AT(0), CHOICE(2, 0),
+          AT(0));
+    /* last cleared, and untouched: every run ends with the set, though
+       alternative 0 begins with a clear; and every run has a need or a set */
+    none("choices, 3, question 1", 3, 1, 0);
+    none("choices, 3, question 5", 3, 5, 0);
+}
+
+#define DEPTHS(touch)                                                     \
+    HEAD(1, 5, 4), STEPS,                                                 \
+        SEQUENCE(0), ALTERNATIVE, CALL(3), CALL(1),                       \
+            ALTERNATIVE, CALL(2), CALL(2), CALL(2), ALTERNATIVE, CALL(2), \
+            ALTERNATIVE, CALL(3), touch,                                  \
+        SEQUENCE(1), ALTERNATIVE, CALL(2),                                \
+        SEQUENCE(2), ALTERNATIVE, CALL(3),                                \
+        SEQUENCE(3), ALTERNATIVE
 
 /*
  * Kind 12: "the alternative of the untouched derivation of least nesting depth,
@@ -463,22 +524,24 @@ static void untouched(void)
 {
     /* sequence 1 is <>, depth 1; by alternative 0 sequence 0 has depth 2, by
        alternative 1 depth 1: not the first that fits */
-    BUILD(HEAD(1, 5, 2), STEPS, SEQUENCE(0), ALTERNATIVE, ENTRY_SEQUENCE(1),
-          ALTERNATIVE, SEQUENCE(1), ALTERNATIVE);
+    BUILD(HEAD(1, 5, 2), STEPS,
+          SEQUENCE(0), ALTERNATIVE, CALL(1), ALTERNATIVE,
+          SEQUENCE(1), ALTERNATIVE);
     SHOWN("<1>, <>, question 2", 0, 2, 0, CHOICE(0, 1), UNTOUCHED);
     SHOWN("<1>, <>, question 5", 0, 5, 0, CHOICE(0, 1), UNTOUCHED);
 
     /* other and nothing both have depth 1: the lowest */
-    BUILD(HEAD(1, 5, 2), STEPS, SEQUENCE(0), ALTERNATIVE, OTHER, OTHER,
-          ALTERNATIVE, SEQUENCE(1), ALTERNATIVE, ALTERNATIVE, OTHER);
+    BUILD(HEAD(1, 5, 2), STEPS,
+          SEQUENCE(0), ALTERNATIVE, OTHER, OTHER, ALTERNATIVE,
+          SEQUENCE(1), ALTERNATIVE, ALTERNATIVE, OTHER);
     SHOWN("<other, other>, <>", 0, 2, 0, CHOICE(0, 0), UNTOUCHED);
     SHOWN("<>, <other>", 1, 2, 0, CHOICE(1, 0), UNTOUCHED);
 
-    /* the greatest depth counts and not the sum: sequence 3 is <>, depth 1; 2 is
-       <3>, depth 2; 1 is <2>, depth 3. Of sequence 0, alternative 0, <3, 1>, has
-       depth 4; alternative 1, <2, 2, 2>, and alternative 2, <2>, have depth 3;
-       alternative 3, <3, clear> or <3, need>, is untouched on one side only, and
-       has depth 2 there. */
+    /* the greatest depth counts and not the sum: sequence 3 is <>, depth 1; 2
+       is <3>, depth 2; 1 is <2>, depth 3. Of sequence 0, alternative 0, <3, 1>,
+       has depth 4; alternative 1, <2, 2, 2>, and alternative 2, <2>, have depth
+       3; alternative 3, <3, clear> or <3, need>, is untouched on one side only,
+       and has depth 2 there. */
     BUILD(DEPTHS(CLEAR));
     SHOWN("<3, 1>, <2, 2, 2>, <2>, <3, clear>, 2", 0, 2, 0, CHOICE(0, 1),
           UNTOUCHED);
@@ -491,57 +554,58 @@ static void untouched(void)
           UNTOUCHED);
 
     /* a derivation that leaves the fact untouched may be deeper than one that
-       does not: sequence 1 is <set>, <2>, and 2 is <>, so untouched it has depth
-       2. Of sequence 0, <1> has depth 3 then, and <2, 2> depth 2. */
-    BUILD(HEAD(1, 5, 3), STEPS, SEQUENCE(0), ALTERNATIVE, ENTRY_SEQUENCE(1),
-          ALTERNATIVE, ENTRY_SEQUENCE(2), ENTRY_SEQUENCE(2), SEQUENCE(1),
-          ALTERNATIVE, SET, ALTERNATIVE, ENTRY_SEQUENCE(2), SEQUENCE(2),
-          ALTERNATIVE);
+       does not: sequence 1 is <set>, <2>, and 2 is <>, so untouched it has
+       depth 2. Of sequence 0, <1> has depth 3 then, and <2, 2> depth 2. */
+    BUILD(HEAD(1, 5, 3), STEPS,
+          SEQUENCE(0), ALTERNATIVE, CALL(1), ALTERNATIVE, CALL(2), CALL(2),
+          SEQUENCE(1), ALTERNATIVE, SET, ALTERNATIVE, CALL(2),
+          SEQUENCE(2), ALTERNATIVE);
     SHOWN("untouched depth, 2", 0, 2, 0, CHOICE(0, 1), UNTOUCHED);
     SHOWN("untouched depth, 5", 0, 5, 0, CHOICE(0, 1), UNTOUCHED);
     SHOWN("untouched depth, 1", 1, 2, 0, CHOICE(1, 1), UNTOUCHED);
 }
 
 /*
- * 256 sequences, each calling the next (`up`) or the one before, the one at the
- * end a step that needs and sets fact 0. No chain is longer than the one that
- * starts at the other end: 256 links, 512 words.
+ * As many sequences as there can be, each calling the next (`up`) or the one
+ * before, the one at the end a step that needs and sets fact 0.
+ */
+static void build_deep(int up)
+{
+    uint32_t c;
+    uint32_t end = up ? MOST_C - 1 : 0;
+    start();
+    PUT(HEAD(2, 1, MOST_C), STEP(0), NEEDS(0), SETS(0));
+    for (c = 0; c < MOST_C; c++)
+        PUT(SEQUENCE(c), ALTERNATIVE,
+            c == end ? DO(0) : CALL(up ? c + 1 : c - 1));
+    put_sum();
+}
+
+/*
+ * No chain is longer than the one that starts at the far end: a link for each
+ * sequence.
  */
 static void deep(const char *name, int up)
 {
-    static uint32_t links[512];
+    static uint32_t links[2 * MOST_C];
+    uint32_t end = up ? MOST_C - 1 : 0;
+    uint32_t far = MOST_C - 1 - end;
     uint32_t c;
-    uint32_t end = up ? 255 : 0;
-    start();
-    put(HEAD(2, 1, 256));
-    put(STEP(0));
-    put(NEEDS(0));
-    put(SETS(0));
-    for (c = 0; c < 256; c++) {
-        put(SEQUENCE(c));
-        put(ALTERNATIVE);
-        if (c == end)
-            put(ENTRY_STEP(0));
-        else
-            put(ENTRY_SEQUENCE(up ? c + 1 : c - 1));
-    }
-    put(sum_word());
-    for (c = 0; c < 256; c++) {
-        links[2 * c] = CHOICE(up ? c : 255 - c, 0);
+    build_deep(up);
+    for (c = 0; c < MOST_C; c++) {
+        links[2 * c] = CHOICE(up ? c : MOST_C - 1 - c, 0);
         links[2 * c + 1] = AT(0);
     }
-    chain(name, 255 - end, 0, 0, 511, REFUSED(12, 0), NULL, 0);
-    chain(name, 255 - end, 0, 0, 512, 256, links, 512);
-    shown(name, 255 - end, 0, 0, links, 512);
-    shown(name, 255 - end, 3, 0, links, 512);
-    /* from the middle, 128 links; from the end, one */
-    shown(name, up ? 128 : 127, 3, 0, links + 256, 256);
-    shown(name, end, 0, 0, links + 510, 2);
+    shown(name, far, 0, 0, links, 2 * MOST_C);
+    shown(name, far, 3, 0, links, 2 * MOST_C);
+    none(name, far, 4, 0);
+    /* half-way, half the links, and at the end one */
+    shown(name, up ? MOST_C / 2 : MOST_C / 2 - 1, 3, 0, links + MOST_C, MOST_C);
+    shown(name, end, 0, 0, links + 2 * MOST_C - 2, 2);
     /* fact 1 is untouched; a link of kind 12 is one, however deep */
     SHOWN(name, 0, 2, 1, CHOICE(0, 0), UNTOUCHED);
-    SHOWN(name, 255, 5, 1, CHOICE(255, 0), UNTOUCHED);
-    none(name, 255 - end, 4, 0);
-    unwritten(name, 256, 0, 0, REFUSED(9, 0));
+    SHOWN(name, MOST_C - 1, 5, 1, CHOICE(MOST_C - 1, 0), UNTOUCHED);
+    unwritten(name, MOST_C, 0, 0, REFUSED(9, 0));
 }
 
 /* Images of 8,192 words: the greatest alternative and position of a link. */
@@ -550,14 +614,10 @@ static void longest(void)
     /* head, step 0 that sets, sequence 0, then alternatives up to the entry and
        the sum word: 8192 - 4 - 2 = 8186 of them, the last <set>, number 8185 */
     start();
-    put(HEAD(1, 1, 1));
-    put(STEP(0));
-    put(SETS(0));
-    put(SEQUENCE(0));
-    while (words < 8190)
-        put(ALTERNATIVE);
-    put(ENTRY_STEP(0));
-    put(sum_word());
+    PUT(HEAD(1, 1, 1), STEP(0), SETS(0), SEQUENCE(0));
+    fill(ALTERNATIVE, FULL - 2);
+    put(DO(0));
+    put_sum();
     hold("8,192 words", words == 8192);
     SHOWN("alternative 8,185", 0, 0, 0, 0xa01ff900, 0xb0000000);
     SHOWN("alternative 0 of 8,186", 0, 2, 0, CHOICE(0, 0), UNTOUCHED);
@@ -565,16 +625,10 @@ static void longest(void)
     /* one alternative of step 1, which does nothing, and step 0 at the end: the
        entries stand from word 6 on, so word 8190 is position 8184 */
     start();
-    put(HEAD(1, 2, 1));
-    put(STEP(0));
-    put(SETS(0));
-    put(STEP(1));
-    put(SEQUENCE(0));
-    put(ALTERNATIVE);
-    while (words < 8190)
-        put(ENTRY_STEP(1));
-    put(ENTRY_STEP(0));
-    put(sum_word());
+    PUT(HEAD(1, 2, 1), STEP(0), SETS(0), STEP(1), SEQUENCE(0), ALTERNATIVE);
+    fill(DO(1), FULL - 2);
+    put(DO(0));
+    put_sum();
     hold("8,192 words", words == 8192);
     SHOWN("position 8,184, last side", 0, 0, 0, 0xa0000000, 0xb0001ff8);
     SHOWN("position 8,184, first side", 0, 4, 0, 0xa0000000, 0xb0001ff8);
@@ -585,7 +639,7 @@ static void names(void)
 {
     static const uint32_t first[2] = {0xa01ff9ff, 0xb0001ff8};
     static const uint32_t second[2] = {0xa0000100, 0xc0000000};
-    static const uint64_t card[7] = {
+    static const uint64_t card[DULIMOVEN_CARD_WORDS] = {
         0x4003, 0, 0, UINT64_C(0x8000000000000001), 0, 0, 0};
     hold("the questions",
          DULIMOVEN_LAST_SET == 0 && DULIMOVEN_LAST_CLEARED == 1 &&
@@ -639,6 +693,7 @@ int main(void)
     refusals();
     sides();
     fewest();
+    choices();
     untouched();
     deep("each calls the next", 1);
     deep("each calls the one before", 0);

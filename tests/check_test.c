@@ -3,8 +3,12 @@
  * the bounds of length, and that a call leaves the image as it was. C11 and
  * C++17. Prints a line for each answer that differs, then a count; the exit
  * status is 0 where nothing differs.
+ *
+ * The name of a row says which rule of document 01 its answer follows from. A
+ * refusal is said with its number and position; words count from 0, the head.
  */
 #include "harness.h"
+#include "samples.h"
 
 static void print_answer(uint64_t answer)
 {
@@ -31,291 +35,709 @@ static void compare(const char *name, uint64_t answer, uint64_t expected)
     printf("\n");
 }
 
-static void check(const char *name, uint64_t expected)
+/* The image under test is accepted with the payload of its head. */
+static void accepts(const char *name)
 {
     keep();
-    compare(name, dulimoven_check(area + GUARD, words), expected);
+    compare(name, dulimoven_check(area + GUARD, words),
+            image_payload(*word_at(0)));
     kept(name);
 }
 
-/* The words given, and after them the sum word. */
-static void check_summed(const char *name, uint64_t expected,
-                         const uint32_t *given, size_t count)
+/* It gets refusal `number` at `position`. */
+static void refuses(uint64_t number, uint64_t position, const char *name)
 {
-    size_t i;
-    start();
-    for (i = 0; i < count; i++)
-        put(given[i]);
-    put(sum_word());
-    check(name, expected);
+    keep();
+    compare(name, dulimoven_check(area + GUARD, words),
+            REFUSED(number, position));
+    kept(name);
 }
+
+/* The same of the words given and the sum word. */
+#define ACCEPTS(name, ...)  \
+    do {                    \
+        BUILD(__VA_ARGS__); \
+        accepts(name);      \
+    } while (0)
+#define REFUSES(number, position, name, ...) \
+    do {                                     \
+        BUILD(__VA_ARGS__);                  \
+        refuses(number, position, name);     \
+    } while (0)
 
 /* The words given and no more. */
-static void check_plain(const char *name, uint64_t expected,
-                        const uint32_t *given, size_t count)
+static void take(const uint32_t *given, size_t count)
 {
-    size_t i;
     start();
-    for (i = 0; i < count; i++)
-        put(given[i]);
-    check(name, expected);
+    put_all(given, count);
 }
-
-#define SUMMED(name, expected, ...)                                 \
-    do {                                                            \
-        static const uint32_t given[] = {__VA_ARGS__};              \
-        check_summed(name, expected, given, COUNT(given));          \
-    } while (0)
-#define PLAIN(name, expected, ...)                                  \
-    do {                                                            \
-        static const uint32_t given[] = {__VA_ARGS__};              \
-        check_plain(name, expected, given, COUNT(given));           \
-    } while (0)
 
 static void samples(void)
 {
-    uint64_t answer = dulimoven_check(library_l, COUNT(library_l));
-    compare("L", answer, ACCEPTED(3, 3, 3));
+    uint64_t answer = dulimoven_check(library_l, L_WORDS);
+    compare("L", answer, image_payload(library_l[0]));
     hold("L has 3 facts", dulimoven_facts(answer) == 3);
     hold("L has 3 steps", dulimoven_steps(answer) == 3);
     hold("L has 3 sequences", dulimoven_sequences(answer) == 3);
     hold("L is not refused", dulimoven_refusal_of(answer) == 0);
 
-    /* the builder's sum word is the printed one */
-    check_summed("L with a sum word from the builder", ACCEPTED(3, 3, 3),
-                 library_l, COUNT(library_l) - 1);
-    hold("L's sum word", area[GUARD + 19] == library_l[19]);
+    /* the builder's head and sum word are the printed ones */
+    hold("L's head", HEAD(3, 3, 3) == library_l[0]);
+    build(library_l, L_SUM);
+    hold("L's sum word", *word_at(L_SUM) == library_l[L_SUM]);
+    accepts("L with a sum word from the builder");
 
-    PLAIN("the empty library", ACCEPTED(1, 0, 0), 0x10000001, 0xf0000002);
-    PLAIN("F = 0", REFUSED(3, 0), 0x10000000, 0xf0000001);
-    SUMMED("F = 64", ACCEPTED(64, 0, 0), HEAD(64, 0, 0));
-    SUMMED("F = 65", REFUSED(3, 0), HEAD(65, 0, 0));
+    /* "10000001 f0000002 is accepted [..]; 10000000 f0000001 gets 3" */
+    take(no_sequence, COUNT(no_sequence));
+    accepts("the empty library: A and C are 0, so nothing is missing");
+    take(no_fact, COUNT(no_fact));
+    refuses(3, 0, "F = 0: at least one fact is asked for");
+
+    /* "F = 64 is read, 65 gets 3" */
+    ACCEPTS("F = 64", HEAD(64, 0, 0));
+    REFUSES(3, 0, "F = 65", HEAD(65, 0, 0));
 }
 
-static void accepted(void)
+/* Steps that keep every rule. */
+static void accepted_steps(void)
 {
-    SUMMED("a sequence without alternative", ACCEPTED(1, 0, 1), HEAD(1, 0, 1),
-           SEQUENCE(0));
-    SUMMED("an empty alternative", ACCEPTED(1, 0, 1), HEAD(1, 0, 1),
-           SEQUENCE(0), ALTERNATIVE);
-    SUMMED("a sequence that calls itself", ACCEPTED(1, 0, 1), HEAD(1, 0, 1),
-           SEQUENCE(0), ALTERNATIVE, ENTRY_SEQUENCE(0));
-    SUMMED("a call of a later sequence", ACCEPTED(1, 0, 2), HEAD(1, 0, 2),
-           SEQUENCE(0), ALTERNATIVE, ENTRY_SEQUENCE(1), SEQUENCE(1));
-    SUMMED("fact 63, needed, set and cleared", ACCEPTED(64, 1, 0),
-           HEAD(64, 1, 0), STEP(0), NEEDS(63), SETS(63), CLEARS(63));
-    SUMMED("order within a step only", ACCEPTED(1, 2, 0), HEAD(1, 2, 0),
-           STEP(0), CLEARS(0), STEP(1), NEEDS(0));
+    ACCEPTS("a step without a fact word", HEAD(1, 1, 0), STEP(0));
+    ACCEPTS("three steps without a fact word", HEAD(1, 3, 0), STEP(0), STEP(1),
+            STEP(2));
+    ACCEPTS("a fact needed and set: kind 2 is below kind 3", HEAD(1, 1, 0),
+            STEP(0), NEEDS(0), SETS(0));
+    ACCEPTS("a fact set and cleared: kind 3 is below kind 4", HEAD(1, 1, 0),
+            STEP(0), SETS(0), CLEARS(0));
+    ACCEPTS("as 32-bit numbers 0x20000001 is below 0x30000000", HEAD(2, 1, 0),
+            STEP(0), NEEDS(1), SETS(0));
+    ACCEPTS("facts 0, 1, 2 ascend", HEAD(3, 1, 0), STEP(0), NEEDS(0), NEEDS(1),
+            NEEDS(2));
+    ACCEPTS("the highest fact, under all three kinds", HEAD(MOST_F, 1, 0),
+            STEP(0), NEEDS(MOST_F - 1), SETS(MOST_F - 1), CLEARS(MOST_F - 1));
+    ACCEPTS("a step that begins below the last fact word of the one before",
+            HEAD(1, 2, 0), STEP(0), CLEARS(0), STEP(1), NEEDS(0));
+    ACCEPTS("a step that begins below it, with two facts", HEAD(2, 2, 0),
+            STEP(0), CLEARS(1), STEP(1), NEEDS(0));
+    ACCEPTS("the same fact word in two steps: the order is within a step",
+            HEAD(1, 2, 0), STEP(0), CLEARS(0), STEP(1), CLEARS(0));
 }
 
-/* 1: fewer than 2 or more than 8,192 words */
+/* Sequences that do. */
+static void accepted_sequences(void)
+{
+    ACCEPTS("A = 0, so a sequence comes at once; it has no alternative",
+            HEAD(1, 0, 1), SEQUENCE(0));
+    ACCEPTS("an alternative without entry", HEAD(1, 0, 1), SEQUENCE(0),
+            ALTERNATIVE);
+    /* s is 0x150040001, which wraps to 0x50040001: the quotient is 5, not 21 */
+    ACCEPTS("two empty alternatives", HEAD(1, 0, 1), SEQUENCE(0), ALTERNATIVE,
+            ALTERNATIVE);
+    ACCEPTS("an entry names its own sequence", HEAD(1, 0, 1), SEQUENCE(0),
+            ALTERNATIVE, CALL(0));
+    ACCEPTS("an entry names a later sequence: 1 is below C", HEAD(1, 0, 2),
+            SEQUENCE(0), ALTERNATIVE, CALL(1), SEQUENCE(1), ALTERNATIVE);
+    ACCEPTS("an entry names a later sequence without alternative",
+            HEAD(1, 0, 2), SEQUENCE(0), ALTERNATIVE, CALL(1), SEQUENCE(1));
+    ACCEPTS("an entry names an earlier sequence, without alternative",
+            HEAD(1, 0, 2), SEQUENCE(0), SEQUENCE(1), ALTERNATIVE, CALL(0));
+    ACCEPTS("an entry stands after an entry, of either kind", HEAD(1, 1, 1),
+            STEP(0), SEQUENCE(0), ALTERNATIVE, DO(0), CALL(0), DO(0));
+    ACCEPTS("a kind 7 word stands after an entry; 1 is below A = 2",
+            HEAD(2, 2, 1), STEP(0), NEEDS(0), STEP(1), CLEARS(1), SEQUENCE(0),
+            ALTERNATIVE, DO(1), ALTERNATIVE, DO(0), DO(1));
+    ACCEPTS("a sequence's opener stands right after another", HEAD(1, 1, 3),
+            STEP(0), SETS(0), SEQUENCE(0), SEQUENCE(1), SEQUENCE(2),
+            ALTERNATIVE, DO(0));
+}
+
+/* 1: "The image has fewer than 2 or more than 8,192 words, position 0." */
 static void length(void)
 {
-    static const uint32_t one[1] = {HEAD(1, 0, 0)};
+    static const struct {
+        const char *name;
+        uint32_t word;
+    } alone[] = {
+        {"a right head alone", HEAD(1, 0, 0)},
+        {"L's head alone", HEAD(3, 3, 3)},
+        {"a head with F = 0 alone: 1 comes before 3", HEAD(0, 0, 0)},
+        {"a sum word alone, right for no words", WORD(KIND_SUM, 0)},
+        {"a wrong sum word alone: 1 comes before 2", WORD(KIND_SUM, 1)},
+        {"a zero word alone", WORD(0, 0)},
+        {"a word of ones alone", WORD(15, PAYLOAD_MASK)},
+        {"a step's opener alone", STEP(0)},
+        {"a fact word alone", NEEDS(0)},
+        {"a sequence's opener alone", SEQUENCE(0)},
+        {"an alternative alone", ALTERNATIVE},
+        {"an entry that names a step alone", DO(0)},
+        {"an entry that names a sequence alone", CALL(0)}};
+    size_t i;
     compare("no word, a null pointer", dulimoven_check(NULL, 0), REFUSED(1, 0));
-    compare("no word", dulimoven_check(one, 0), REFUSED(1, 0));
-    check_plain("one word", REFUSED(1, 0), one, 1);
-    PLAIN("one sum word", REFUSED(1, 0), 0xf0000000);
+    start();
+    refuses(1, 0, "no word");
+    for (i = 0; i < COUNT(alone); i++) {
+        take(&alone[i].word, 1);
+        refuses(1, 0, alone[i].name);
+    }
 }
 
-/* A sequence with that many empty alternatives, in 3 words more. */
-static void put_long(size_t alternatives)
+/* One sequence with empty alternatives, in an image of so many words. */
+static void build_long(size_t count)
 {
-    size_t i;
     start();
-    put(HEAD(1, 0, 1));
-    put(SEQUENCE(0));
-    for (i = 0; i < alternatives; i++)
-        put(ALTERNATIVE);
-    put(sum_word());
+    PUT(HEAD(1, 0, 1), SEQUENCE(0));
+    fill(ALTERNATIVE, count - 1);
+    put_sum();
+}
+
+/* The same with another word before the sum word. */
+static void build_long_ending(size_t count, uint32_t word)
+{
+    build_long(count);
+    *word_at(count - 2) = word;
+    sum_again();
 }
 
 static void longest(void)
 {
-    put_long(8189);
+    build_long(FULL);
     hold("8,192 words are built", words == 8192);
-    check("8,192 words", ACCEPTED(1, 0, 1));
-    area[GUARD + 8191] ^= 1;
-    check("8,192 words with a wrong sum", REFUSED(2, 8191));
+    accepts("8,192 words");
+    miss_sum(-1);
+    refuses(2, FULL - 1, "8,192 words with a wrong sum");
+    build_long_ending(FULL, WORD(0, 0));
+    refuses(4, FULL - 2, "kind 0 right before the sum word");
+    build_long_ending(FULL, CALL(1));
+    refuses(5, FULL - 2, "1 is not below C = 1, right before the sum word");
 
-    put_long(8190);
+    build_long(FULL + 1);
     hold("8,193 words are built", words == 8193);
-    check("8,193 words", REFUSED(1, 0));
-    area[GUARD + 8192] ^= 1;
-    check("8,193 words with a wrong sum", REFUSED(1, 0));
+    refuses(1, 0, "8,193 words");
+    miss_sum(1);
+    refuses(1, 0, "8,193 words with a wrong sum: 1 comes before 2");
+    start();
+    put(HEAD(0, 0, 0));
+    fill(ALTERNATIVE, FULL);
+    put_sum();
+    refuses(1, 0, "8,193 words with F = 0: 1 comes before 3");
 
-    put_long(8189);
-    words = 8190;
-    put(WORD(0, 0));
-    put(sum_word());
-    check("kind 0 right before the sum word of 8,192 words", REFUSED(4, 8190));
+    start();
+    fill(WORD(0, 0), FULL);
+    refuses(2, FULL - 1, "8,192 zero words: the last is of kind 0");
+    start();
+    fill(WORD(0, 0), FULL + 1);
+    refuses(1, 0, "8,193 zero words: 1 comes before 2");
 }
 
-/* 1,024 steps and 256 sequences, `steps` and `sequences` of them opened. */
-static void put_counted(uint32_t steps, uint32_t sequences)
+/* A head, and so many steps and sequences, without the sum word. */
+static void put_counted(uint32_t head, uint32_t steps, uint32_t sequences)
 {
     uint32_t i;
     start();
-    put(HEAD(64, 1024, 256));
+    put(head);
     for (i = 0; i < steps; i++)
         put(STEP(i));
     for (i = 0; i < sequences; i++)
         put(SEQUENCE(i));
-    put(sum_word());
 }
 
-static void counts(void)
+static void build_counted(uint32_t head, uint32_t steps, uint32_t sequences)
 {
-    put_counted(1024, 256);
-    check("the greatest counts", ACCEPTED(64, 1024, 256));
-    put_counted(1024, 255);
-    check("255 of 256 sequences", REFUSED(7, 1280));
-    put_counted(1023, 0);
-    check("1,023 of 1,024 steps", REFUSED(7, 1024));
-    put_counted(1023, 1);
-    check("a sequence before the last step", REFUSED(4, 1024));
-    put_counted(1025, 0);
-    check("1,025 steps", REFUSED(5, 1025));
-    put_counted(1024, 257);
-    check("257 sequences", REFUSED(5, 1281));
+    put_counted(head, steps, sequences);
+    put_sum();
 }
 
-/* 2: the last word is not of kind 15 or has another payload */
-static void sum(void)
+/* Step i stands at 1 + i, and after A steps sequence i at 1 + A + i. */
+static void most_steps(void)
 {
-    PLAIN("the sum without the fold", REFUSED(2, 1), 0x10000001, 0xf0000001);
-    PLAIN("the sum one too high", REFUSED(2, 1), 0x10000001, 0xf0000003);
-    PLAIN("the sum in a word of kind 14", REFUSED(2, 1), 0x10000001,
-          0xe0000002);
-    PLAIN("two zero words", REFUSED(2, 1), 0, 0);
-    /* 0x150040001 wraps to 0x50040001: 5 is added, and not 0x15 */
-    PLAIN("the quotient of the wrapped sum", ACCEPTED(1, 0, 1), 0x10040001,
-          0x60000000, 0x70000000, 0x70000000, 0xf0040006);
-    PLAIN("the quotient without the wrap", REFUSED(2, 4), 0x10040001,
-          0x60000000, 0x70000000, 0x70000000, 0xf0040016);
-    check_plain("L without its sum word", REFUSED(2, 18), library_l, 19);
-    PLAIN("2 comes before 3", REFUSED(2, 1), 0x10000000, 0xf0000000);
+    build_counted(HEAD(1, MOST_A, 0), MOST_A, 0);
+    accepts("as many steps as there can be");
+    build_counted(HEAD(1, MOST_A, 0), MOST_A + 1, 0);
+    refuses(5, 1 + MOST_A, "a step more: the next number, but not below A");
+    build_counted(HEAD(1, MOST_A, 0), MOST_A - 1, 0);
+    refuses(7, MOST_A, "a step less");
+    build_counted(HEAD(1, MOST_A, 1), MOST_A - 1, 0);
+    refuses(7, MOST_A, "a step less, and no sequence of one");
+    build_counted(HEAD(1, MOST_A, 1), MOST_A - 1, 1);
+    refuses(4, MOST_A, "a step less, and then a sequence");
+    put_counted(HEAD(1, MOST_A, 1), MOST_A, 1);
+    PUT(ALTERNATIVE, DO(MOST_A));
+    put_sum();
+    refuses(5, 1 + MOST_A + 2, "an entry names step A");
 }
 
-/* 3: the first word breaks the rule for the head */
+static void most_sequences(void)
+{
+    build_counted(HEAD(1, 0, MOST_C), 0, MOST_C);
+    accepts("as many sequences as there can be");
+    build_counted(HEAD(1, 0, MOST_C), 0, MOST_C + 1);
+    refuses(5, 1 + MOST_C, "a sequence more: the next, but not below C");
+    build_counted(HEAD(1, 0, MOST_C), 0, MOST_C - 1);
+    refuses(7, MOST_C, "a sequence less");
+}
+
+static void most_of_all(void)
+{
+    static const uint32_t most = HEAD(MOST_F, MOST_A, MOST_C);
+    build_counted(most, MOST_A, MOST_C);
+    accepts("the greatest counts");
+    build_counted(most, MOST_A, MOST_C - 1);
+    refuses(7, MOST_A + MOST_C, "the greatest counts, a sequence less");
+    build_counted(most, MOST_A - 1, 0);
+    refuses(7, MOST_A, "the greatest counts, a step less");
+    build_counted(most, MOST_A - 1, 1);
+    refuses(4, MOST_A, "the greatest counts, a sequence before the last step");
+    build_counted(most, MOST_A + 1, 0);
+    refuses(5, 1 + MOST_A, "the greatest counts, a step more");
+    build_counted(most, MOST_A, MOST_C + 1);
+    refuses(5, 1 + MOST_A + MOST_C, "the greatest counts, a sequence more");
+
+    /* the last sequence has an alternative up to the sum word, half of it
+       steps */
+    put_counted(most, MOST_A, MOST_C);
+    put(ALTERNATIVE);
+    fill(DO(MOST_A - 1), (words + FULL - 1) / 2);
+    fill(CALL(MOST_C - 1), FULL - 1);
+    put_sum();
+    accepts("the greatest counts in 8,192 words");
+}
+
+/* A step that needs, sets and clears all facts, without the sum word. */
+static void put_all_facts(void)
+{
+    uint32_t kind, fact;
+    start();
+    PUT(HEAD(MOST_F, 1, 0), STEP(0));
+    for (kind = KIND_NEEDS; kind <= KIND_CLEARS; kind++)
+        for (fact = 0; fact < MOST_F; fact++)
+            put(WORD(kind, fact));
+}
+
+/* The fact words stand from 2 on. */
+static void all_facts(void)
+{
+    put_all_facts();
+    put_sum();
+    accepts("all fact words, each greater than the one before");
+    put_all_facts();
+    put(CLEARS(MOST_F - 1));
+    put_sum();
+    refuses(6, 2 + 3 * MOST_F, "all fact words, and the last one twice");
+}
+
+/* The sum word's payload is so much greater than the right one. */
+#define WRONG_SUM(by, name, ...)     \
+    do {                             \
+        BUILD(__VA_ARGS__);          \
+        miss_sum(by);                \
+        refuses(2, words - 1, name); \
+    } while (0)
+
+/*
+ * 2: "The last word is not of kind 15 or has another payload than the rule
+ * gives, its position." The builder's sum word is the right one, and the rows
+ * say how far the one that is tried is from it.
+ */
+static void wrong_sums(void)
+{
+    /* s = 0x10000001, so the right payload is 1 + 1 = 2 */
+    WRONG_SUM(-1, "one too low: without the quotient 1", HEAD(1, 0, 0));
+    WRONG_SUM(1, "one too high", HEAD(1, 0, 0));
+    WRONG_SUM(-2, "the payload for no earlier words", HEAD(1, 0, 0));
+    WRONG_SUM(0x10000, "wrong in bit 16", HEAD(1, 0, 0));
+    WRONG_SUM(0x8000000, "wrong in the highest payload bit", HEAD(1, 0, 0));
+    /* s wraps from 0x150040001, so 5 is right to add and 0x15 is not */
+    WRONG_SUM(16, "the quotient without the wrap", HEAD(1, 0, 1), SEQUENCE(0),
+              ALTERNATIVE, ALTERNATIVE);
+    /* s = 0x1fffffff, and 0xfffffff + 1 is 2^28, so 0 is right */
+    WRONG_SUM(1, "the fold reaches 2^28, and 1 is left",
+              WORD(KIND_HEAD, PAYLOAD_MASK));
+    /* s = 0xf0000000, so 15 is right */
+    WRONG_SUM(-15, "a sum word twice: 2 comes before 3", WORD(KIND_SUM, 0));
+    WRONG_SUM(-1, "F = 0: 2 comes before 3", HEAD(0, 0, 0));
+    WRONG_SUM(-1, "a head in the middle: 2 comes before 4", HEAD(1, 0, 0),
+              HEAD(1, 0, 0));
+    WRONG_SUM(-1, "no step of one: 2 comes before 7", HEAD(1, 1, 0));
+}
+
+static void wrong_sums_of_l(void)
+{
+    build(library_l, L_SUM);
+    miss_sum(1);
+    refuses(2, L_SUM, "L with a sum one too high");
+    build(library_l, L_SUM);
+    miss_sum(-1);
+    refuses(2, L_SUM, "L with a sum one too low");
+    /* s = 0xc00c018e, whose quotient is 12 */
+    build(library_l, L_SUM);
+    miss_sum(-12);
+    refuses(2, L_SUM, "L with the sum without the fold");
+    take(library_l, L_SUM);
+    refuses(2, L_SUM - 1, "L without its sum word: the last word is an entry");
+    take(library_l, L_WORDS);
+    *word_at(2) = SETS(1);
+    refuses(2, L_SUM, "L under its own sum word, but step 0 sets fact 1");
+}
+
+static void wrong_kind_of_sum(void)
+{
+    uint32_t kind;
+    for (kind = 0; kind < KIND_SUM; kind++) {
+        BUILD(HEAD(1, 0, 0));
+        *word_at(1) = WORD(kind, image_payload(*word_at(1)));
+        refuses(2, 1, "the right payload under another kind");
+    }
+    start();
+    PUT(WORD(0, 0), WORD(0, 0));
+    refuses(2, 1, "two zero words: kind 0 in place of 15");
+    BUILD(HEAD(1, 0, 0));
+    put(WORD(0, 0));
+    refuses(2, 2, "a zero word after a right image: the last word decides");
+}
+
+/* 3: "The first word breaks the rule for the head, position 0." */
 static void head(void)
 {
-    SUMMED("A = 1,025", REFUSED(3, 0), HEAD(1, 1025, 0));
-    SUMMED("C = 257", REFUSED(3, 0), HEAD(1, 0, 257));
-    SUMMED("bit 27", REFUSED(3, 0), WORD(1, 0x8000001));
-    SUMMED("kind 0 in the first word", REFUSED(3, 0), WORD(0, 1));
-    SUMMED("kind 15 in the first word", REFUSED(3, 0), WORD(15, 1));
-    SUMMED("all payload bits, a sum that folds to 0", REFUSED(3, 0),
-           0x1fffffff);
-    SUMMED("3 comes before 4", REFUSED(3, 0), HEAD(0, 0, 0), WORD(0, 0));
+    REFUSES(3, 0, "all bits of F", HEAD(HEAD_FACTS_MASK, 0, 0));
+    REFUSES(3, 0, "A above the greatest; no step is there: 3 comes before 7",
+            HEAD(1, MOST_A + 1, 0));
+    REFUSES(3, 0, "all bits of A", HEAD(1, HEAD_STEPS_MASK, 0));
+    REFUSES(3, 0, "C above the greatest", HEAD(1, 0, MOST_C + 1));
+    REFUSES(3, 0, "all bits of C", HEAD(1, 0, HEAD_SEQUENCES_MASK));
+    REFUSES(3, 0, "F, A and C out of range", HEAD(0, MOST_A + 1, MOST_C + 1));
+    REFUSES(3, 0, "bit 27", HEAD(1, 0, 0) | HEAD_ZERO_BIT);
+    REFUSES(3, 0, "bit 27 beside the greatest counts: 3 comes before 7",
+            HEAD(MOST_F, MOST_A, MOST_C) | HEAD_ZERO_BIT);
+    /* s = 0x1fffffff, so the sum word's payload is 2^28 mod 2^28 = 0 */
+    REFUSES(3, 0, "every payload bit", WORD(KIND_HEAD, PAYLOAD_MASK));
+    REFUSES(3, 0, "F = 0: 3 comes before 4", HEAD(0, 0, 0), WORD(0, 0));
+    REFUSES(3, 0, "F = 0, so fact 0 is not below F: 3 comes before 5",
+            HEAD(0, 1, 0), STEP(0), NEEDS(0));
+    REFUSES(3, 0, "F above the greatest, no step of one: 3 comes before 7",
+            HEAD(MOST_F + 1, 1, 0));
+    build(library_l, L_SUM);
+    *word_at(0) = HEAD(0, 3, 3);
+    sum_again();
+    refuses(3, 0, "L with F = 0");
 }
 
-/* 4: a kind that may not stand there */
-static void kind(void)
+/* "Kind 1, head": no other kind, with a payload that a head can have or 0. */
+static void kind_of_head(void)
+{
+    uint32_t kind;
+    for (kind = 0; kind <= KIND_SUM; kind++) {
+        if (kind == KIND_HEAD)
+            continue;
+        BUILD(WORD(kind, image_payload(HEAD(1, 0, 0))));
+        refuses(3, 0, "a head's payload under another kind");
+        BUILD(WORD(kind, 0));
+        refuses(3, 0, "another kind and no payload");
+    }
+}
+
+/*
+ * 4: "A word between them has a kind that may not stand there, its position."
+ * Kinds 10 to 12 are words of a chain's links.
+ */
+static void kind_nowhere(void)
 {
     static const uint32_t nowhere[] = {0, 1, 10, 11, 12, 13, 14, 15};
-    uint32_t image[2] = {HEAD(1, 0, 0), 0};
     size_t i;
+    uint32_t payload;
     for (i = 0; i < COUNT(nowhere); i++) {
-        image[1] = WORD(nowhere[i], 1);
-        check_summed("a kind that stands nowhere between", REFUSED(4, 1), image,
-                     2);
+        for (payload = 0; payload < 2; payload++) {
+            BUILD(HEAD(1, 0, 0), WORD(nowhere[i], payload));
+            refuses(4, 1, "a kind that stands nowhere between");
+        }
     }
-    SUMMED("a fact word after the head", REFUSED(4, 1), HEAD(1, 0, 0),
-           NEEDS(0));
-    SUMMED("a fact word after a sequence", REFUSED(4, 2), HEAD(1, 0, 1),
-           SEQUENCE(0), SETS(0));
-    SUMMED("a fact word after an alternative", REFUSED(4, 3), HEAD(1, 0, 1),
-           SEQUENCE(0), ALTERNATIVE, SETS(0));
-    SUMMED("a fact word after an entry", REFUSED(4, 4), HEAD(1, 0, 1),
-           SEQUENCE(0), ALTERNATIVE, ENTRY_SEQUENCE(0), SETS(0));
-    SUMMED("a step after a sequence", REFUSED(4, 2), HEAD(1, 0, 1),
-           SEQUENCE(0), STEP(0));
-    SUMMED("a step after an alternative", REFUSED(4, 4), HEAD(1, 1, 1), STEP(0),
-           SEQUENCE(0), ALTERNATIVE, STEP(1));
-    SUMMED("a step after an entry", REFUSED(4, 5), HEAD(1, 1, 1), STEP(0),
-           SEQUENCE(0), ALTERNATIVE, ENTRY_STEP(0), STEP(1));
-    SUMMED("a sequence before the steps", REFUSED(4, 1), HEAD(1, 1, 1),
-           SEQUENCE(0));
-    SUMMED("an alternative before the sequences", REFUSED(4, 2), HEAD(1, 1, 1),
-           STEP(0), ALTERNATIVE);
-    SUMMED("an entry after a sequence's opener", REFUSED(4, 2), HEAD(1, 0, 1),
-           SEQUENCE(0), ENTRY_SEQUENCE(0));
-    SUMMED("an entry after a step's opener", REFUSED(4, 2), HEAD(1, 1, 0),
-           STEP(0), ENTRY_STEP(0));
-    SUMMED("the earliest word decides, 4", REFUSED(4, 2), HEAD(1, 0, 1),
-           SEQUENCE(0), WORD(0, 0), WORD(7, 1));
-    SUMMED("4 comes before 5 in a fact word", REFUSED(4, 1), HEAD(1, 0, 0),
-           NEEDS(1));
-    SUMMED("4 comes before 5 in a sequence's opener", REFUSED(4, 1),
-           HEAD(1, 1, 1), SEQUENCE(1));
-    SUMMED("4 comes before 5 in an alternative", REFUSED(4, 1), HEAD(1, 0, 1),
-           WORD(7, 1));
-    SUMMED("4 comes before 5 in an entry", REFUSED(4, 2), HEAD(1, 0, 1),
-           SEQUENCE(0), ENTRY_STEP(0));
+    BUILD(HEAD(1, 0, 0));
+    put_sum();
+    refuses(4, 1, "a sum word that is right there, but not the last word");
+    REFUSES(4, 3, "kind 15 among alternatives", HEAD(1, 0, 1), SEQUENCE(0),
+            ALTERNATIVE, WORD(KIND_SUM, 0));
+    REFUSES(4, 2, "kind 0 after a step's opener", HEAD(1, 1, 0), STEP(0),
+            WORD(0, 0));
+    start();
+    put_all(library_l, L_SUM - 1);
+    PUT(WORD(0, 0), CALL(2));
+    put_sum();
+    refuses(4, L_SUM - 1, "L with a zero word before its last entry");
 }
 
-/* 5: a payload that breaks its rule */
-static void payload(void)
+/* "A kind 2, 3 or 4 word stands only after a step's opener or another such". */
+static void kind_of_fact_word(void)
 {
-    SUMMED("a step's number skipped", REFUSED(5, 1), HEAD(1, 2, 0), STEP(1));
-    SUMMED("a step's number repeated", REFUSED(5, 2), HEAD(1, 2, 0), STEP(0),
-           STEP(0));
-    SUMMED("a step's number too high", REFUSED(5, 2), HEAD(1, 1, 0), STEP(0),
-           STEP(1));
-    SUMMED("a sequence's number skipped", REFUSED(5, 1), HEAD(1, 0, 2),
-           SEQUENCE(1));
-    SUMMED("a sequence's number repeated", REFUSED(5, 2), HEAD(1, 0, 2),
-           SEQUENCE(0), SEQUENCE(0));
-    SUMMED("a sequence's number too high", REFUSED(5, 2), HEAD(1, 0, 1),
-           SEQUENCE(0), SEQUENCE(1));
-    SUMMED("an entry names step A", REFUSED(5, 4), HEAD(1, 1, 1), STEP(0),
-           SEQUENCE(0), ALTERNATIVE, ENTRY_STEP(1));
-    SUMMED("an entry names sequence C", REFUSED(5, 3), HEAD(1, 0, 1),
-           SEQUENCE(0), ALTERNATIVE, ENTRY_SEQUENCE(1));
-    SUMMED("an entry names step A, and C is greater", REFUSED(5, 3),
-           HEAD(1, 0, 1), SEQUENCE(0), ALTERNATIVE, ENTRY_STEP(0));
-    SUMMED("fact F", REFUSED(5, 2), HEAD(1, 1, 0), STEP(0), CLEARS(1));
-    SUMMED("an alternative with payload 1", REFUSED(5, 2), HEAD(1, 0, 1),
-           SEQUENCE(0), WORD(7, 1));
-    /* numbers whose low bits alone would be right */
-    SUMMED("fact 128", REFUSED(5, 2), HEAD(1, 1, 0), STEP(0), SETS(128));
-    SUMMED("step 2,048", REFUSED(5, 1), HEAD(1, 1, 0), STEP(2048));
-    SUMMED("sequence 256", REFUSED(5, 1), HEAD(1, 0, 1), SEQUENCE(256));
-    SUMMED("an entry names sequence 256", REFUSED(5, 3), HEAD(1, 0, 1),
-           SEQUENCE(0), ALTERNATIVE, ENTRY_SEQUENCE(256));
-    SUMMED("an alternative with the highest payload bit", REFUSED(5, 2),
-           HEAD(1, 0, 1), SEQUENCE(0), WORD(7, 0x8000000));
-    SUMMED("the earliest word decides, 5", REFUSED(5, 2), HEAD(1, 1, 0),
-           STEP(0), NEEDS(1), WORD(0, 0));
-    SUMMED("5 comes before 6 in one word", REFUSED(5, 3), HEAD(1, 1, 0),
-           STEP(0), CLEARS(0), SETS(1));
+    REFUSES(4, 1, "a need after the head", HEAD(1, 0, 0), NEEDS(0));
+    REFUSES(4, 1, "a set after the head", HEAD(1, 0, 0), SETS(0));
+    REFUSES(4, 1, "a clear after the head", HEAD(1, 0, 0), CLEARS(0));
+    REFUSES(4, 2, "a need after a sequence's opener", HEAD(1, 0, 1),
+            SEQUENCE(0), NEEDS(0));
+    REFUSES(4, 2, "a set after a sequence's opener", HEAD(1, 0, 1), SEQUENCE(0),
+            SETS(0));
+    REFUSES(4, 3, "a set after an alternative", HEAD(1, 0, 1), SEQUENCE(0),
+            ALTERNATIVE, SETS(0));
+    REFUSES(4, 5, "a clear after an entry that names a step", HEAD(1, 1, 1),
+            STEP(0), SEQUENCE(0), ALTERNATIVE, DO(0), CLEARS(0));
+    REFUSES(4, 4, "a set after an entry that names a sequence", HEAD(1, 0, 1),
+            SEQUENCE(0), ALTERNATIVE, CALL(0), SETS(0));
+    REFUSES(4, 1, "a need after the head, not below F: 4 comes before 5",
+            HEAD(1, 0, 0), NEEDS(1));
 }
 
-/* 6: a fact word that is not greater than the one before it in its step */
+/*
+ * "A kind 5 word stands only before the first kind 6, a kind 6 word only once A
+ * steps have been opened."
+ */
+static void kind_of_opener(void)
+{
+    REFUSES(4, 2, "a step after a sequence; 0 is not below A = 0 either",
+            HEAD(1, 0, 1), SEQUENCE(0), STEP(0));
+    REFUSES(4, 3, "a step after a sequence, with A steps there", HEAD(1, 1, 1),
+            STEP(0), SEQUENCE(0), STEP(1));
+    REFUSES(4, 4, "step 0 after an alternative", HEAD(1, 1, 1), STEP(0),
+            SEQUENCE(0), ALTERNATIVE, STEP(0));
+    REFUSES(4, 4, "step 1 after an alternative", HEAD(1, 1, 1), STEP(0),
+            SEQUENCE(0), ALTERNATIVE, STEP(1));
+    REFUSES(4, 5, "step 0 after an entry", HEAD(1, 1, 1), STEP(0), SEQUENCE(0),
+            ALTERNATIVE, DO(0), STEP(0));
+    REFUSES(4, 5, "step 1 after an entry", HEAD(1, 1, 1), STEP(0), SEQUENCE(0),
+            ALTERNATIVE, DO(0), STEP(1));
+    REFUSES(4, 1, "a sequence with none of one step: 4 comes before 7",
+            HEAD(1, 1, 1), SEQUENCE(0));
+    REFUSES(4, 2, "a sequence with one of two steps", HEAD(1, 2, 1), STEP(0),
+            SEQUENCE(0), ALTERNATIVE);
+    REFUSES(4, 3, "a sequence with one of two steps, after a fact word",
+            HEAD(1, 2, 1), STEP(0), NEEDS(0), SEQUENCE(0), ALTERNATIVE);
+    REFUSES(4, 1, "a sequence too early and misnumbered: 4 comes before 5",
+            HEAD(1, 1, 1), SEQUENCE(1));
+}
+
+/* "A kind 7 word stands anywhere after the first kind 6". */
+static void kind_of_alternative(void)
+{
+    REFUSES(4, 1, "an alternative after the head", HEAD(1, 0, 1), ALTERNATIVE);
+    REFUSES(4, 2, "an alternative after a step's opener", HEAD(1, 1, 1),
+            STEP(0), ALTERNATIVE);
+    REFUSES(4, 3, "an alternative after a fact word", HEAD(1, 1, 1), STEP(0),
+            NEEDS(0), ALTERNATIVE);
+    REFUSES(4, 1, "an alternative too early, with payload 1: 4 before 5",
+            HEAD(1, 0, 1), WORD(KIND_ALTERNATIVE, 1));
+}
+
+/* "an entry only after a kind 7 or another entry". */
+static void kind_of_entry(void)
+{
+    REFUSES(4, 1, "an entry after the head", HEAD(1, 1, 0), DO(0));
+    REFUSES(4, 1, "a sequence as entry after the head", HEAD(1, 0, 1), CALL(0));
+    REFUSES(4, 2, "a sequence as entry after a step's opener", HEAD(1, 1, 1),
+            STEP(0), CALL(0));
+    REFUSES(4, 3, "a sequence as entry after a fact word", HEAD(1, 1, 1),
+            STEP(0), NEEDS(0), CALL(0));
+    REFUSES(4, 2, "an entry after a step's opener", HEAD(1, 1, 0), STEP(0),
+            DO(0));
+    REFUSES(4, 2, "an entry after a step's opener, a sequence to come",
+            HEAD(1, 1, 1), STEP(0), DO(0));
+    REFUSES(4, 3, "an entry after a fact word", HEAD(1, 1, 1), STEP(0),
+            NEEDS(0), DO(0));
+    REFUSES(4, 3, "a step as entry after a sequence's opener", HEAD(1, 1, 1),
+            STEP(0), SEQUENCE(0), DO(0));
+    REFUSES(4, 2, "a sequence as entry after a sequence's opener",
+            HEAD(1, 0, 1), SEQUENCE(0), CALL(0));
+    REFUSES(4, 6, "an entry after an opener: alternatives before do not count",
+            HEAD(1, 1, 2), STEP(0), SEQUENCE(0), ALTERNATIVE, DO(0),
+            SEQUENCE(1), CALL(0));
+    REFUSES(4, 2, "an entry after an opener names no step: 4 before 5",
+            HEAD(1, 0, 1), SEQUENCE(0), DO(0));
+}
+
+/* "In 4 to 6 the earliest word decides". */
+static void earliest(void)
+{
+    REFUSES(4, 2, "kind 0, then a wrong payload", HEAD(1, 0, 1), SEQUENCE(0),
+            WORD(0, 0), WORD(KIND_ALTERNATIVE, 1));
+    REFUSES(4, 3, "an alternative among the steps, then a wrong number",
+            HEAD(2, 1, 0), STEP(0), NEEDS(1), ALTERNATIVE, STEP(5));
+    REFUSES(5, 2, "a fact not below F, then kind 0", HEAD(1, 1, 0), STEP(0),
+            NEEDS(1), WORD(0, 0));
+    REFUSES(5, 2, "a fact not below F, then a fact word that is not greater",
+            HEAD(1, 1, 0), STEP(0), SETS(1), NEEDS(0));
+    REFUSES(6, 3, "a fact word twice, then kind 0", HEAD(1, 1, 0), STEP(0),
+            NEEDS(0), NEEDS(0), WORD(0, 0));
+    REFUSES(6, 3, "a fact word twice, then a fact not below F", HEAD(1, 1, 0),
+            STEP(0), NEEDS(0), NEEDS(0), SETS(1));
+    REFUSES(6, 3, "two words that are not greater", HEAD(2, 1, 0), STEP(0),
+            NEEDS(1), NEEDS(0), NEEDS(0));
+}
+
+/*
+ * 5: "A payload breaks its rule: an opener's is not the next number or not
+ * below the head's count".
+ */
+static void payload_of_opener(void)
+{
+    REFUSES(5, 1, "step 1 first, alone", HEAD(1, 2, 0), STEP(1));
+    REFUSES(5, 1, "step 1 before step 0", HEAD(1, 2, 0), STEP(1), STEP(0));
+    REFUSES(5, 2, "step 2 before step 1", HEAD(1, 3, 0), STEP(0), STEP(2),
+            STEP(1));
+    REFUSES(5, 2, "step 0 twice", HEAD(1, 2, 0), STEP(0), STEP(0));
+    REFUSES(5, 2, "step 1 is the next, but not below A = 1", HEAD(1, 1, 0),
+            STEP(0), STEP(1));
+    REFUSES(5, 1, "step 0 is the next, but not below A = 0", HEAD(1, 0, 0),
+            STEP(0));
+    REFUSES(5, 1, "step 256, whose low eight bits are the next number",
+            HEAD(1, 1, 0), STEP(256));
+    REFUSES(5, 1, "step 2,048, whose low eleven bits are the next number",
+            HEAD(1, 1, 0), STEP(2048));
+    REFUSES(5, 1, "step 2^28 - 1", HEAD(1, 1, 0), STEP(PAYLOAD_MASK));
+    REFUSES(5, 1, "a wrong number, and more missing: 5 comes before 7",
+            HEAD(1, 2, 1), STEP(1));
+
+    REFUSES(5, 1, "sequence 1 first, alone", HEAD(1, 0, 2), SEQUENCE(1));
+    REFUSES(5, 1, "sequence 1 before sequence 0", HEAD(1, 0, 2), SEQUENCE(1),
+            SEQUENCE(0));
+    REFUSES(5, 3, "sequence 2 after sequence 0", HEAD(1, 0, 3), SEQUENCE(0),
+            ALTERNATIVE, SEQUENCE(2));
+    REFUSES(5, 2, "sequence 0 twice", HEAD(1, 0, 2), SEQUENCE(0), SEQUENCE(0));
+    REFUSES(5, 2, "sequence 1 is the next, but not below C = 1", HEAD(1, 0, 1),
+            SEQUENCE(0), SEQUENCE(1));
+    REFUSES(5, 1, "sequence 0 is the next, but not below C = 0", HEAD(1, 0, 0),
+            SEQUENCE(0));
+    REFUSES(5, 1, "sequence 256, whose low eight bits are the next number",
+            HEAD(1, 0, 1), SEQUENCE(256));
+    REFUSES(5, 2, "sequences count by themselves: 0 is next after a step",
+            HEAD(1, 1, 1), STEP(0), SEQUENCE(1));
+}
+
+/* "an entry names nothing that the head counts". */
+static void payload_of_entry(void)
+{
+    REFUSES(5, 4, "step 1 with A = 1", HEAD(1, 1, 1), STEP(0), SEQUENCE(0),
+            ALTERNATIVE, DO(1));
+    REFUSES(5, 3, "step 0 with A = 0", HEAD(1, 0, 1), SEQUENCE(0), ALTERNATIVE,
+            DO(0));
+    REFUSES(5, 4, "step 2,048, whose low eleven bits are 0", HEAD(1, 1, 1),
+            STEP(0), SEQUENCE(0), ALTERNATIVE, DO(2048));
+    REFUSES(5, 4, "step 1 with A = 0: that there is sequence 1 is no help",
+            HEAD(1, 0, 2), SEQUENCE(0), SEQUENCE(1), ALTERNATIVE, DO(1));
+    REFUSES(5, 3, "sequence 1 with C = 1", HEAD(1, 0, 1), SEQUENCE(0),
+            ALTERNATIVE, CALL(1));
+    REFUSES(5, 3, "sequence 256, whose low eight bits are 0", HEAD(1, 0, 1),
+            SEQUENCE(0), ALTERNATIVE, CALL(256));
+    REFUSES(5, 5, "sequence 1 with C = 1: that there is step 1 is no help",
+            HEAD(1, 2, 1), STEP(0), STEP(1), SEQUENCE(0), ALTERNATIVE, CALL(1));
+    build(library_l, L_SUM);
+    *word_at(14) = CALL(3);
+    sum_again();
+    refuses(5, 14, "L with sequence 1 naming sequence 3: not below C = 3");
+}
+
+/* "a fact is not below F, or a kind 7 payload is not 0". */
+static void payload_of_fact_and_alternative(void)
+{
+    REFUSES(5, 2, "a need of fact 1 with F = 1", HEAD(1, 1, 0), STEP(0),
+            NEEDS(1));
+    REFUSES(5, 2, "a set of fact 1 with F = 1", HEAD(1, 1, 0), STEP(0),
+            SETS(1));
+    REFUSES(5, 2, "a clear of fact 1 with F = 1", HEAD(1, 1, 0), STEP(0),
+            CLEARS(1));
+    REFUSES(5, 3, "fact F, F being the greatest", HEAD(MOST_F, 1, 0), STEP(0),
+            NEEDS(MOST_F - 1), NEEDS(MOST_F));
+    REFUSES(5, 2, "fact 128, whose low seven bits are 0", HEAD(1, 1, 0),
+            STEP(0), SETS(128));
+    /* 0x30000001 is below 0x40000000 */
+    REFUSES(5, 3, "fact 1 with F = 1, and not greater: 5 comes before 6",
+            HEAD(1, 1, 0), STEP(0), CLEARS(0), SETS(1));
+
+    REFUSES(5, 2, "an alternative with payload 1", HEAD(1, 0, 1), SEQUENCE(0),
+            WORD(KIND_ALTERNATIVE, 1));
+    REFUSES(5, 3, "the second alternative with its number", HEAD(1, 0, 1),
+            SEQUENCE(0), ALTERNATIVE, WORD(KIND_ALTERNATIVE, 1));
+    REFUSES(5, 2, "an alternative with the highest payload bit", HEAD(1, 0, 1),
+            SEQUENCE(0), WORD(KIND_ALTERNATIVE, 0x8000000));
+}
+
+/*
+ * 6: "A fact word of a step is not greater, as a 32-bit number, than the fact
+ * word before it in that step." So the kind comes first, then the fact.
+ */
 static void fact_order(void)
 {
-    SUMMED("a fact word twice", REFUSED(6, 3), HEAD(1, 1, 0), STEP(0), SETS(0),
-           SETS(0));
-    SUMMED("facts that descend", REFUSED(6, 3), HEAD(2, 1, 0), STEP(0),
-           NEEDS(1), NEEDS(0));
-    SUMMED("kinds that descend", REFUSED(6, 3), HEAD(2, 1, 0), STEP(0),
-           SETS(0), NEEDS(1));
-    SUMMED("in the second step", REFUSED(6, 5), HEAD(1, 2, 0), STEP(0),
-           NEEDS(0), STEP(1), CLEARS(0), CLEARS(0));
-    SUMMED("the earliest word decides, 6", REFUSED(6, 3), HEAD(1, 1, 0),
-           STEP(0), NEEDS(0), NEEDS(0), WORD(0, 0));
+    REFUSES(6, 3, "a need twice: equal is not greater", HEAD(1, 1, 0), STEP(0),
+            NEEDS(0), NEEDS(0));
+    REFUSES(6, 3, "a set twice", HEAD(1, 1, 0), STEP(0), SETS(0), SETS(0));
+    REFUSES(6, 3, "a clear twice", HEAD(1, 1, 0), STEP(0), CLEARS(0),
+            CLEARS(0));
+    REFUSES(6, 3, "needs fact 1, then 0", HEAD(2, 1, 0), STEP(0), NEEDS(1),
+            NEEDS(0));
+    REFUSES(6, 3, "clears fact 63, then 62", HEAD(64, 1, 0), STEP(0),
+            CLEARS(63), CLEARS(62));
+    REFUSES(6, 3, "sets, then needs", HEAD(1, 1, 0), STEP(0), SETS(0),
+            NEEDS(0));
+    REFUSES(6, 3, "clears, then sets", HEAD(1, 1, 0), STEP(0), CLEARS(0),
+            SETS(0));
+    REFUSES(6, 3, "clears, then needs", HEAD(1, 1, 0), STEP(0), CLEARS(0),
+            NEEDS(0));
+    REFUSES(6, 3, "sets fact 0, then needs fact 1", HEAD(2, 1, 0), STEP(0),
+            SETS(0), NEEDS(1));
+    REFUSES(6, 3, "clears fact 0, then sets fact 63", HEAD(64, 1, 0), STEP(0),
+            CLEARS(0), SETS(63));
+    REFUSES(6, 4, "greater than the first, not than the second", HEAD(2, 1, 0),
+            STEP(0), NEEDS(0), SETS(1), SETS(0));
+    REFUSES(6, 4, "needs, clears, sets", HEAD(1, 1, 0), STEP(0), NEEDS(0),
+            CLEARS(0), SETS(0));
+    REFUSES(6, 4, "the third equals the second", HEAD(1, 1, 0), STEP(0),
+            NEEDS(0), SETS(0), SETS(0));
+    REFUSES(6, 5, "in the second step, facts", HEAD(2, 2, 0), STEP(0), NEEDS(0),
+            STEP(1), NEEDS(1), NEEDS(0));
+    REFUSES(6, 5, "in the second step, a set twice", HEAD(1, 2, 0), STEP(0),
+            NEEDS(0), STEP(1), SETS(0), SETS(0));
+    REFUSES(6, 5, "in the second step, a clear twice", HEAD(1, 2, 0), STEP(0),
+            NEEDS(0), STEP(1), CLEARS(0), CLEARS(0));
+    REFUSES(6, 3, "step 1 and the sequence are missing: 6 comes before 7",
+            HEAD(1, 2, 1), STEP(0), SETS(0), SETS(0));
+    build(library_l, L_SUM);
+    *word_at(4) = SETS(1);
+    *word_at(5) = NEEDS(0);
+    sum_again();
+    refuses(6, 5, "L with the fact words of step 1 exchanged");
 }
 
-/* 7: fewer steps or sequences than the head counts */
+/*
+ * 7: "Fewer than A steps or C sequences were opened, position of the last
+ * word."
+ */
 static void missing(void)
 {
-    SUMMED("no step of one", REFUSED(7, 1), HEAD(1, 1, 0));
-    SUMMED("no sequence of one", REFUSED(7, 1), HEAD(1, 0, 1));
-    SUMMED("neither step nor sequence", REFUSED(7, 1), HEAD(1, 1, 1));
-    SUMMED("one step of two", REFUSED(7, 3), HEAD(1, 2, 0), STEP(0), SETS(0));
-    SUMMED("one sequence of two", REFUSED(7, 4), HEAD(1, 0, 2), SEQUENCE(0),
-           ALTERNATIVE, ENTRY_SEQUENCE(1));
+    REFUSES(7, 1, "no step of one", HEAD(1, 1, 0));
+    REFUSES(7, 1, "no sequence of one", HEAD(1, 0, 1));
+    REFUSES(7, 1, "neither step nor sequence", HEAD(1, 1, 1));
+    REFUSES(7, 1, "the greatest A, and no step", HEAD(1, MOST_A, 0));
+    REFUSES(7, 1, "the greatest C, and no sequence", HEAD(1, 0, MOST_C));
+    REFUSES(7, 1, "the greatest counts, and neither",
+            HEAD(MOST_F, MOST_A, MOST_C));
+    REFUSES(7, 2, "one step of two", HEAD(1, 2, 0), STEP(0));
+    REFUSES(7, 3, "one step of two, with a fact word", HEAD(1, 2, 0), STEP(0),
+            SETS(0));
+    REFUSES(7, 4, "one step of two, with two: they are no steps", HEAD(1, 2, 0),
+            STEP(0), NEEDS(0), SETS(0));
+    REFUSES(7, 4, "one step of two, with two of a kind", HEAD(2, 2, 0), STEP(0),
+            NEEDS(0), NEEDS(1));
+    REFUSES(7, 3, "two steps of three, no sequence of one", HEAD(1, 3, 1),
+            STEP(0), STEP(1));
+    REFUSES(7, 2, "all steps, no sequence of one", HEAD(1, 1, 1), STEP(0));
+    REFUSES(7, 2, "one sequence of two", HEAD(1, 0, 2), SEQUENCE(0));
+    /* 1 is below C, so that 5 does not apply */
+    REFUSES(7, 4, "one sequence of two, and it names the other", HEAD(1, 0, 2),
+            SEQUENCE(0), ALTERNATIVE, CALL(1));
+    REFUSES(7, 5, "two sequences of three: alternatives are none",
+            HEAD(1, 0, 3), SEQUENCE(0), ALTERNATIVE, SEQUENCE(1), ALTERNATIVE);
+    REFUSES(7, 5, "all steps, one sequence of two", HEAD(1, 1, 2), STEP(0),
+            SEQUENCE(0), ALTERNATIVE, DO(0));
+    build(library_l, 16);
+    refuses(7, 16, "L without sequence 2");
+    build(library_l, 8);
+    refuses(7, 8, "L's head and steps");
+    build(library_l, 6);
+    refuses(7, 6, "L's head and two of its three steps");
 }
 
 /* The header's names and helpers. */
@@ -343,14 +765,28 @@ static void names(void)
 int main(void)
 {
     samples();
-    accepted();
+    accepted_steps();
+    accepted_sequences();
     length();
     longest();
-    counts();
-    sum();
+    most_steps();
+    most_sequences();
+    most_of_all();
+    all_facts();
+    wrong_sums();
+    wrong_sums_of_l();
+    wrong_kind_of_sum();
     head();
-    kind();
-    payload();
+    kind_of_head();
+    kind_nowhere();
+    kind_of_fact_word();
+    kind_of_opener();
+    kind_of_alternative();
+    kind_of_entry();
+    earliest();
+    payload_of_opener();
+    payload_of_entry();
+    payload_of_fact_and_alternative();
     fact_order();
     missing();
     names();

@@ -16,6 +16,7 @@
  */
 #define _DEFAULT_SOURCE 1
 #include "harness.h"
+#include "samples.h"
 
 #include <stdlib.h>
 #include <sys/mman.h>
@@ -148,7 +149,8 @@ static uint64_t cards(size_t length)
         image_stays(which);
         written[which] = 0;
         if (!dulimoven_is_refusal(answer[which]))
-            written[which] = answer[which] * 7 * sizeof(uint64_t);
+            written[which] =
+                answer[which] * DULIMOVEN_CARD_WORDS * sizeof(uint64_t);
         holds("more cards than the area has room for",
               written[which] <= bytes);
         if (written[which] <= bytes)
@@ -180,7 +182,8 @@ static uint64_t chain(uint64_t sequence, uint64_t question, uint64_t fact,
         image_stays(which);
         written[which] = 0;
         if (!dulimoven_is_refusal(answer[which]))
-            written[which] = answer[which] * 2 * sizeof(uint32_t);
+            written[which] =
+                answer[which] * DULIMOVEN_LINK_WORDS * sizeof(uint32_t);
         holds("more links than the area has room for",
               written[which] <= bytes);
         if (written[which] <= bytes)
@@ -228,13 +231,13 @@ static void links(uint64_t count, uint64_t sequence, uint64_t question,
           count == 0 || dulimoven_link_sequence(found_chain) == sequence);
 }
 
-/* Question 0 to 5 of a sequence and a fact, held against the sequence's card. */
+/* Questions 0 to 5 of a sequence and a fact, held against its card. */
 static void agree(uint64_t sequence, uint64_t fact, uint32_t sequences)
 {
     const uint64_t *card = found_cards + DULIMOVEN_CARD_WORDS * sequence;
     int run = dulimoven_has_run(card);
     int has[6];
-    int column[7];
+    int column[DULIMOVEN_CARD_WORDS];
     uint64_t question;
     int i;
     for (question = 0; question < 6; question++) {
@@ -248,7 +251,7 @@ static void agree(uint64_t sequence, uint64_t fact, uint32_t sequences)
               chain(sequence, question, fact, 2 * (size_t)count - 1) ==
                   REFUSED(12, 0));
     }
-    for (i = 1; i < 7; i++)
+    for (i = 1; i < DULIMOVEN_CARD_WORDS; i++)
         column[i] = dulimoven_has_fact(card[i], fact);
     holds("may need", column[DULIMOVEN_MAY_NEED] == has[3]);
     holds("may set", column[DULIMOVEN_MAY_SET] == has[0]);
@@ -287,8 +290,8 @@ static uint64_t all_calls(const char *name)
     c = dulimoven_sequences(answer);
     if (c != 0)
         holds("the cards have too little room",
-              cards(7 * c - 1) == REFUSED(8, 0));
-    holds("the cards", cards(7 * c) == c);
+              cards(DULIMOVEN_CARD_WORDS * c - 1) == REFUSED(8, 0));
+    holds("the cards", cards(DULIMOVEN_CARD_WORDS * c) == c);
     for (sequence = 0; sequence < c; sequence++) {
         agree(sequence, 0, c);
         agree(sequence, f - 1, c);
@@ -303,49 +306,47 @@ static uint64_t all_calls(const char *name)
     return answer;
 }
 
-/* The words of examples/poll.image: sequences that call themselves. */
-static const uint32_t poll[37] = {
-    0x10100203, 0x50000000, 0x20000001, 0x50000001, 0x20000001, 0x30000000,
-    0x50000002, 0x40000001, 0x40000002, 0x50000003, 0x30000002, 0x40000002,
-    0x60000000, 0x70000000, 0x80000000, 0x90000000, 0x70000000, 0x80000001,
-    0x60000001, 0x70000000, 0x90000000, 0x80000002, 0x70000000, 0x90000002,
-    0x60000002, 0x70000000, 0x80000000, 0x90000002, 0x60000003, 0x70000000,
-    0x80000003, 0x90000000, 0x70000000, 0x90000003, 0x90000003, 0x70000000,
-    0xf010022a};
+/* The library of examples/poll.image: sequences that call themselves. */
+static const uint32_t poll[] = {
+    HEAD(3, 4, 4),
+    STEP(0), NEEDS(1),
+    STEP(1), NEEDS(1), SETS(0),
+    STEP(2), CLEARS(1), CLEARS(2),
+    STEP(3), SETS(2), CLEARS(2),
+    SEQUENCE(0), ALTERNATIVE, DO(0), CALL(0), ALTERNATIVE, DO(1),
+    SEQUENCE(1), ALTERNATIVE, CALL(0), DO(2), ALTERNATIVE, CALL(2),
+    SEQUENCE(2), ALTERNATIVE, DO(0), CALL(2),
+    SEQUENCE(3), ALTERNATIVE, DO(3), CALL(0), ALTERNATIVE, CALL(3), CALL(3),
+        ALTERNATIVE};
+
+static int sum_is_right(void)
+{
+    return *word_at(words - 1) == image_sum_word(area + GUARD, words - 1);
+}
 
 /*
- * Each word of a sample changed in each nibble to each other value, with the
- * sum word as it was and with one that is right again.
- *
- * With the sum word as it was the answer is refusal 2 at the last word. A
- * nibble other than the uppermost changes the sum s by d * 16^n, d from 1 to 15
- * or from -15 to -1, and so the folded sum by that, by 1 for a carry into bit
- * 28 and by 16 for a wrap at 2^32. These cancel for 15 + 1 - 16 alone, and only
- * where s is within 15 of 0 or 2^32. The uppermost nibble changes s / 2^28.
+ * Each word of a library changed in each nibble to each other value, with the
+ * sum word as it was and with one that is right again. As it was it is wrong
+ * for the changed words, unless they happen to have the same sum word, and then
+ * the answer is refusal 2 at the last word.
  */
-static void nibbles(const char *name, const uint32_t *sample, size_t count)
+static void nibbles(const char *name, const uint32_t *library, size_t count)
 {
     unsigned accepted = 0;
     size_t word;
     unsigned nibble, change;
-    size_t i;
-    start();
-    for (i = 0; i < count; i++)
-        put(sample[i]);
-    holds("the sample is refused", !dulimoven_is_refusal(all_calls(name)));
-    for (word = 0; word < count; word++) {
+    build(library, count);
+    holds("the library is refused", !dulimoven_is_refusal(all_calls(name)));
+    for (word = 0; word <= count; word++) {
         for (nibble = 0; nibble < 8; nibble++) {
             for (change = 1; change < 16; change++) {
-                start();
-                for (i = 0; i < count; i++)
-                    put(sample[i]);
-                area[GUARD + word] ^= (uint32_t)change << 4 * nibble;
+                build(library, count);
+                *word_at(word) ^= (uint32_t)change << 4 * nibble;
                 holds("damage is not seen",
-                      all_calls(name) == REFUSED(2, count - 1));
-                if (word == count - 1)
+                      sum_is_right() || all_calls(name) == REFUSED(2, count));
+                if (word == count)
                     continue;
-                words--;
-                put(sum_word());
+                sum_again();
                 if (!dulimoven_is_refusal(all_calls(name)))
                     accepted++;
             }
@@ -374,24 +375,26 @@ static uint32_t below(uint32_t bound)
 /* Random words: as they come, with a head and a sum word, of likely kinds. */
 static void noise(void)
 {
-    static const size_t lengths[] = {8190, 8191, 8192, 8193};
+    static const size_t lengths[] = {FULL - 2, FULL - 1, FULL, FULL + 1};
     unsigned n;
     for (n = 0; n < 4000; n++) {
         size_t length = n < 16 ? lengths[n % 4] : below(48);
         unsigned form = n / 4 % 4;
         start();
         if (form > 0 && length > 0)
-            put(HEAD(1 + below(64), below(4), below(4)));
+            put(HEAD(1 + below(MOST_F), below(4), below(4)));
         while (words + 1 < length) {
             uint32_t word = (uint32_t)random_bits();
             if (form == 2)
-                word &= UINT32_C(0xf0000003);
+                word = WORD(image_kind(word), image_payload(word) & 3);
             else if (form == 3)
-                word = WORD(2 + below(8), below(3));
+                word = WORD(KIND_NEEDS + below(8), below(3));
             put(word);
         }
-        if (words < length)
-            put(form == 0 ? (uint32_t)random_bits() : sum_word());
+        if (words < length && form == 0)
+            put((uint32_t)random_bits());
+        else if (words < length)
+            put_sum();
         all_calls("random words");
     }
 }
@@ -404,7 +407,7 @@ static void libraries(void)
 {
     unsigned n;
     for (n = 0; n < 1000; n++) {
-        uint32_t f = 1 + below(n % 8 == 0 ? 64 : 4);
+        uint32_t f = 1 + below(n % 8 == 0 ? MOST_F : 4);
         uint32_t a = below(6);
         uint32_t c = below(7);
         uint32_t i, kind, fact, alternatives, entries;
@@ -412,7 +415,7 @@ static void libraries(void)
         put(HEAD(f, a, c));
         for (i = 0; i < a; i++) {
             put(STEP(i));
-            for (kind = 2; kind <= 4; kind++)
+            for (kind = KIND_NEEDS; kind <= KIND_CLEARS; kind++)
                 for (fact = 0; fact < f; fact++)
                     if (below(f < 4 ? 4 : f) == 0)
                         put(WORD(kind, fact));
@@ -423,18 +426,17 @@ static void libraries(void)
                 put(ALTERNATIVE);
                 for (entries = below(4); entries > 0; entries--) {
                     if (a > 0 && below(2) == 0)
-                        put(ENTRY_STEP(below(a)));
+                        put(DO(below(a)));
                     else
-                        put(ENTRY_SEQUENCE(below(c)));
+                        put(CALL(below(c)));
                 }
             }
         }
-        put(sum_word());
+        put_sum();
         holds("a library is refused",
               all_calls("a random library") == ACCEPTED(f, a, c));
-        area[GUARD + below((uint32_t)words - 1)] ^= 1u << below(32);
-        words--;
-        put(sum_word());
+        *word_at(below((uint32_t)words - 1)) ^= 1u << below(32);
+        sum_again();
         all_calls("a damaged random library");
     }
 }
@@ -447,7 +449,7 @@ int main(void)
         card_pages[which] = pages(CARD_BYTES);
         chain_pages[which] = pages(CHAIN_BYTES);
     }
-    nibbles("L", library_l, COUNT(library_l));
+    nibbles("L", library_l, L_SUM);
     nibbles("poll.image", poll, COUNT(poll));
     noise();
     libraries();

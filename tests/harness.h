@@ -1,12 +1,12 @@
 /*
  * What the tests of the C side share: words and answers by name, an image that
- * is built word by word, and the count of what ran and what failed. C11 and
- * C++17.
+ * is built from them, and the count of what ran and what failed. C11 and C++17.
  */
 #ifndef DULIMOVEN_TESTS_HARNESS_H
 #define DULIMOVEN_TESTS_HARNESS_H
 
 #include "dulimoven.h"
+#include "image.h"
 
 #include <inttypes.h>
 #include <stdio.h>
@@ -14,28 +14,38 @@
 
 #define COUNT(array) (sizeof(array) / sizeof((array)[0]))
 
-/* Words, by kind. */
-#define WORD(kind, payload) (((uint32_t)(kind) << 28) | (uint32_t)(payload))
-#define HEAD(f, a, c) \
-    WORD(1, (uint32_t)(f) | (uint32_t)(a) << 7 | (uint32_t)(c) << 18)
-#define NEEDS(fact) WORD(2, fact)
-#define SETS(fact) WORD(3, fact)
-#define CLEARS(fact) WORD(4, fact)
-#define STEP(number) WORD(5, number)
-#define SEQUENCE(number) WORD(6, number)
-#define ALTERNATIVE WORD(7, 0)
-#define ENTRY_STEP(number) WORD(8, number)
-#define ENTRY_SEQUENCE(number) WORD(9, number)
-#define CHOICE(sequence, alternative) \
-    WORD(10, (uint32_t)(sequence) | (uint32_t)(alternative) << 8)
-#define AT(position) WORD(11, position)
-#define UNTOUCHED WORD(12, 0)
+/* The words of a full image, and the greatest counts in a head. */
+enum {
+    FULL = DULIMOVEN_MOST_IMAGE_WORDS,
+    MOST_F = DULIMOVEN_MOST_FACTS,
+    MOST_A = DULIMOVEN_MOST_STEPS,
+    MOST_C = DULIMOVEN_MOST_SEQUENCES
+};
 
-/* Answers. */
+/*
+ * The words of a library after its HEAD: STEP(0), NEEDS(0), SETS(1) is a step
+ * and SEQUENCE(0), ALTERNATIVE, DO(0), CALL(1) a sequence with one alternative,
+ * step 0 and then sequence 1.
+ */
+#define STEP(number) WORD(KIND_STEP, number)
+#define NEEDS(fact) WORD(KIND_NEEDS, fact)
+#define SETS(fact) WORD(KIND_SETS, fact)
+#define CLEARS(fact) WORD(KIND_CLEARS, fact)
+#define SEQUENCE(number) WORD(KIND_SEQUENCE, number)
+#define ALTERNATIVE WORD(KIND_ALTERNATIVE, 0)
+#define DO(step) WORD(KIND_ENTRY_STEP, step)
+#define CALL(sequence) WORD(KIND_ENTRY_SEQUENCE, sequence)
+
+/* The words of a link: CHOICE and then AT or UNTOUCHED. */
+#define CHOICE(sequence, alternative) \
+    WORD(KIND_CHOICE, (uint32_t)(sequence) | (uint32_t)(alternative) << 8)
+#define AT(position) WORD(KIND_POSITION, position)
+#define UNTOUCHED WORD(KIND_UNTOUCHED, 0)
+
+/* Answers: a refusal, and the check's answer, which is the head's payload. */
 #define REFUSED(number, position) \
     (((uint64_t)(number) << 32) + (uint64_t)(position))
-#define ACCEPTED(f, a, c) \
-    ((uint64_t)(f) + (uint64_t)(a) * 128 + (uint64_t)(c) * 262144)
+#define ACCEPTED(f, a, c) ((uint64_t)(HEAD(f, a, c) & PAYLOAD_MASK))
 
 static unsigned ran;
 static unsigned failed;
@@ -53,7 +63,7 @@ static inline void hold(const char *name, int right)
  * The image under test, with guard words on both sides. The area is compared
  * with a copy after each call.
  */
-enum { GUARD = 16, LONGEST = 8193, AREA = GUARD + LONGEST + GUARD };
+enum { GUARD = 16, LONGEST = FULL + 1, AREA = GUARD + LONGEST + GUARD };
 static uint32_t area[AREA];
 static uint32_t copy[AREA];
 static size_t words;
@@ -72,6 +82,65 @@ static inline void put(uint32_t word)
         area[GUARD + words++] = word;
 }
 
+static inline void put_all(const uint32_t *given, size_t count)
+{
+    size_t i;
+    for (i = 0; i < count; i++)
+        put(given[i]);
+}
+
+#define PUT(...)                                \
+    do {                                        \
+        const uint32_t given[] = {__VA_ARGS__}; \
+        put_all(given, COUNT(given));           \
+    } while (0)
+
+/* The word again and again, until there are so many words. */
+static inline void fill(uint32_t word, size_t count)
+{
+    while (words < count)
+        put(word);
+}
+
+/* The sum word of the words that are there. */
+static inline void put_sum(void)
+{
+    put(image_sum_word(area + GUARD, words));
+}
+
+/* The words given, and after them the sum word. */
+static inline void build(const uint32_t *given, size_t count)
+{
+    start();
+    put_all(given, count);
+    put_sum();
+}
+
+#define BUILD(...)                              \
+    do {                                        \
+        const uint32_t given[] = {__VA_ARGS__}; \
+        build(given, COUNT(given));             \
+    } while (0)
+
+static inline uint32_t *word_at(size_t position)
+{
+    return area + GUARD + position;
+}
+
+/* The sum word is right again, after a change of other words. */
+static inline void sum_again(void)
+{
+    words--;
+    put_sum();
+}
+
+/* The payload of the sum word is so much greater than the right one. */
+static inline void miss_sum(int by)
+{
+    uint32_t *last = word_at(words - 1);
+    *last = image_word(KIND_SUM, image_payload(*last + (uint32_t)by));
+}
+
 /* Before a call, and after it: no word of the image or beside it is changed. */
 static inline void keep(void)
 {
@@ -85,41 +154,5 @@ static inline void kept(const char *name)
     failed++;
     printf("%s: the call changed the image or a word beside it\n", name);
 }
-
-/*
- * The sum word for the words that are there: s is their sum with wrap at 2^32,
- * the payload (s + s / 2^28) mod 2^28.
- */
-static inline uint32_t sum_word(void)
-{
-    uint64_t s = 0;
-    size_t i;
-    for (i = 0; i < words; i++)
-        s = (s + area[GUARD + i]) % UINT64_C(4294967296);
-    return WORD(15, (s + s / 268435456) % 268435456);
-}
-
-/* The image under test from the words given, and after them the sum word. */
-static inline void build(const uint32_t *given, size_t count)
-{
-    size_t i;
-    start();
-    for (i = 0; i < count; i++)
-        put(given[i]);
-    put(sum_word());
-}
-
-#define BUILD(...)                                     \
-    do {                                               \
-        static const uint32_t given[] = {__VA_ARGS__}; \
-        build(given, COUNT(given));                    \
-    } while (0)
-
-/* Library L of document 01, as printed there. */
-static const uint32_t library_l[20] = {
-    0x100c0183, 0x50000000, 0x30000000, 0x50000001, 0x20000000,
-    0x30000001, 0x50000002, 0x40000001, 0x60000000, 0x70000000,
-    0x80000000, 0x70000000, 0x60000001, 0x70000000, 0x90000000,
-    0x80000001, 0x60000002, 0x70000000, 0x90000002, 0xf00c019a};
 
 #endif

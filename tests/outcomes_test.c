@@ -1,30 +1,25 @@
 /*
  * The three calls on worked libraries. What is possible for each sequence, over
- * all of its runs, was worked out by hand from document 01: the tables of
+ * all of its runs, was worked out by hand from document 01: the files of
  * tests/outcomes, one for each slip that document 01 names and more. The card
- * of a sequence must be the one that follows from these words, and a question
- * must be answered "none" exactly where they lack the fact. C11 and C++17.
- * Prints a line for each word and each answer that differs, then a count; the
- * exit status is 0 where nothing differs.
+ * of a sequence must be the one that follows from these outcomes, and a
+ * question must be answered "none" exactly where they lack the fact. C11 and
+ * C++17. Prints a line for each word and each answer that differs, then a
+ * count; the exit status is 0 where nothing differs.
  *
- * Tried: on a copy, bit 0 of an expected word was changed, in eight words of
- * each table, one at a time. All 56 changes were reported, 47 by a card, 40 by
- * a question, and four by questions alone: as first set of sequence 2 in row 5
- * of calls, which shows in no card since the fact may stay untouched there too.
+ * Tried: on a copy, bit 0 of each of the eight words that are expected of a
+ * sequence was changed, one at a time, for the 198 sequences outside long.h.
+ * All 1,584 changes were reported, 1,271 by a card, 1,188 by a question. 263
+ * showed in questions and no card: as first set of sequence 2 of the ring of
+ * four in calls, since the fact may stay untouched there too. 50 showed only in
+ * that no runs have such outcomes.
  */
 #include "harness.h"
-
-#include "outcomes/calls.h"
-#include "outcomes/endless.h"
-#include "outcomes/facts.h"
-#include "outcomes/long.h"
-#include "outcomes/past.h"
-#include "outcomes/steps.h"
-#include "outcomes/untouched.h"
+#include "samples.h"
 
 /*
- * The words that a table has of a sequence, in their order. In the first two
- * all facts are in or none. The other six stand in the order of the questions.
+ * What can come of the runs of a sequence. In the first two all facts are in or
+ * none. The other six stand in the order of the questions.
  */
 enum {
     RUN,
@@ -35,20 +30,21 @@ enum {
     FIRST_NEEDED,
     FIRST_SET,
     FIRST_UNTOUCHED,
-    OUTCOME_WORDS
+    OUTCOMES
 };
 enum { QUESTIONS = 6 };
 
-/* The table and its row that a line is about. */
-static const char *table;
-static unsigned row;
+/* The library under test, and what its sequences are expected to come to. */
+static const char *library;
+static uint64_t due[MOST_C][OUTCOMES];
+static size_t dues;
 static unsigned libraries;
 
 /* Begins a line about what differs. */
 static void differs(void)
 {
     failed++;
-    printf("%s, row %u: ", table, row);
+    printf("%s: ", library);
 }
 
 static void holds(const char *what, int right)
@@ -58,6 +54,71 @@ static void holds(const char *what, int right)
         return;
     differs();
     printf("%s\n", what);
+}
+
+/* Begins a library, with its head and steps or without a word. */
+static void begin(const char *name)
+{
+    library = name;
+    libraries++;
+    dues = 0;
+    start();
+}
+
+#define LIBRARY(name, ...) \
+    do {                   \
+        begin(name);       \
+        PUT(__VA_ARGS__);  \
+    } while (0)
+
+/* A fact, and all facts below `f`. */
+#define FACT(f) (UINT64_C(1) << (f))
+#define FACTS(f) (~UINT64_C(0) >> (64 - (f)))
+
+static uint64_t all_facts(void)
+{
+    return FACTS(image_facts(*word_at(0)));
+}
+
+/*
+ * What the next sequence comes to: no run; runs with these outcomes, none of
+ * them empty; runs and an empty one. An outcome is said by the facts that it is
+ * possible for, bit f for fact f.
+ */
+#define LAST(set, cleared, untouched) set, cleared, untouched
+#define FIRST(needed, set, untouched) needed, set, untouched
+
+static void comes_to(uint64_t run, uint64_t empty, uint64_t last_set,
+                     uint64_t last_cleared, uint64_t last_untouched,
+                     uint64_t first_needed, uint64_t first_set,
+                     uint64_t first_untouched)
+{
+    const uint64_t o[OUTCOMES] = {run,          empty,        last_set,
+                                  last_cleared, last_untouched, first_needed,
+                                  first_set,    first_untouched};
+    if (dues < MOST_C)
+        memcpy(due[dues++], o, sizeof o);
+}
+
+static void no_run(void)
+{
+    comes_to(0, 0, LAST(0, 0, 0), FIRST(0, 0, 0));
+}
+
+static void runs(uint64_t last_set, uint64_t last_cleared,
+                 uint64_t last_untouched, uint64_t first_needed,
+                 uint64_t first_set, uint64_t first_untouched)
+{
+    comes_to(all_facts(), 0, last_set, last_cleared, last_untouched,
+             first_needed, first_set, first_untouched);
+}
+
+static void runs_and_empty(uint64_t last_set, uint64_t last_cleared,
+                           uint64_t last_untouched, uint64_t first_needed,
+                           uint64_t first_set, uint64_t first_untouched)
+{
+    comes_to(all_facts(), all_facts(), last_set, last_cleared, last_untouched,
+             first_needed, first_set, first_untouched);
 }
 
 static uint64_t ones(uint64_t column)
@@ -96,13 +157,12 @@ static void card_of(const uint64_t *o, uint64_t *card)
 }
 
 /*
- * Whether the words of a row can be outcomes at all, where `all` has the facts
- * below F: a run has one of the three outcomes of a side, and an empty run
- * leaves every fact untouched. So no word has a fact from F up.
+ * Whether these can be outcomes at all: a run has one of the three of a side,
+ * and an empty run leaves every fact untouched. So none has a fact from F up.
  */
-static int possible(const uint64_t *o, uint64_t all)
+static int possible(const uint64_t *o)
 {
-    return (o[RUN] == 0 || o[RUN] == all) &&
+    return (o[RUN] == 0 || o[RUN] == all_facts()) &&
            (o[EMPTY_RUN] == 0 || o[EMPTY_RUN] == o[RUN]) &&
            (o[LAST_SET] | o[LAST_CLEARED] | o[LAST_UNTOUCHED]) == o[RUN] &&
            (o[FIRST_NEEDED] | o[FIRST_SET] | o[FIRST_UNTOUCHED]) == o[RUN] &&
@@ -122,42 +182,41 @@ static uint64_t stays(size_t i)
     return UINT64_C(0xabad1dea00000000) + i;
 }
 
-/* Compares the card of sequence `c`, with the facts of `all` and no other. */
-static void compare_card(size_t c, const uint64_t *o, uint64_t all)
+/* Compares the card of sequence `c`, which has no fact from F up. */
+static void compare_card(size_t c)
 {
     const uint64_t *found = card_area + GUARD + DULIMOVEN_CARD_WORDS * c;
-    uint64_t due[DULIMOVEN_CARD_WORDS];
+    uint64_t card[DULIMOVEN_CARD_WORDS];
     uint64_t columns = 0;
     size_t i;
-    card_of(o, due);
+    card_of(due[c], card);
     for (i = 0; i < DULIMOVEN_CARD_WORDS; i++) {
         ran++;
-        if (found[i] == due[i])
+        if (found[i] == card[i])
             continue;
         differs();
         printf("sequence %u, word %u of the card: expected %" PRIx64
                ", found %" PRIx64 "\n",
-               (unsigned)c, (unsigned)i + 1, due[i], found[i]);
+               (unsigned)c, (unsigned)i + 1, card[i], found[i]);
     }
     for (i = 1; i < DULIMOVEN_CARD_WORDS; i++)
         columns |= found[i];
-    holds("a card has a fact from F up", (columns & ~all) == 0);
+    holds("a card has a fact from F up", (columns & ~all_facts()) == 0);
 }
 
-/* Compares the cards of all sequences, in an area of 7 words for each. */
-static void compare_cards(const uint64_t *outcomes, size_t sequences,
-                          uint64_t all)
+/* Compares the cards of all sequences, in an area of just their words. */
+static void compare_cards(void)
 {
-    size_t length = DULIMOVEN_CARD_WORDS * sequences;
+    size_t length = DULIMOVEN_CARD_WORDS * dues;
     int stayed = 1;
     size_t i;
     for (i = 0; i < CARD_AREA; i++)
         card_area[i] = stays(i);
     holds("the cards' answer is not C",
           dulimoven_cards(area + GUARD, words, card_area + GUARD, length) ==
-              sequences);
-    for (i = 0; i < sequences; i++)
-        compare_card(i, outcomes + OUTCOME_WORDS * i, all);
+              dues);
+    for (i = 0; i < dues; i++)
+        compare_card(i);
     for (i = 0; i < CARD_AREA; i++)
         if (i < GUARD || i >= GUARD + length)
             stayed &= card_area[i] == stays(i);
@@ -166,169 +225,99 @@ static void compare_cards(const uint64_t *outcomes, size_t sequences,
 
 /*
  * Asks a question of sequence `c`, in an area of two words for each sequence:
- * "none" exactly where the outcome's word lacks the fact.
+ * "none" exactly where the outcome lacks the fact.
  */
-static void ask(size_t c, const uint64_t *o, uint64_t question, uint64_t fact,
-                size_t sequences)
+static void ask(size_t c, uint64_t question, uint64_t fact)
 {
     uint32_t chain[DULIMOVEN_MOST_CHAIN_WORDS];
-    int due = dulimoven_has_fact(o[LAST_SET + question], fact);
+    int some = dulimoven_has_fact(due[c][LAST_SET + question], fact);
     uint64_t answer = dulimoven_chain(area + GUARD, words, c, question, fact,
-                                      chain, 2 * sequences);
+                                      chain, DULIMOVEN_LINK_WORDS * dues);
     ran++;
-    if (due ? answer >= 1 && answer <= sequences : answer == 0)
+    if (some ? answer >= 1 && answer <= dues : answer == 0)
         return;
     differs();
     printf("sequence %u, question %u, fact %u: expected %s, answered %" PRIx64
            "\n",
            (unsigned)c, (unsigned)question, (unsigned)fact,
-           due ? "a chain" : "none", answer);
+           some ? "a chain" : "none", answer);
 }
 
 /*
  * All six questions about each fact, asked of each sequence. Where that were
  * tens of thousands they are asked of the first, the last and one in 37.
  */
-static void ask_all(const uint64_t *outcomes, size_t sequences, uint32_t facts)
+static void ask_all(void)
 {
-    size_t apart = sequences * facts <= 512 ? 1 : 37;
+    uint32_t facts = image_facts(*word_at(0));
+    size_t apart = dues * facts <= 512 ? 1 : 37;
     size_t c;
     uint64_t question;
     uint64_t fact;
-    for (c = 0; c < sequences; c++)
-        if (c % apart == 0 || c == sequences - 1)
+    for (c = 0; c < dues; c++)
+        if (c % apart == 0 || c == dues - 1)
             for (fact = 0; fact < facts; fact++)
                 for (question = 0; question < QUESTIONS; question++)
-                    ask(c, outcomes + OUTCOME_WORDS * c, question, fact,
-                        sequences);
+                    ask(c, question, fact);
 }
 
-/* Holds the three calls on one library to the outcomes expected. */
-static void library(const uint64_t *image, size_t count,
-                    const uint64_t *outcomes, size_t expected)
+/* Ends a library, and holds the three calls on it to what is expected. */
+static void judge(void)
 {
     uint64_t answer;
-    size_t sequences;
-    uint32_t facts;
-    uint64_t all;
     size_t i;
-    libraries++;
-    start();
-    for (i = 0; i < count; i++)
-        put((uint32_t)image[i]);
+    put_sum();
     keep();
     answer = dulimoven_check(area + GUARD, words);
     ran++;
-    if (count == 0 || answer != (image[0] & 0xfffffff)) {
+    if (answer != image_payload(*word_at(0))) {
         differs();
         printf("the check answered %" PRIx64 "\n", answer);
         return;
     }
-    facts = dulimoven_facts(answer);
-    sequences = dulimoven_sequences(answer);
-    all = ~UINT64_C(0) >> (64 - facts);
     ran++;
-    if (expected != OUTCOME_WORDS * sequences) {
+    if (dues != image_sequences(*word_at(0))) {
         differs();
-        printf("%u words expected, for %u sequences\n", (unsigned)expected,
-               (unsigned)sequences);
+        printf("outcomes of %u sequences are expected\n", (unsigned)dues);
         return;
     }
-    for (i = 0; i < sequences; i++)
-        holds("words that are no outcomes",
-              possible(outcomes + OUTCOME_WORDS * i, all));
-    compare_cards(outcomes, sequences, all);
-    ask_all(outcomes, sequences, facts);
-    kept(table);
+    for (i = 0; i < dues; i++)
+        holds("these are no outcomes", possible(due[i]));
+    compare_cards();
+    ask_all();
+    kept(library);
 }
 
-/* Whether a row of a table has `first` and `second` words after its counts. */
-static int fits(size_t left, uint64_t first, uint64_t second)
-{
-    return first <= left && second <= left - first;
-}
+/* Step 0 sets fact 0, step 1 clears it, step 2 needs it. */
+#define SET_CLEAR_NEED STEP(0), SETS(0), STEP(1), CLEARS(0), STEP(2), NEEDS(0)
 
-/* The libraries of a table. */
-static void walk(const char *name, const uint64_t *rows, size_t count)
-{
-    size_t at = 0;
-    table = name;
-    for (row = 0; at < count; row++) {
-        size_t image;
-        size_t expected;
-        if (count - at < 2 || !fits(count - at - 2, rows[at], rows[at + 1])) {
-            holds("the row is cut short", 0);
-            return;
-        }
-        image = rows[at];
-        expected = rows[at + 1];
-        library(rows + at + 2, image, rows + at + 2 + image, expected);
-        at += 2 + image + expected;
-    }
-}
+/* Step 0 sets fact 0, step 1 has no fact, step 2 needs fact 0, step 3 clears
+ * it. */
+#define SET_NONE_NEED_CLEAR \
+    STEP(0), SETS(0), STEP(1), STEP(2), NEEDS(0), STEP(3), CLEARS(0)
 
-/*
- * Writes the words of blocks. A block is the number of words that it gives, the
- * number of numbers that follow, and these in pairs: the words go through the
- * pairs in turn, the first time round each word is the first number of its
- * pair, and each time the second number is added. Answers how many words there
- * are; a block that has no room, or no pairs, ends them.
- */
-static size_t put_blocks(uint64_t *to, size_t room, const uint64_t *blocks,
-                         size_t count)
-{
-    size_t n = 0;
-    size_t at = 0;
-    while (count - at >= 2) {
-        size_t size = blocks[at];
-        size_t numbers = blocks[at + 1];
-        const uint64_t *pairs = blocks + at + 2;
-        size_t i;
-        if (size > room - n || numbers > count - at - 2 || numbers < 2)
-            break;
-        for (i = 0; i < size; i++) {
-            const uint64_t *pair = pairs + 2 * (i % (numbers / 2));
-            to[n + i] = pair[0] + i / (numbers / 2) * pair[1];
-        }
-        n += size;
-        at += 2 + numbers;
-    }
-    holds("blocks that do not come out even", at == count);
-    return n;
-}
-
-/* The libraries of a table of long ones. */
-static void walk_long(const char *name, const uint64_t *rows, size_t count)
-{
-    static uint64_t image[DULIMOVEN_MOST_IMAGE_WORDS];
-    static uint64_t outcomes[OUTCOME_WORDS * DULIMOVEN_MOST_SEQUENCES];
-    size_t at = 0;
-    table = name;
-    for (row = 0; at < count; row++) {
-        const uint64_t *blocks = rows + at + 2;
-        size_t n;
-        size_t m;
-        if (count - at < 2 || !fits(count - at - 2, rows[at], rows[at + 1])) {
-            holds("the row is cut short", 0);
-            return;
-        }
-        n = put_blocks(image, COUNT(image), blocks, rows[at]);
-        m = put_blocks(outcomes, COUNT(outcomes), blocks + rows[at],
-                       rows[at + 1]);
-        library(image, n, outcomes, m);
-        at += 2 + rows[at] + rows[at + 1];
-    }
-}
+/* The libraries. After the words of a sequence stands what it comes to. */
+#include "outcomes/calls.h"
+#include "outcomes/endless.h"
+#include "outcomes/facts.h"
+#include "outcomes/long.h"
+#include "outcomes/past.h"
+#include "outcomes/steps.h"
+#include "outcomes/untouched.h"
 
 int main(void)
 {
-    walk("endless", endless_rows, COUNT(endless_rows));
-    walk("untouched", untouched_rows, COUNT(untouched_rows));
-    walk("past", past_rows, COUNT(past_rows));
-    walk("steps", steps_rows, COUNT(steps_rows));
-    walk("calls", calls_rows, COUNT(calls_rows));
-    walk("facts", facts_rows, COUNT(facts_rows));
-    walk_long("long", long_rows, COUNT(long_rows));
+    endless();
+    untouched();
+    past();
+    steps();
+    calls();
+    facts();
+    calls_in_a_row();
+    neighbours();
+    rings();
+    endless_many();
+    full_images();
     printf("outcomes_test: %u libraries, %u checks, %u failed\n", libraries,
            ran, failed);
     return failed == 0 ? 0 : 1;

@@ -1,52 +1,83 @@
-// Runs the check, the card call and the chain call on samples: those of document 01 that are not starred, and more for each refusal. Each table
-// has a file of its own, with the expected value of each row worked out from document 01 in a comment.
-mod accepted;
-mod card_area;
-mod fact_order;
-mod head_word;
-mod kind;
-mod length;
-mod libraries;
-mod links;
-mod long;
-mod missing;
-mod payload;
-mod row;
-mod sum_word;
-mod table;
-mod word_runs;
+// Runs the samples of document 01 that are not starred, through the calls of the C side, and prints a line for each: what is asked, and the
+// answer. The file `stdout` has what must be printed.
+use libc::STDOUT_FILENO;
 
-use crate::row::CARD_AREA;
-use crate::row::LONG_IMAGES;
-use crate::row::NONE;
-use crate::row::TOTAL;
-use crate::row::Tally;
+// Library L, as document 01 prints it.
+const L: [u32; 20] = [
+    0x100c0183,
+    0x50000000,
+    0x30000000,
+    0x50000001,
+    0x20000000,
+    0x30000001,
+    0x50000002,
+    0x40000001,
+    0x60000000,
+    0x70000000,
+    0x80000000,
+    0x70000000,
+    0x60000001,
+    0x70000000,
+    0x90000000,
+    0x80000001,
+    0x60000002,
+    0x70000000,
+    0x90000002,
+    0xf00c019a,
+];
 
-// Runs the rows of a table.
-fn walked(table: usize) -> Tally {
-    match table {
-        0 => table::walked(table, &accepted::ROWS),
-        1 => table::walked(table, &length::ROWS),
-        2 => table::walked(table, &sum_word::ROWS),
-        3 => table::walked(table, &head_word::ROWS),
-        4 => table::walked(table, &kind::ROWS),
-        5 => table::walked(table, &payload::ROWS),
-        6 => table::walked(table, &fact_order::ROWS),
-        7 => table::walked(table, &missing::ROWS),
-        LONG_IMAGES => table::walked(table, &long::ROWS),
-        CARD_AREA => card_area::walked(),
-        _ => links::walked(),
+// Heads with F = 64 and F = 65, A = C = 0. The sum s is the head, and its quotient by 2^28 is 1: 0x40 + 1 = 0x41, 0x41 + 1 = 0x42.
+const FACTS_64: [u32; 2] = [0x10000040, 0xf0000041];
+
+const FACTS_65: [u32; 2] = [0x10000041, 0xf0000042];
+
+// An answer is the number that the C side gets: N × 2^32 + P for refusal N at position P, below 2^32 what the call is for.
+fn show(sample: &[u8], answer: u64) {
+    io::write_all(STDOUT_FILENO, sample);
+    if answer >> 32 != 0 {
+        io::write_all(STDOUT_FILENO, b"refused ");
+        io::print_decimal(STDOUT_FILENO, answer >> 32);
+        io::write_all(STDOUT_FILENO, b" at ");
     }
+    io::print_decimal(STDOUT_FILENO, answer % 4294967296);
+    io::write_all(STDOUT_FILENO, b"\n");
+}
+
+// "L: card area 20 words gets 8, 21 suffices": refused 8 at 0, and C = 3.
+fn card_areas() {
+    let mut short = [0u64; 20];
+    let mut enough = [0u64; 21];
+    show(
+        b"L, card area 20 words: ",
+        dulimoven::dulimoven_cards(&L, &mut short),
+    );
+    show(
+        b"L, card area 21 words: ",
+        dulimoven::dulimoven_cards(&L, &mut enough),
+    );
+}
+
+// "sequence 3 gets 9; question 6 with fact 3 gets 10.": refused 9 at 0, refused 10 at 0.
+fn questions() {
+    let mut area = [0u32; 6];
+    show(
+        b"L, sequence 3: ",
+        dulimoven::dulimoven_chain(&L, 3, 0, 0, &mut area),
+    );
+    show(
+        b"L, question 6 with fact 3: ",
+        dulimoven::dulimoven_chain(&L, 0, 6, 3, &mut area),
+    );
+}
+
+// "F = 64 is read, 65 gets 3.": the head's payload, 64, and refused 3 at 0.
+fn facts() {
+    show(b"F = 64: ", dulimoven::dulimoven_check(&FACTS_64));
+    show(b"F = 65: ", dulimoven::dulimoven_check(&FACTS_65));
 }
 
 fn main() {
-    let mut t = NONE;
-    let mut table = 0;
-    while table < TOTAL {
-        let here = walked(table);
-        here.print(table);
-        t = t.more(here.ran, here.differ);
-        table += 1;
-    }
-    t.print(TOTAL);
+    card_areas();
+    questions();
+    facts();
 }

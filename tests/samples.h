@@ -1,0 +1,33 @@
+/*
+ * What document 01 prints under "Sample libraries", word by word. C11 and
+ * C++17.
+ */
+#ifndef DULIMOVEN_TESTS_SAMPLES_H
+#define DULIMOVEN_TESTS_SAMPLES_H
+
+#include "dulimoven.h"
+
+/* Library L: 3 facts, 3 steps, 3 sequences. */
+enum { L_WORDS = 20, L_SUM = L_WORDS - 1, L_SEQUENCES = 3 };
+static const uint32_t library_l[L_WORDS] = {
+    0x100c0183, 0x50000000, 0x30000000, 0x50000001, 0x20000000,
+    0x30000001, 0x50000002, 0x40000001, 0x60000000, 0x70000000,
+    0x80000000, 0x70000000, 0x60000001, 0x70000000, 0x90000000,
+    0x80000001, 0x60000002, 0x70000000, 0x90000002, 0xf00c019a};
+
+/* Its cards. */
+static const uint64_t cards_of_l[L_SEQUENCES][DULIMOVEN_CARD_WORDS] = {
+    {0x103, 0, 0, 1, 0, 0, 0},
+    {0x201, 0, 1, 3, 0, 2, 0},
+    {0, 0, 0, 0, 0, 0, 0}};
+
+/* Its chains of sequence 1 and fact 0, for question 2 and for question 0. */
+static const uint32_t untouched_in_l[2] = {0xa0000001, 0xc0000000};
+static const uint32_t set_in_l[4] = {0xa0000001, 0xb0000000, 0xa0000000,
+                                     0xb0000000};
+
+/* An image that is accepted and has no sequence, and one that gets 3. */
+static const uint32_t no_sequence[2] = {0x10000001, 0xf0000002};
+static const uint32_t no_fact[2] = {0x10000000, 0xf0000001};
+
+#endif
