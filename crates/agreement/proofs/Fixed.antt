@@ -16,16 +16,16 @@ use Rattle.image.specs.declared.answer.Head.{Head}
 use Rattle.image.specs.declared.answer.Checked.{Checked}
 use Rattle.library.proofs.Accepted.{counted}
 use Rattle.runs.specs.Touch.{questionOf}
-use Rattle.card.specs.Area.{partWord}
-use Rattle.card.specs.Card.{cardWords}
-use Rattle.card.specs.Meaning.{Always}
-use Rattle.card.proofs.Unique.{card-unique}
-use Rattle.chain_words.specs.Link.{Chain, chainWords}
-use Rattle.rank.specs.Answer.{shown}
-use Rattle.rank.specs.Call.{answered, chained}
-use Rattle.rank.proofs.Words.{words-length, words-same}
-use Rattle.rank.proofs.Answers.{answer-shows}
-use Rattle.chain.proofs.Calls.{call-answered}
+use Rattle.cards.specs.Area.{partWord}
+use Rattle.cards.specs.Card.{cardWords}
+use Rattle.cards.specs.Meaning.{Always}
+use Rattle.cards.proofs.Unique.{card-unique}
+use Rattle.chains.specs.Link.{Chain, chainWords}
+use Rattle.chains.specs.Answer.{shown}
+use Rattle.chains.specs.Call.{answered, chained}
+use Rattle.chains.proofs.Words.{words-length, words-same}
+use Rattle.chains.proofs.Answers.{answer-shows}
+use Rattle.chains.proofs.Call.{call-answered}
 use Rattle.dulimoven.specs.Returned.{Returned}
 use Rattle.dulimoven.specs.ChainCall.{Links}
 use Rattle.dulimoven.specs.Demands.{Engine, count, Ready, Demand2, Asks, Proves, Demand3}

@@ -6,7 +6,7 @@ use mathlib.Core.Path.{_≡_, refl, sym, _∙_, ap}
 use mathlib.Core.Bool.{Bool, true, false, _&&_, _||_, false≢true}
 use mathlib.Core.List.{List, [], _∷_}
 use borrow.Author.Tests.{ne-eqb}
-use Rattle.library.specs.Accepted.{All}
+use Rattle.general.specs.Tests.{All}
 use Rattle.reader.specs.Checked.{scan, checked}
 use Rattle.library.specs.Library.{Library, has, libraryOf}
 use Rattle.rules.specs.Rules.{opened, lastOf}
@@ -14,9 +14,9 @@ use Rattle.image.specs.Word.{total}
 use Rattle.runs.specs.Run.{Item, Run, Gives, nothing, by-step, by-call, alternativeOf}
 use Rattle.runs.specs.Execution.{Fact, State, Executes, end}
 use Rattle.runs.specs.Possible.{possible}
-use Rattle.card.specs.Card.{card, cards}
-use Rattle.chain_words.specs.Link.{chainWords}
-use Rattle.rank.specs.Call.{chained}
+use Rattle.cards.specs.Card.{card, cards}
+use Rattle.chains.specs.Link.{chainWords}
+use Rattle.chains.specs.Call.{chained}
 use Rattle.card_text.specs.Words.{wordsOf}
 use Rattle.card_text.specs.Number.{numeral, numeralIn}
 use Rattle.card_text.specs.Line.{spaced, cardLine, linesFrom, cardLines, refusalLine}

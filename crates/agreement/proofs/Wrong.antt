@@ -20,14 +20,14 @@ use Rattle.image.specs.declared.answer.Checked.{Checked}
 use Rattle.library.proofs.Accepted.{counted}
 use Rattle.runs.specs.Possible.{possible}
 use Rattle.runs.proofs.Outcome.{present≢untouched}
-use Rattle.card.specs.Area.{partWord}
-use Rattle.card.specs.Card.{card, cards}
-use Rattle.card.specs.Meaning.{Always, needed, set, cleared, place}
+use Rattle.cards.specs.Area.{partWord}
+use Rattle.cards.specs.Card.{card, cards}
+use Rattle.cards.specs.Meaning.{Always, needed, set, cleared, place}
 use Rattle.runs.specs.Touch.{questionOf}
-use Rattle.chain_words.specs.Link.{Link, touchLink, untouchedLink, Chain, chainWords, Fits}
-use Rattle.rank.proofs.Fits.{accepted-fits}
-use Rattle.rank.specs.Answer.{shown}
-use Rattle.rank.specs.Call.{answered, chained}
+use Rattle.chains.specs.Link.{Link, touchLink, untouchedLink, Chain, chainWords, Fits}
+use Rattle.chains.proofs.Fits.{accepted-fits}
+use Rattle.chains.specs.Answer.{shown}
+use Rattle.chains.specs.Call.{answered, chained}
 use Rattle.agreement.specs.Samples.{L, selfCall, clearThenNeed, pulse}
 use Rattle.dulimoven.specs.Returned.{Returned, returned}
 use Rattle.dulimoven.specs.ChainCall.{Asked, Answers, Links, ChainReturn}

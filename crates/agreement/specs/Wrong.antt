@@ -10,10 +10,10 @@ use lib.Dec.{eqb}
 use lib.ListN.{length, drop, replicate, set}
 use Rattle.library.specs.Library.{libraryOf}
 use Rattle.column.specs.Sets.{inColumn, countBelow}
-use Rattle.card.specs.Card.{cardWords}
-use Rattle.card.specs.Area.{partWord}
-use Rattle.card.specs.Meaning.{Always, place}
-use Rattle.chain_words.specs.Link.{Link, Chain, chainWords}
+use Rattle.cards.specs.Card.{cardWords}
+use Rattle.cards.specs.Area.{partWord}
+use Rattle.cards.specs.Meaning.{Always, place}
+use Rattle.chains.specs.Link.{Link, Chain, chainWords}
 use Rattle.dulimoven.specs.Returned.{Returned, returned}
 use Rattle.dulimoven.specs.ChainCall.{Asked, Answers, Links}
 use Rattle.dulimoven.specs.Demands.{Engine, Refuses, Ready, count, Asks, Proves}

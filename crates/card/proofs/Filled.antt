@@ -3,10 +3,11 @@
 use Prim.Native.Nat.{ℕ, _*_, _≤_, _<_}
 use native.Mathlib.Omega.{arith}
 use mathlib.Core.Path.{_≡_, refl, sym, ap, ap₂, _∙_}
-use mathlib.Core.Bool.{Bool, cond}
+use mathlib.Core.Bool.{Bool, true, false, cond}
 use mathlib.Core.List.{List, _++_}
 use lib.ListN.{length, drop}
-use borrow.Author.Tests.{lt-ltb, le-ltb}
+use lib.Dec.{ltb}
+use borrow.Author.Tests.{lt-ltb, le-ltb, ltb-false}
 use Rattle.library.specs.Library.{libraryOf}
 use Rattle.reader.specs.Checked.{checked}
 use Rattle.library.specs.Accepted.{Counted, Faultless}
@@ -16,8 +17,8 @@ use Rattle.image.specs.declared.answer.Refusal.the-variants.{CardArea}
 use Rattle.image.specs.declared.answer.Checked.{Checked}
 use Rattle.library.proofs.Accepted.{faultless, counted}
 use Rattle.outcome.specs.Area.{outcomes}
-use Rattle.card.specs.Card.{cards}
-use Rattle.card_words.specs.Row.{tableCards}
+use Rattle.cards.specs.Card.{cardWords, cards}
+use Rattle.row.specs.Card.{tableCards}
 use Rattle.card.specs.Answer.{cardsGiven, cardsOf, areaWith, Called}
 use Rattle.card.specs.declared.answer.Cards.{Cards}
 use Rattle.card.proofs.Table.{table-cards}
@@ -62,3 +63,16 @@ module _ (image area : List ℕ) (h : Head) (accepted : checked image ≡ Checke
   call-filled l after w =
       called image area (Checked.Accepted h) (Cards.Filled (h .sequences)) after accepted
       (ap (λ (b : Bool). cond b (Cards.Refused CardArea) (Cards.Filled (h .sequences))) (le-ltb (length area) (7 * h .sequences) l)) w
+
+-- where the call answers a count, the image is accepted with that count, and the area has room
+pub filled : (found : Checked) (room n : ℕ) → cardsGiven found room ≡ Cards.Filled n
+    → (h : Head) × (found ≡ Checked.Accepted h) × (h .sequences ≡ n) × (cardWords * n ≤ room)
+filled (Checked.Refused r) room n e = let no : _≡_ {A = ℕ} 0 1 = cc in absurd (omega arith)
+filled (Checked.Accepted h) room n e = go (ltb room (cardWords * h .sequences)) refl e
+  where
+    go : (b : Bool) → ltb room (cardWords * h .sequences) ≡ b → cond b (Cards.Refused CardArea) (Cards.Filled (h .sequences)) ≡ Cards.Filled n
+        → (g : Head) × (Checked.Accepted h ≡ Checked.Accepted g) × (g .sequences ≡ n) × (cardWords * n ≤ room)
+    go true t q = let no : _≡_ {A = ℕ} 0 1 = cc in absurd (omega arith)
+    go false t q =
+        let same : h .sequences ≡ n = cc in
+        (h, refl, same, omega (arith, ltb-false room (cardWords * h .sequences) t))

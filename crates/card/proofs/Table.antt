@@ -17,8 +17,8 @@ use Rattle.library.specs.Library.{Library}
 use Rattle.runs.specs.Touch.{Question, rival, untouchedOn, lastSet, lastCleared, firstNeeded}
 use Rattle.runs.specs.Possible.{columnPossible, possibleOutcome, hasRun}
 use Rattle.outcome.specs.Area.{outcomeWord, outcomeRows, outcomes}
-use Rattle.card.specs.Card.{may, always, changeable, flags, card, cardsFrom, cards}
-use Rattle.card_words.specs.Row.{flagsOf, alwaysOf, rowCard, tableCards}
+use Rattle.cards.specs.Card.{may, always, changeable, flags, card, cardsFrom, cards}
+use Rattle.row.specs.Card.{flagsOf, alwaysOf, rowCard, tableCards}
 
 module _ (L : Library) (low : 1 ≤ L .facts) (high : L .facts ≤ 64) (c : ℕ) where
   -- the lowest bit of a column says of fact 0 what the column says

@@ -1,4 +1,1 @@
-pub mod Card
 pub mod Answer
-pub mod Meaning
-pub mod Area

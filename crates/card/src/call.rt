@@ -1,18 +1,18 @@
 // The card call: refusals 1 to 8, or the cards of all sequences.
 use crate::answer::Cards;
-use card_words::write::write_cards;
 use image::answer::Checked;
 use image::answer::Head;
 use image::answer::Refusal;
 use outcome::table::outcome_table;
 use reader::check::check;
+use row::card::write_cards;
 ghost use mathlib.Core.Path.{_≡_};
 ghost use mathlib.Core.List.{_++_};
 ghost use Prim.Native.Nat.{_*_, _≤_};
 ghost use lib.ListN.{length, drop};
 ghost use Rattle.library.specs.Library.{libraryOf};
 ghost use Rattle.outcome.specs.Area.{TableAsked};
-ghost use Rattle.card.specs.Card.{cards};
+ghost use Rattle.cards.specs.Card.{cards};
 ghost use Rattle.reader.specs.Checked.{accepts};
 ghost use Rattle.card.specs.Answer.{Called};
 

@@ -15,10 +15,11 @@ use Rattle.library.specs.Accepted.{Counted}
 use Rattle.image.specs.declared.answer.Refusal.the-variants.{CardArea}
 use Rattle.image.specs.declared.answer.Checked.{Checked}
 use Rattle.library.proofs.Accepted.{faultless, counted}
-use Rattle.card.specs.Card.{cards}
+use Rattle.cards.specs.Card.{cards}
 use Rattle.card.specs.Answer.{cardsGiven, areaWith, Called}
 use Rattle.card.specs.declared.answer.Cards.{Cards}
-use Rattle.card.proofs.Area.{filled, length-cards}
+use Rattle.cards.proofs.Area.{length-cards}
+use Rattle.card.proofs.Filled.{filled}
 use Rattle.card_text.specs.Words.{wordsOf}
 use Rattle.card_text.specs.Line.{cardLine, linesFrom, cardLines, refusalLine}
 use Rattle.card_text.specs.Print.{imageText, printed}

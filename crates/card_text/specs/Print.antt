@@ -8,7 +8,7 @@ use Rattle.image.specs.Answer.{refusalNumber, refusalPosition}
 use Rattle.reader.specs.Checked.{checked}
 use Rattle.library.specs.Library.{libraryOf}
 use Rattle.image.specs.declared.answer.Checked.{Checked}
-use Rattle.card.specs.Card.{cards}
+use Rattle.cards.specs.Card.{cards}
 use Rattle.card_text.specs.Words.{wordsOf}
 use Rattle.card_text.specs.Line.{cardLines, refusalLine}
 

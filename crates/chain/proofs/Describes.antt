@@ -20,19 +20,19 @@ use Rattle.runs.specs.Run.{Item, alternativesOf}
 use Rattle.runs.specs.Execution.{noStep, stepOf}
 use Rattle.runs.specs.Touch.{Side, last, first, Mark, present, absent, untouched, Question, touch, itemTouch}
 use Rattle.runs.specs.Algebra.{sameMark}
-use Rattle.chain_words.specs.Link.{Link, touchLink, untouchedLink, Chain}
-use Rattle.rank.specs.Scan.{every}
-use Rattle.rank.specs.Stands.{entryAt}
-use Rattle.rank.specs.Ranks.{Ranks, Reached, Linked, Closed, unranked, entryRank, entryPasses, depthLook, passLook, hasMark, aheadOf, behindOf, touchLook, untouchedLook}
-use Rattle.rank.specs.Answer.{Answer, none, shown, chosenAlternative, followed, linksFrom, touchAnswer, untouchedAnswer}
+use Rattle.chains.specs.Link.{Link, touchLink, untouchedLink, Chain}
+use Rattle.general.specs.Scan.{every}
+use Rattle.chains.specs.Stands.{entryAt}
+use Rattle.chains.specs.Ranks.{Ranks, Reached, Linked, Closed, unranked, entryRank, entryPasses, depthLook, passLook, hasMark, aheadOf, behindOf, touchLook, untouchedLook}
+use Rattle.chains.specs.Answer.{Answer, none, shown, chosenAlternative, followed, linksFrom, touchAnswer, untouchedAnswer}
 use Rattle.rank.specs.Walk.{linkFrom, alternativeFrom, depthFrom, fewestFrom}
 use Rattle.rank.specs.Tables.{entryNumber, inRanks, rankIn, passIn, depthIn, everyIn, fewestIn, lookIn, alternativesAt, stepMark, markIn, stepRank, Stepped}
 use Rattle.link.specs.Choice.{linkIn, linkEntry, linkAt, linksIn, quietLink, answerIn}
 use Rattle.chain.specs.Described.{isFirst, markNumber, Asks, Masked, Placed, StepsBy, Described}
-use Rattle.chain_words.specs.declared.asked.Asked.{Asked}
-use Rattle.rank.proofs.Depth.{step-rank, step-passes}
-use Rattle.rank.proofs.Links.{entriesOf, chosenAt, positionAt, chosen, chosen-rank, ranked-listed}
-use Rattle.rank.proofs.Scan.{getD-inside}
+use Rattle.question.specs.declared.asked.Asked.{Asked}
+use Rattle.chains.proofs.Depth.{step-rank, step-passes}
+use Rattle.chains.proofs.Links.{entriesOf, chosenAt, positionAt, chosen, chosen-rank, ranked-listed}
+use Rattle.general.proofs.Scan.{getD-inside}
 use Rattle.rank.proofs.Walk.{alternative-from, depth-from, fewest-from, link-from}
 
 cond-mark : (x y : Bool) → cond x 0 (cond y 1 2) ≡ markNumber (cond x present (cond y absent untouched))

@@ -14,7 +14,8 @@ use Rattle.column.proofs.Bits.{column-none}
 use Rattle.reader.specs.Checked.{checked}
 use Rattle.rules.specs.Rules.{opened}
 use Rattle.library.specs.Library.{Library, Step, Entry, alternativesFrom, stepsFrom, stepsPart, sequencesPart, libraryOf}
-use Rattle.library.specs.Accepted.{All, SequenceWord, Counted}
+use Rattle.general.specs.Tests.{All}
+use Rattle.library.specs.Accepted.{SequenceWord, Counted}
 use Rattle.library.specs.Tables.{StepsAsked, SequencesAsked, maskOf, masks, placesFrom}
 use Rattle.image.specs.declared.answer.Head.{Head}
 use Rattle.image.specs.declared.answer.Checked.the-variants.{Accepted}
@@ -22,27 +23,27 @@ use Rattle.library.proofs.Accepted.{faultless, parts, counted, library-is}
 use Rattle.library.proofs.Lookup as lookup
 use Rattle.library.proofs.Lookup.{masks-length, row-at, places-length, place-at}
 use Rattle.library.proofs.Rows.{all-at}
-use Rattle.visits.specs.Passes.{Blank, Complete}
+use Rattle.settling.specs.Passes.{Blank, Complete}
 use Rattle.outcome.specs.Area.{TableAsked, Prepared, libraryIn}
 use Rattle.runs.specs.Execution.{noStep, stepOf}
 use Rattle.runs.specs.Possible.{hasRun, possibleOutcome}
 use Rattle.runs.specs.Run.{Item, RunOf, alternativesOf}
-use Rattle.visits.proofs.Visits.{blank-zeros}
+use Rattle.settling.proofs.Visits.{blank-zeros}
 use Rattle.outcome.proofs.Fill.{fill-asked, prepare-asked}
 use Rattle.runs.proofs.Outcome.{present≢untouched, absent≢untouched}
 use Rattle.runs.specs.Touch.{Mark, present, absent, untouched, Question, untouchedOn, lastSet}
 use Rattle.runs.specs.Algebra.{sameMark}
-use Rattle.rank.specs.Scan.{every}
-use Rattle.rank.specs.Ranks.{Look, passLook, unranked, entryPasses, hasMark, canStay, canRun, aheadOf, behindOf, touchLook, untouchedLook}
-use Rattle.rank.specs.Answer.{answer, ranksIn}
+use Rattle.general.specs.Scan.{every}
+use Rattle.chains.specs.Ranks.{Look, passLook, unranked, entryPasses, hasMark, canStay, canRun, aheadOf, behindOf, touchLook, untouchedLook}
+use Rattle.chains.specs.Answer.{answer, ranksIn}
 use Rattle.rank.specs.Visits.{Visits, Settled}
 use Rattle.rank.specs.Tables.{inRanks, passIn, lookIn, Rankable, Readable, Visitable, Steppable, Ranked, alternativesAt}
 use Rattle.link.specs.Choice.{Choosable, answerIn}
 use Rattle.chain.specs.Described.{Asks, Masked, Placed, StepsBy, Described, FindAsked, Made, Unranked, Findable, Marked, quietly, whether, isFirst, markNumber, sideBy, markBy, questionBy}
-use Rattle.chain_words.specs.declared.asked.Asked.{Asked}
-use Rattle.rank.proofs.Passes.{quiet-run, any-run}
-use Rattle.chain.proofs.Whether.{Passable, pass-reached, pass-exact}
-use Rattle.rank.proofs.Ranks.{start-unranked}
+use Rattle.question.specs.declared.asked.Asked.{Asked}
+use Rattle.chains.proofs.Entries.{quiet-run, any-run}
+use Rattle.chains.proofs.Passing.{Passable, pass-reached, pass-exact}
+use Rattle.chains.proofs.Ranks.{start-unranked}
 use Rattle.rank.proofs.Visits.{settled-good, touch-good, settled-touch, settled-untouched}
 use Rattle.rank.proofs.Settling.{rankable-at, pass-kept, pass-visits, pass-settled}
 use Rattle.chain.proofs.Describes.{steps-marked, steps-any, pass-is, pass-look, depth-look, touch-look, touch-answer, quiet-answer}

@@ -1,4 +1,3 @@
-pub mod Whether
 pub mod Calls
 pub mod Describes
 pub mod Finding

@@ -11,14 +11,14 @@ use Rattle.library.specs.Library.{Library, Entry, stepsFrom, stepsPart, sequenc
 use Rattle.image.specs.declared.answer.Head.{Head}
 use Rattle.image.specs.declared.answer.Checked.the-variants.{Accepted}
 use Rattle.library.specs.Tables.{maskOf, masks, placesFrom}
-use Rattle.visits.specs.Passes.{Blank, Complete}
+use Rattle.settling.specs.Passes.{Blank, Complete}
 use Rattle.runs.specs.Run.{Item, alternativesOf}
 use Rattle.runs.specs.Execution.{stepOf}
 use Rattle.runs.specs.Touch.{Side, last, first, Mark, present, absent, untouched, Question}
-use Rattle.rank.specs.Ranks.{unranked, aheadOf, behindOf}
+use Rattle.chains.specs.Ranks.{unranked, aheadOf, behindOf}
 use Rattle.rank.specs.Tables.{passIn, alternativesAt, Rankable, Steppable, Ranked}
 use Rattle.link.specs.Choice.{Opened}
-use Rattle.chain_words.specs.declared.asked.Asked.{Asked}
+use Rattle.question.specs.declared.asked.Asked.{Asked}
 
 -- a side and a mark as the code has them
 abbrev pub isFirst : Side → Bool

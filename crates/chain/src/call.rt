@@ -1,31 +1,31 @@
 // The chain call: refusals 1 to 7 and 9 to 12, a chain, or none.
-use chain_words::answer::Chained;
-use chain_words::answer::told_of;
-use chain_words::asked::Asked;
-use chain_words::asked::in_range;
-use chain_words::asked::out_of_range;
-use chain_words::asked::read_question;
 use image::answer::Checked;
 use image::answer::Head;
 use library::parts::sequences_part;
 use library::parts::steps_part;
 use link::write::write_chain;
 use outcome::table::prepare;
+use question::answer::Chained;
+use question::answer::told_of;
+use question::asked::Asked;
+use question::asked::in_range;
+use question::asked::out_of_range;
+use question::asked::read_question;
 use rank::entry::write_step_ranks;
 use rank::pass::settle;
 use reader::check::check;
 ghost use mathlib.Core.Bool.{false};
 ghost use Prim.Native.Nat.{_+_, _*_, _≤_, _<_};
 ghost use lib.ListN.{length};
-ghost use Rattle.chain_words.specs.Answer.{told};
+ghost use Rattle.question.specs.Answer.{told};
 ghost use Rattle.library.specs.Library.{libraryOf};
-ghost use Rattle.visits.specs.Passes.{Blank, Complete};
-ghost use Rattle.rank.specs.Answer.{answer};
+ghost use Rattle.settling.specs.Passes.{Blank, Complete};
+ghost use Rattle.chains.specs.Answer.{answer};
 ghost use Rattle.rank.specs.Tables.{Steppable, Visitable, Ranked};
 ghost use Rattle.link.specs.Choice.{answerIn};
 ghost use Rattle.chain.specs.Described.{FindAsked, TablesAsked, Findable, Marked, questionBy};
 ghost use Rattle.reader.specs.Checked.{accepts};
-ghost use Rattle.link.specs.Reply.{Answered, Called};
+ghost use Rattle.question.specs.Reply.{Answered, Called};
 
 // Ranks the steps by one question and the sequences by another, in a table that has no rank yet.
 fn rank(

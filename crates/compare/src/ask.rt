@@ -11,11 +11,11 @@ use algorithms::domain::FIRST_ADD;
 use algorithms::domain::PREC;
 use algorithms::domain::read_actions;
 use algorithms::inference::prepare;
-use chain_words::answer::Chained;
 use judge::answers::BEFORE;
 use judge::answers::chain_fault;
 use judge::answers::none_fault;
 use judge::questions::agrees;
+use question::answer::Chained;
 use second::call::facts;
 use second::call::row;
 

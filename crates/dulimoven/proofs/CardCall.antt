@@ -18,9 +18,9 @@ use Rattle.image.specs.declared.answer.Refusal.the-variants.{CardArea}
 use Rattle.image.specs.declared.answer.Checked.{Checked}
 use Rattle.library.proofs.Accepted.{faultless, counted}
 use Rattle.card.specs.Answer.{cardsGiven, areaWith, cardsAnswer}
-use Rattle.card.specs.Card.{cardWords, cards}
+use Rattle.cards.specs.Card.{cardWords, cards}
 use Rattle.card.specs.declared.answer.Cards.{Cards}
-use Rattle.card.proofs.Area.{all-cards, cards-unique}
+use Rattle.cards.proofs.Area.{all-cards, cards-unique}
 use Rattle.dulimoven.specs.Returned.{Returned, returned, turnedDown}
 use Rattle.dulimoven.specs.CardCall.{CardsRefused, by-image, by-area, CardsReturn, refused, filled}
 use Rattle.dulimoven.specs.Demands.{Refuses}

@@ -18,16 +18,16 @@ use Rattle.image.specs.declared.answer.Refusal.the-variants.{Sequence, Question
 use Rattle.image.specs.declared.answer.Checked.{Checked}
 use Rattle.library.proofs.Accepted.{faultless, counted}
 use Rattle.runs.specs.Touch.{questionOf}
-use Rattle.chain_words.specs.Link.{Chain, chainWords}
-use Rattle.rank.specs.Stands.{About}
-use Rattle.rank.specs.Answer.{Answer, answer}
-use Rattle.rank.specs.Answer as rank
-use Rattle.rank.specs.Call.{Reply, answered, inArea, afterCheck, chained}
-use Rattle.rank.specs.Call as call
-use Rattle.rank.proofs.Answers.{answer-shows, answer-none}
-use Rattle.rank.proofs.Unique.{answer-iff}
-use Rattle.rank.proofs.Fits.{accepted-fits}
-use Rattle.chain.proofs.Calls.{call-asked}
+use Rattle.chains.specs.Link.{Chain, chainWords}
+use Rattle.chains.specs.Stands.{About}
+use Rattle.chains.specs.Answer.{Answer, answer}
+use Rattle.chains.specs.Answer as rank
+use Rattle.chains.specs.Call.{Reply, answered, inArea, afterCheck, chained}
+use Rattle.chains.specs.Call as call
+use Rattle.chains.proofs.Answers.{answer-shows, answer-none}
+use Rattle.chains.proofs.Unique.{answer-iff}
+use Rattle.chains.proofs.Fits.{accepted-fits}
+use Rattle.chains.proofs.Call.{call-asked}
 use Rattle.dulimoven.specs.Returned.{Returned, returned, turnedDown}
 use Rattle.dulimoven.specs.ChainCall.{Asked, Answers, ChainRefused, ChainReturn}
 use Rattle.dulimoven.specs.ChainCall as cases

@@ -19,15 +19,15 @@ use Rattle.runs.specs.Execution.{Fact}
 use Rattle.runs.specs.Touch.{Mark, present, absent, questionOf, HasOutcome, lastSet, lastCleared, lastUntouched, firstSet, firstUntouched}
 use Rattle.runs.proofs.Outcome.{present≢untouched, absent≢untouched}
 use Rattle.runs.proofs.Columns.{breaks-rule}
-use Rattle.card.specs.Area.{partWord}
-use Rattle.card.specs.Card.{cardWords, cards}
-use Rattle.card.specs.Meaning.{Always, needed, set, cleared, Breaks, Card, Runs}
-use Rattle.card.proofs.Area.{length-cards, card-words, all-cards}
-use Rattle.card.proofs.Meaning.{card-right, runs-right, card-same, runs-same}
-use Rattle.chain_words.specs.Link.{Chain}
-use Rattle.rank.specs.Call.{Reply}
-use Rattle.chain.proofs.Calls.{call-shows}
-use Rattle.rank.proofs.Fits.{accepted-fits}
+use Rattle.cards.specs.Area.{partWord}
+use Rattle.cards.specs.Card.{cardWords, cards}
+use Rattle.cards.specs.Meaning.{Always, needed, set, cleared, Breaks, Card, Runs}
+use Rattle.cards.proofs.Area.{length-cards, card-words, all-cards}
+use Rattle.cards.proofs.Meaning.{card-right, runs-right, card-same, runs-same}
+use Rattle.chains.specs.Link.{Chain}
+use Rattle.chains.specs.Call.{Reply}
+use Rattle.chains.proofs.Call.{call-shows}
+use Rattle.chains.proofs.Fits.{accepted-fits}
 use Rattle.dulimoven.specs.Returned.{Returned}
 use Rattle.dulimoven.specs.CardCall.{filled}
 use Rattle.dulimoven.specs.ChainCall.{Links}

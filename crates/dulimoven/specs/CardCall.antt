@@ -10,8 +10,8 @@ use Rattle.image.specs.declared.answer.Head.{Head}
 use Rattle.image.specs.declared.answer.Refusal.{Refusal}
 use Rattle.image.specs.declared.answer.Refusal.the-variants.{CardArea}
 use Rattle.image.specs.declared.answer.Checked.{Checked}
-use Rattle.card.specs.Card.{cardWords}
-use Rattle.card.specs.Area.{AllCards}
+use Rattle.cards.specs.Card.{cardWords}
+use Rattle.cards.specs.Area.{AllCards}
 use Rattle.dulimoven.specs.Returned.{Returned, returned, turnedDown}
 
 -- the first refusal that applies: "The check meets 1 to 7, the cards 1 to 8"

@@ -5,7 +5,7 @@ use mathlib.Core.Path.{_≡_}
 use mathlib.Core.List.{List, _++_}
 use lib.ListN.{length, drop}
 use Rattle.reader.specs.Checked.{checked}
-use Rattle.library.specs.Accepted.{All}
+use Rattle.general.specs.Tests.{All}
 use Rattle.library.specs.Library.{libraryOf}
 use Rattle.image.specs.declared.answer.Head.{Head}
 use Rattle.image.specs.declared.answer.Refusal.{Refusal}
@@ -13,8 +13,8 @@ use Rattle.image.specs.declared.answer.Refusal.the-variants.{Sequence, Question
 use Rattle.image.specs.declared.answer.Checked.{Checked}
 use Rattle.runs.specs.Run.{Item, Run}
 use Rattle.runs.specs.Touch.{questionOf, HasOutcome}
-use Rattle.chain_words.specs.Link.{Chain, chainWords, Fits}
-use Rattle.rank.specs.Shows.{Shows}
+use Rattle.chains.specs.Link.{Chain, chainWords, Fits}
+use Rattle.chains.specs.Shows.{Shows}
 use Rattle.dulimoven.specs.Returned.{Returned, returned, turnedDown}
 
 -- a question that is none of 1 to 7 and 9 to 11: the image is accepted; the sequence is below C, the question not above 5, the fact below F

@@ -15,11 +15,11 @@ use Rattle.image.specs.declared.answer.Checked.{Checked}
 use Rattle.runs.specs.Run.{Item, Run}
 use Rattle.runs.specs.Execution.{Fact, State, Executes}
 use Rattle.runs.specs.Touch.{questionOf, HasOutcome}
-use Rattle.card.specs.Card.{cardWords}
-use Rattle.card.specs.Area.{partWord}
-use Rattle.card.specs.Meaning.{Card, Kept, Changed, Always, needed, set, cleared, Breaks, Missing}
-use Rattle.chain_words.specs.Link.{Chain}
-use Rattle.rank.specs.Stands.{StandsFor}
+use Rattle.cards.specs.Card.{cardWords}
+use Rattle.cards.specs.Area.{partWord}
+use Rattle.cards.specs.Meaning.{Card, Kept, Changed, Always, needed, set, cleared, Breaks, Missing}
+use Rattle.chains.specs.Link.{Chain}
+use Rattle.chains.specs.Stands.{StandsFor}
 use Rattle.dulimoven.specs.Returned.{Returned}
 use Rattle.dulimoven.specs.CardCall.{CardsRefused, CardsReturn}
 use Rattle.dulimoven.specs.ChainCall.{ChainRefused, ChainReturn, Links}

@@ -6,8 +6,8 @@ use lib.ListN.{length}
 use Rattle.image.specs.Answer.{checkedAnswer}
 use Rattle.reader.specs.Checked.{checked}
 use Rattle.card.specs.Answer.{cardsOf, cardArea, cardsAnswer}
-use Rattle.rank.specs.Call.{Reply, chained, areaAfter}
-use Rattle.link.specs.Reply.{replyNumber}
+use Rattle.chains.specs.Call.{Reply, chained, areaAfter}
+use Rattle.question.specs.Reply.{replyNumber}
 use Rattle.dulimoven.specs.Returned.{Returned, returned}
 use Rattle.dulimoven.specs.Demands.{Engine}
 

@@ -33,5 +33,5 @@ pub extern "C" fn dulimoven_chain(
 ) -> u64
     ensures { λ r. ⌜ returned r (now (area .exit)) ≡ engine .chain (now (image .entry)) sequence question fact (now (area .entry)) ⌝ }
 {
-    chain_words::answer::chain_answer(chain::call::chain(image, sequence, question, fact, area))
+    question::answer::chain_answer(chain::call::chain(image, sequence, question, fact, area))
 }

@@ -7,7 +7,7 @@ use mathlib.Core.Bool.{true}
 use mathlib.Core.Logic.{⊎-elim}
 use borrow.Author.Tests.{eqb-true}
 use Rattle.image.specs.Word.{kind, isKind, isEntry}
-use Rattle.image.proofs.Bools.{or-cases}
+use Rattle.general.proofs.Bools.{or-cases}
 
 -- an entry is of kind 8 or 9
 pub entry-kinds : (w : ℕ) → isEntry w ≡ true → (kind w ≡ 8 → ⊥) → kind w ≡ 9

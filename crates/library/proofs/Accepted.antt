@@ -19,7 +19,8 @@ use Rattle.rules.specs.Quick.{after}
 use Rattle.reader.specs.Checked.{atWord, scan, allButLast, between, firstWord, lastWord, checked}
 use Rattle.reader.specs.Walk.{walk, opening}
 use Rattle.library.specs.Library.{step, call, factsFrom, stepsFrom, entriesFrom, alternativesFrom, sequencesFrom, beforeSequences, fromSequences, stepsPart, sequencesPart, libraryOf}
-use Rattle.library.specs.Accepted.{All, Faultless, StepWord, SequenceWord, Parts, Named, Below, Counted}
+use Rattle.general.specs.Tests.{All}
+use Rattle.library.specs.Accepted.{Faultless, StepWord, SequenceWord, Parts, Named, Below, Counted}
 use Rattle.image.specs.declared.answer.Head.{Head}
 use Rattle.image.specs.declared.answer.Refusal.{Refusal}
 use Rattle.image.specs.declared.answer.Refusal.the-variants.{Length, SumWord, HeadWord, Missing}
@@ -28,7 +29,7 @@ use Rattle.image.specs.declared.answer.Checked.the-variants.{Accepted, Refused}
 use Rattle.rules.specs.declared.rules.Earlier.{Earlier}
 use Rattle.rules.specs.declared.rules.Fault.{Fault}
 use Rattle.rules.specs.declared.rules.Fault.the-variants.{Found, Nothing}
-use Rattle.image.proofs.Bools.{and-left, and-right, or-cases, or-five, and-six}
+use Rattle.general.proofs.Bools.{and-left, and-right, or-cases, or-five, and-six}
 use Rattle.library.proofs.Decode.{is, is-not, kind-is, parts-opened, parts-joined, steps-length, sequences-length}
 use Rattle.reader.proofs.Read.{checked-walk}
 use Rattle.library.proofs.Seam.{length-between}

@@ -14,7 +14,7 @@ use Rattle.column.proofs.Low.{column-low}
 use Rattle.image.specs.Word.{kind, isKind}
 use Rattle.rules.specs.Rules.{opened}
 use Rattle.library.specs.Library.{has, Step, alternativesFrom, sequencesFrom}
-use Rattle.library.specs.Accepted.{All}
+use Rattle.general.specs.Tests.{All}
 use Rattle.library.specs.Tables.{maskOf, masks, placesFrom}
 use Rattle.library.proofs.Decode.{kind-is, sequences-open, sequences-skip}
 use borrow.Author.Tests.{eqb-false, ne-eqb}

@@ -16,7 +16,8 @@ use Rattle.image.specs.Word.{kind, payload, isKind}
 use Rattle.rules.specs.Rules.{opened}
 use Rattle.library.specs.Library.{has, Step, factsFrom, stepsFrom}
 use Rattle.library.specs.Seam.{NoneOpens}
-use Rattle.library.specs.Accepted.{All, StepWord}
+use Rattle.general.specs.Tests.{All}
+use Rattle.library.specs.Accepted.{StepWord}
 use Rattle.library.specs.Tables.{maskOf, masks, placesFrom, masksFrom, withWord, withRow, NoPlaces, StepsAsked, SequencesAsked}
 use Rattle.image.specs.declared.answer.Head.{Head}
 use Rattle.library.specs.declared.tables.Masks.{Masks}

@@ -2,8 +2,9 @@
 -- these records, and `proofs/Accepted` proves each of an accepted image.
 use Prim.Native.Nat.{ℕ, _+_, _-_, _≤_, _<_}
 use mathlib.Core.Path.{_≡_}
-use mathlib.Core.List.{List, [], _∷_}
+use mathlib.Core.List.{List, []}
 use lib.ListN.{length, getD, take}
+use Rattle.general.specs.Tests.{All}
 use Rattle.image.specs.Word.{kind, payload, headOf}
 use Rattle.image.specs.Answer.{headPayload}
 use Rattle.rules.specs.Rules.{opened, earlier, faultAt}
@@ -11,11 +12,6 @@ use Rattle.reader.specs.Checked.{firstWord}
 use Rattle.library.specs.Library.{Step, Entry, step, call, Library, stepsPart, sequencesPart}
 use Rattle.image.specs.declared.answer.Head.{Head}
 use Rattle.rules.specs.declared.rules.Fault.the-variants.{Nothing}
-
--- P holds of each element
-abbrev pub All : {A : Type 0} → (A → Type 0) → List A → Type 0
-All P [] = Unit {0}
-All P (x ∷ xs) = P x × All P xs
 
 -- the image is no longer and no shorter than allowed, its head keeps the rule, and no word between head and sum word has a fault
 pub record Faultless (image : List ℕ) (h : Head) : Type 0 where

@@ -8,7 +8,8 @@ use Rattle.column.specs.Column.{column, withFact}
 use Rattle.image.specs.Word.{payload, isKind}
 use Rattle.rules.specs.Rules.{opened}
 use Rattle.library.specs.Library.{has, Step, factsFrom}
-use Rattle.library.specs.Accepted.{All, StepWord, Numbered}
+use Rattle.general.specs.Tests.{All}
+use Rattle.library.specs.Accepted.{StepWord, Numbered}
 use Rattle.image.specs.declared.answer.Head.{Head}
 use Rattle.library.specs.declared.tables.Masks.{Masks}
 

@@ -12,9 +12,9 @@ use lib.Dec.{leb}
 use borrow.Author.Tests.{le-leb, lt-leb, lt-ltb, le-ltb}
 use Rattle.image.specs.Word.{payload, isKind, isEntry}
 use Rattle.library.specs.Library.{Entry, step, call, Alternative, entriesFrom, alternativesFrom}
-use Rattle.rank.specs.Scan.{every}
-use Rattle.chain_words.specs.Link.{Link, touchLink}
-use Rattle.rank.specs.Stands.{entryAt}
+use Rattle.general.specs.Scan.{every}
+use Rattle.chains.specs.Link.{Link, touchLink}
+use Rattle.chains.specs.Stands.{entryAt}
 use Rattle.rank.specs.Walk.{tailFrom, positionFrom, linkFrom, alternativeFrom}
 use Rattle.rank.specs.Tables.{entryOf, entryNumber, rankIn, passIn, traitsIn, AlternativeRead}
 use Rattle.link.specs.Choice.{linkIn, Chosen}

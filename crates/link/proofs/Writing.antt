@@ -12,20 +12,20 @@ use lib.Dec.{eqb, leb, ltb}
 use borrow.Author.Tests.{eq-eqb, ne-eqb, lt-ltb, le-ltb, leb-true}
 use Rattle.image.specs.Word.{payload, isKind, isEntry}
 use Rattle.library.specs.Library.{Entry, step, call, entriesFrom, alternativesFrom}
-use Rattle.chain_words.specs.Answer.{linkCount, told, shownLinks}
-use Rattle.chain_words.specs.Link.{Link, touchLink, choiceWord, linkWords, chainWords}
-use Rattle.rank.specs.Stands.{entryAt}
+use Rattle.question.specs.Answer.{linkCount, told, shownLinks}
+use Rattle.chains.specs.Link.{Link, touchLink, choiceWord, linkWords, chainWords}
+use Rattle.chains.specs.Stands.{entryAt}
 use Rattle.rank.specs.Tables.{entryNumber, depthIn, alternativesAt}
 use Rattle.rank.specs.Walk.{alternativeFrom}
 use Rattle.link.specs.Choice.{linkIn, Chosen, linkEntry, linkAt, linksIn, quietLink, quietWords, answerIn}
 use Rattle.link.specs.declared.link.Choice.{Choice}
-use Rattle.rank.specs.Answer.{Answer, none, shown}
-use Rattle.link.specs.Reply.{Answered}
-use Rattle.chain_words.specs.declared.answer.Chained.{Chained}
-use Rattle.rank.proofs.Scan.{getD-inside}
-use Rattle.rank.proofs.Words.{words-length}
+use Rattle.chains.specs.Answer.{Answer, none, shown}
+use Rattle.question.specs.Reply.{Answered}
+use Rattle.question.specs.declared.answer.Chained.{Chained}
+use Rattle.general.proofs.Scan.{getD-inside}
+use Rattle.chains.proofs.Words.{words-length}
 use Rattle.image.specs.declared.answer.Refusal.the-variants.{ChainArea}
-use Rattle.chain_words.specs.declared.asked.Asked.{Asked}
+use Rattle.question.specs.declared.asked.Asked.{Asked}
 
 -- ---- an entry's number has 28 bits
 

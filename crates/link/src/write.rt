@@ -1,18 +1,18 @@
 // The words of a chain: two for each link, written into the chain area.
 use crate::link::chosen_alternative;
 use crate::link::chosen_link;
-use chain_words::answer::shown_links;
-use chain_words::asked::Asked;
-use chain_words::words::put_link;
+use question::answer::shown_links;
+use question::asked::Asked;
+use question::words::put_link;
 ghost use mathlib.Core.Path.{_≡_};
 ghost use mathlib.Core.List.{_++_};
 ghost use Prim.Native.Nat.{_+_, _*_, _^_, _≤_, _<_, pred};
 ghost use lib.ListN.{length, getD, drop};
-ghost use Rattle.chain_words.specs.Link.{chainWords};
-ghost use Rattle.chain_words.specs.Answer.{told};
+ghost use Rattle.chains.specs.Link.{chainWords};
+ghost use Rattle.question.specs.Answer.{told};
 ghost use Rattle.rank.specs.Tables.{Rankable};
 ghost use Rattle.link.specs.Choice.{Opened, Choosable, linksIn, quietWords, answerIn};
-ghost use Rattle.link.specs.Reply.{Answered};
+ghost use Rattle.question.specs.Reply.{Answered};
 
 // The index of the word after the opener of sequence `c`.
 fn after_opener(places: &[u32], c: u32) -> usize

@@ -12,21 +12,22 @@ use borrow.Author.Tests.{ne-eqb, eq-eqb, eqb-true, eqb-false}
 use mir.Val.{boolByte}
 use Rattle.image.specs.Word.{kind, payload, isKind, isEntry}
 use Rattle.library.specs.Library.{has, Library, Step, Entry, step, call, entriesFrom, alternativesFrom}
-use Rattle.library.specs.Accepted.{All, SequenceWord}
+use Rattle.general.specs.Tests.{All}
+use Rattle.library.specs.Accepted.{SequenceWord}
 use Rattle.library.specs.Tables.{maskOf}
 use Rattle.image.specs.declared.answer.Head.{Head}
 use Rattle.library.proofs.Decode.{entries-nil, entries-step, entries-call, entries-end, alternatives-nil, alternatives-open, alternatives-entry, alternatives-end}
 use Rattle.library.proofs.Lookup.{mask-bit, mask-lt}
-use Rattle.runs.specs.Tests.{some}
+use Rattle.general.specs.Tests.{some}
 use Rattle.runs.specs.Execution.{stepOf}
 use Rattle.runs.specs.Rows.{entryRow, foldRow, readRow, joinRow, touchRow}
 use Rattle.runs.specs.Rows as rows
-use Rattle.runs.specs.Words.{allFacts, startRow, stepRow, joinRows, orRows, rowIn, isSet, bitRow}
+use Rattle.row.specs.Words.{allFacts, startRow, stepRow, joinRows, orRows, rowIn, isSet, bitRow}
 use Rattle.outcome.specs.Walks.{entryWord, foldWords, alternativeWords, sequenceWords}
-use Rattle.runs.specs.declared.row.Row.{Row}
+use Rattle.row.specs.declared.words.Row.{Row}
 use Rattle.runs.proofs.Rows.{stepRow-touch, join-agree}
 use Rattle.outcome.proofs.Walks.{fold-cons, united-cons}
-use Rattle.runs.proofs.Words.{join-bits, or-bits, live-bits, start-bits, step-bits}
+use Rattle.row.proofs.Bits.{join-bits, or-bits, live-bits, start-bits, step-bits}
 
 -- a word of the sequences' part opens a sequence or an alternative, or is an entry
 data Sort (w : ℕ) : Type 0 where

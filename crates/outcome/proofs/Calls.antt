@@ -11,18 +11,18 @@ use lib.ListN.{length, getD, drop}
 use borrow.Author.Tests.{eq-eqb, ne-eqb}
 use Rattle.image.specs.Word.{kind, payload, isKind, isEntry}
 use Rattle.column.specs.Column.{bit}
-use Rattle.runs.specs.Words.{noRow, startRow, orRows, joinRows, liveRow, rowIn, withRow}
+use Rattle.row.specs.Words.{noRow, startRow, orRows, joinRows, liveRow, rowIn, withRow}
 use Rattle.outcome.specs.Walks.{entryWord, foldWords, alternativeWords, sequenceWords}
-use Rattle.visits.specs.Passes.{Visit}
+use Rattle.settling.specs.Passes.{Visit}
 use Rattle.outcome.specs.Visited.{lacking, visitedRow, visited}
-use Rattle.visits.specs.Stale.{Fresh, isStale, isCaller, callsIn, calls, CallersWritten, Freshened}
-use Rattle.runs.specs.declared.row.Row.{Row}
-use Rattle.runs.proofs.Tests.{and-both, or-left, or-right}
+use Rattle.settling.specs.Stale.{Fresh, isStale, isCaller, callsIn, calls, CallersWritten, Freshened}
+use Rattle.row.specs.declared.words.Row.{Row}
+use Rattle.general.proofs.Bools.{and-both, or-left, or-right}
 use Rattle.outcome.proofs.Stores.{rows-again, row-same, row-other, row-again}
 use Rattle.image.proofs.Entries.{entry-kinds, entry-high}
 use Rattle.outcome.proofs.Walks.{fold-cons, united-cons}
-use Rattle.visits.proofs.Stale.{Local, fresh-turn}
-use Rattle.visits.proofs.CallerSets.{back}
+use Rattle.settling.proofs.Stale.{Local, fresh-turn}
+use Rattle.settling.proofs.CallerSets.{back}
 
 -- ---- calls in words
 

@@ -8,7 +8,7 @@ use mathlib.Core.List.{List}
 use lib.ListN.{length, getD, set, List·getD-eq-default}
 use lib.Seq.{getD-set-same, getD-set-other}
 use borrow.Author.Count.{below-more}
-use Rattle.visits.specs.Passes.{Blank}
+use Rattle.settling.specs.Passes.{Blank}
 
 -- the words below i are 0
 abbrev pub Cleared : List ℕ → ℕ → Type 0

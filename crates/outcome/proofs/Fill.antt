@@ -17,13 +17,13 @@ use Rattle.library.proofs.Accepted.{steps-below, faultless, parts, library-is}
 use Rattle.library.proofs.Decode.{steps-length, sequences-length}
 use Rattle.library.proofs.Lookup.{masks-length, row-at, mask-low, places-length, Placed, place-at}
 use Rattle.library.proofs.Rows.{all-at}
-use Rattle.visits.proofs.Visits.{blank-zeros}
+use Rattle.settling.proofs.Visits.{blank-zeros}
 use Rattle.outcome.specs.Area.{outcomes, TableAsked, FillAsked, RowsAsked, Areas, libraryIn}
-use Rattle.visits.specs.Passes.{Blank}
+use Rattle.settling.specs.Passes.{Blank}
 use Rattle.runs.specs.Execution.{noStep}
-use Rattle.runs.specs.Words.{allFacts, stepRow, rowIn}
+use Rattle.row.specs.Words.{allFacts, stepRow, rowIn}
 use Rattle.outcome.specs.Walks.{StepRows}
-use Rattle.visits.specs.Passes.{Pass}
+use Rattle.settling.specs.Passes.{Pass}
 use Rattle.outcome.specs.Visited.{lacking, Visitable, visited}
 use Rattle.outcome.proofs.Bridge.{rowOfStep}
 use Rattle.outcome.proofs.Filled.{table-filled}

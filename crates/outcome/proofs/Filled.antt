@@ -17,16 +17,16 @@ use Rattle.runs.specs.Touch.{Side, last, first, Mark, present, absent, untouche
 use Rattle.runs.specs.Possible.{columnPossible}
 use Rattle.outcome.specs.Area.{outcomeWord, outcomeRows, outcomes}
 use Rattle.runs.specs.Rows.{columnNumber}
-use Rattle.runs.specs.Words.{allFacts, rowIn, wordsOf}
-use Rattle.visits.specs.Passes.{Reached, Settled}
+use Rattle.row.specs.Words.{allFacts, rowIn, wordsOf}
+use Rattle.settling.specs.Passes.{Reached, Settled}
 use Rattle.outcome.specs.Visited.{visited}
-use Rattle.runs.specs.declared.row.Row.{Row}
+use Rattle.row.specs.declared.words.Row.{Row}
 use Rattle.outcome.proofs.Low.{LowRow, none-low, reached-low}
 use Rattle.runs.proofs.Rows.{by-column}
 use Rattle.outcome.proofs.Settled.{Given, blank-row, settled-bits}
 use Rattle.outcome.proofs.Stores.{wordsFrom, take-words}
 use Rattle.outcome.proofs.Visited.{visits-lower}
-use Rattle.visits.proofs.Visits.{reached-length}
+use Rattle.settling.proofs.Visits.{reached-length}
 
 -- a word of a table is the word of its row
 word-row : (t : List ℕ) (c j : ℕ) → j < 8 → getD t (8 * c + j) 0 ≡ getD (wordsOf (rowIn t c)) j 0

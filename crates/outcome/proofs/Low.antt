@@ -11,15 +11,15 @@ use lib.ListN.{length, getD, drop}
 use lib.Bits.{bitAnd, bitOr, and-le-l, or-lt}
 use lib.Pow.{pow-pos, ones-lt}
 use Rattle.image.specs.Word.{payload, isKind, isEntry}
-use Rattle.runs.specs.Words.{allFacts, noRow, startRow, notWord, stepMarks, stepRow, laterMarks, joinRows, orMarks, orRows, liveRow, rowIn}
+use Rattle.row.specs.Words.{allFacts, noRow, startRow, notWord, stepMarks, stepRow, laterMarks, joinRows, orMarks, orRows, liveRow, rowIn}
 use Rattle.outcome.specs.Walks.{entryWord, foldWords, alternativeWords, sequenceWords}
 use Rattle.outcome.specs.Visited.{visited}
-use Rattle.visits.specs.Passes.{Reached, here, next}
-use Rattle.runs.specs.declared.row.Marks.{Marks}
-use Rattle.runs.specs.declared.row.Row.{Row}
+use Rattle.settling.specs.Passes.{Reached, here, next}
+use Rattle.row.specs.declared.words.Marks.{Marks}
+use Rattle.row.specs.declared.words.Row.{Row}
 use Rattle.outcome.proofs.Stores.{row-same, row-other}
 use Rattle.outcome.proofs.Visited.{visits-lower}
-use Rattle.visits.proofs.Visits.{reached-length}
+use Rattle.settling.proofs.Visits.{reached-length}
 
 module _ (n : ℕ) where
   LowMarks : Marks → Type 0

@@ -11,27 +11,29 @@ use mathlib.Core.Bool.{Bool, true, false, _||_}
 use mathlib.Core.List.{List, [], _∷_, List·Memᴰ, List·Memᴰ·head, List·Memᴰ·tail}
 use lib.ListN.{length, getD, drop, List·getD-eq-default}
 use Rattle.library.specs.Library.{Library, Sequence, Alternative, Entry, alternativesFrom, sequencesFrom}
-use Rattle.library.specs.Accepted.{All, SequenceWord}
+use Rattle.general.specs.Tests.{All}
+use Rattle.library.specs.Accepted.{SequenceWord}
 use Rattle.image.specs.declared.answer.Head.{Head}
 use Rattle.library.proofs.Lookup.{Placed}
-use Rattle.runs.specs.Tests.{some}
+use Rattle.general.specs.Tests.{some}
 use Rattle.runs.specs.Run.{alternativesOf, alternativeOf}
 use Rattle.runs.specs.Touch.{Side, last, first, Mark, present, absent, untouched}
 use Rattle.runs.specs.Algebra.{sideAlgebra}
 use Rattle.runs.specs.Possible.{columnPossible}
 use Rattle.runs.specs.Rows.{Row, columnNumber, readRow, GoodRow, GoodRows, ClosedRows}
-use Rattle.runs.specs.Words.{allFacts, noRow, orRows, rowIn, bitRow}
+use Rattle.row.specs.Words.{allFacts, noRow, orRows, rowIn, bitRow}
 use Rattle.outcome.specs.Walks.{sequenceWords}
 use Rattle.outcome.specs.Visited.{visited}
-use Rattle.visits.specs.Passes.{Reached, here, next, Settled}
-use Rattle.runs.specs.declared.row.Row as words
+use Rattle.settling.specs.Passes.{Reached, here, next, Settled}
+use Rattle.row.specs.declared.words.Row as words
 use Rattle.outcome.proofs.Bridge.{Stepped, tableBits, sequence-bits}
 use Rattle.runs.proofs.Rows.{by-column, columnNumber-below, none-good, or-good, read-good, rows-possible}
 use Rattle.outcome.proofs.Stores.{row-same, row-other}
-use Rattle.runs.proofs.Tests.{or-right, some-intro}
+use Rattle.general.proofs.Bools.{or-right}
+use Rattle.general.proofs.Tests.{some-intro}
 use Rattle.outcome.proofs.Visited.{visits-lower}
-use Rattle.visits.proofs.Visits.{reached-length}
-use Rattle.runs.proofs.Words.{or-bits, none-set}
+use Rattle.settling.proofs.Visits.{reached-length}
+use Rattle.row.proofs.Bits.{or-bits, none-set}
 
 -- rows that agree are good together
 good-agree : (L : Library) (f c : ℕ) (r r′ : Row) → ((j : ℕ) → j < 8 → r j ≡ r′ j) → GoodRow L f c r → GoodRow L f c r′

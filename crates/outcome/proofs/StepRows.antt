@@ -6,7 +6,7 @@ use mathlib.Core.Path.{_≡_, refl, _∙_, subst}
 use mathlib.Core.List.{List}
 use lib.ListN.{length}
 use borrow.Author.Count.{below-none, below-more}
-use Rattle.runs.specs.Words.{rowIn, withRow}
+use Rattle.row.specs.Words.{rowIn, withRow}
 use Rattle.outcome.specs.Walks.{maskRow, StepRows}
 use Rattle.outcome.proofs.Stores.{row-length, row-same, row-other}
 

@@ -16,12 +16,12 @@ use lib.Dec.{eqb}
 use lib.Pow.{pow-mono}
 use borrow.Author.Tests.{eq-eqb, eqb-true}
 use Rattle.column.proofs.Bits.{bit-or, bits-equal}
-use Rattle.library.specs.Accepted.{All}
-use Rattle.image.proofs.Bools.{and-left, and-right}
-use Rattle.runs.specs.Words.{orRows, sameMarks, sameRows, rowIn, withRow, wordsOf}
+use Rattle.general.specs.Tests.{All}
+use Rattle.general.proofs.Bools.{and-left, and-right}
+use Rattle.row.specs.Words.{orRows, sameMarks, sameRows, rowIn, withRow, wordsOf}
 use Rattle.outcome.specs.Visited.{lacking}
-use Rattle.runs.specs.declared.row.Marks.{Marks}
-use Rattle.runs.specs.declared.row.Row.{Row}
+use Rattle.row.specs.declared.words.Marks.{Marks}
+use Rattle.row.specs.declared.words.Row.{Row}
 
 -- ---- a run of stores
 

@@ -7,10 +7,10 @@ use mathlib.Core.Bool.{Bool, not}
 use mathlib.Core.List.{List}
 use lib.ListN.{length, getD, drop}
 use borrow.Author.Tests.{not-true, not-false}
-use Rattle.runs.specs.Words.{noRow, rowIn, withRow, sameRows}
-use Rattle.visits.proofs.Visits.{Lowers}
+use Rattle.row.specs.Words.{noRow, rowIn, withRow, sameRows}
+use Rattle.settling.proofs.Visits.{Lowers}
 use Rattle.outcome.specs.Walks.{sequenceWords}
-use Rattle.visits.specs.Passes.{Visit}
+use Rattle.settling.specs.Passes.{Visit}
 use Rattle.outcome.specs.Visited.{lacking, Visitable, visitedRow, visited}
 use Rattle.outcome.proofs.Stores.{Fitting, row-length, row-again, rows-equal, lacking-least, lacking-falls}
 

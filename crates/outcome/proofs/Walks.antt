@@ -12,10 +12,10 @@ use lib.Bits.{and-zero-l}
 use lib.Seq.{drop-cons, drop-length}
 use borrow.Author.Tests.{eqb-true, ne-eqb}
 use Rattle.image.specs.Word.{kind, isKind, isEntry}
-use Rattle.runs.specs.Words.{noRow, startRow, joinRows, orRows, liveRow}
+use Rattle.row.specs.Words.{noRow, startRow, joinRows, orRows, liveRow}
 use Rattle.image.proofs.Entries.{entry-high}
 use Rattle.outcome.specs.Walks.{entryWord, foldWords, alternativeWords, sequenceWords, AlternativeRead, NoEntry, EntriesEnd, EmptiesEnd}
-use Rattle.runs.specs.declared.row.Row.{Row}
+use Rattle.row.specs.declared.words.Row.{Row}
 use Rattle.outcome.specs.declared.read.Read.{Read}
 
 -- ---- one word

@@ -8,12 +8,13 @@ use Rattle.library.specs.Library.{Library, stepsFrom, sequencesFrom}
 use Rattle.reader.specs.Checked.{checked}
 use Rattle.library.specs.Tables.{masks, placesFrom}
 use Rattle.rules.specs.Rules.{opened}
-use Rattle.library.specs.Accepted.{All, StepWord, SequenceWord, Numbered}
+use Rattle.general.specs.Tests.{All}
+use Rattle.library.specs.Accepted.{StepWord, SequenceWord, Numbered}
 use Rattle.image.specs.declared.answer.Head.{Head}
 use Rattle.image.specs.declared.answer.Checked.the-variants.{Accepted}
 use Rattle.column.specs.Column.{column}
 use Rattle.runs.specs.Possible.{columnPossible}
-use Rattle.visits.specs.Passes.{Blank}
+use Rattle.settling.specs.Passes.{Blank}
 
 -- column j of sequence c: bit f, for f below F, is set exactly where the column's outcome is possible, and no other bit is
 unfoldable pub outcomeWord : Library → ℕ → ℕ → ℕ

@@ -2,9 +2,9 @@
 use Prim.Native.Nat.{ℕ, _+_, _-_, _*_, _^_, _≤_, _<_}
 use mathlib.Core.List.{List, [], _∷_}
 use lib.ListN.{length, getD, drop}
-use Rattle.runs.specs.Words.{noRow, orRows, rowIn, withRow}
+use Rattle.row.specs.Words.{noRow, orRows, rowIn, withRow}
 use Rattle.outcome.specs.Walks.{Readable, sequenceWords}
-use Rattle.runs.specs.declared.row.Row.{Row}
+use Rattle.row.specs.declared.words.Row.{Row}
 
 -- how much the words lack to the greatest number: what falls while the table grows
 unfoldable pub lacking : List ℕ → ℕ

@@ -6,8 +6,8 @@ use mathlib.Core.Bool.{false, cond}
 use mathlib.Core.List.{List, [], _∷_}
 use lib.ListN.{length, getD, drop}
 use Rattle.image.specs.Word.{kind, payload, isKind, isEntry}
-use Rattle.runs.specs.Words.{startRow, stepRow, joinRows, orRows, liveRow, rowIn}
-use Rattle.runs.specs.declared.row.Row.{Row}
+use Rattle.row.specs.Words.{startRow, stepRow, joinRows, orRows, liveRow, rowIn}
+use Rattle.row.specs.declared.words.Row.{Row}
 use Rattle.outcome.specs.declared.read.Read.{Read}
 
 -- an entry names a row of the steps' table or of the table of outcomes

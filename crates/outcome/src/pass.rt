@@ -1,19 +1,19 @@
 // Passes over the table until nothing changes, in an order that makes them few and against it in turn. A sequence is visited again only where
 // one that it calls has changed. The order names all sequences, so a pass that changes nothing shows that the table has all that is possible.
 use crate::read::read_sequence;
-use runs::row::put_row;
-use runs::row::row_at;
-use runs::row::same;
-use runs::row::united;
-use visits::callers::is_stale;
-use visits::callers::remove;
-use visits::callers::unite;
-use visits::named::place_of;
+use row::words::put_row;
+use row::words::row_at;
+use row::words::same;
+use row::words::united;
+use settling::callers::is_stale;
+use settling::callers::remove;
+use settling::callers::unite;
+use settling::named::place_of;
 ghost use mathlib.Core.Bool.{true, false};
 ghost use Prim.Native.Nat.{_+_, _*_, _≤_, _<_};
 ghost use lib.ListN.{length};
-ghost use Rattle.visits.specs.Stale.{isStale, Sets, Freshened, CallersWritten, Fresh};
-ghost use Rattle.visits.specs.Passes.{Visit, Pass, Swept, Complete};
+ghost use Rattle.settling.specs.Stale.{isStale, Sets, Freshened, CallersWritten, Fresh};
+ghost use Rattle.settling.specs.Passes.{Visit, Pass, Swept, Complete};
 ghost use Rattle.outcome.specs.Visited.{lacking, Visitable, visited};
 
 // Unites the row of sequence `c` with what its alternatives give. Answers whether that changed it.

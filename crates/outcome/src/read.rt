@@ -2,19 +2,19 @@
 use image::word::is_entry;
 use image::word::is_kind;
 use image::word::payload_of;
-use runs::row::Row;
-use runs::row::joined;
-use runs::row::live;
-use runs::row::none;
-use runs::row::row_at;
-use runs::row::start;
-use runs::row::united;
+use row::words::Row;
+use row::words::joined;
+use row::words::live;
+use row::words::none;
+use row::words::row_at;
+use row::words::start;
+use row::words::united;
 ghost use mathlib.Core.Path.{_≡_};
 ghost use mathlib.Core.Bool.{true, false};
 ghost use Prim.Native.Nat.{_+_, _≤_, _<_};
 ghost use lib.ListN.{length, drop};
 ghost use Rattle.image.specs.Word.{isEntry};
-ghost use Rattle.runs.specs.Words.{noRow};
+ghost use Rattle.row.specs.Words.{noRow};
 ghost use Rattle.outcome.specs.Walks.{Within, Readable, entryWord, sequenceWords, AlternativeRead, NoEntry, EntriesEnd, EmptiesEnd};
 
 // The row of an alternative, and the index of the word after its entries.

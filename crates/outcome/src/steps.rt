@@ -1,7 +1,7 @@
 // The rows of the steps, made once: a table of eight words a row, like that of the sequences.
-use runs::row::Row;
-use runs::row::of_step;
-use runs::row::put_row;
+use row::words::Row;
+use row::words::of_step;
+use row::words::put_row;
 ghost use mathlib.Core.Path.{_≡_};
 ghost use Prim.Native.Nat.{_+_, _*_, _≤_};
 ghost use lib.ListN.{length};

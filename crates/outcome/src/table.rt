@@ -6,18 +6,18 @@ use library::parts::sequences_part;
 use library::parts::steps_part;
 use library::tables::write_masks;
 use library::tables::write_places;
-use runs::row::all_facts;
-use visits::callers::write_callers;
-use visits::order::visiting_order;
+use row::words::all_facts;
+use settling::callers::write_callers;
+use settling::order::visiting_order;
 ghost use mathlib.Core.Path.{_≡_};
 ghost use mathlib.Core.List.{_++_};
 ghost use Prim.Native.Nat.{_+_, _*_, _≤_, _<_};
 ghost use lib.ListN.{length, take, drop};
 ghost use Rattle.library.specs.Library.{libraryOf};
 ghost use Rattle.library.specs.Tables.{StepsAsked, SequencesAsked};
-ghost use Rattle.visits.specs.Stale.{CallersWritten};
+ghost use Rattle.settling.specs.Stale.{CallersWritten};
 ghost use Rattle.outcome.specs.Area.{outcomes, TableAsked, FillAsked, RowsAsked, Areas, Prepared, libraryIn};
-ghost use Rattle.visits.specs.Passes.{Blank, Complete};
+ghost use Rattle.settling.specs.Passes.{Blank, Complete};
 
 // Clears an area.
 fn clear(area: &mut [u64])

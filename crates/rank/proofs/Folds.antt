@@ -14,9 +14,9 @@ use lib.Seq.{drop-cons, drop-length}
 use borrow.Author.Tests.{eqb-true, ne-eqb}
 use Rattle.image.specs.Word.{kind, payload, isKind, isEntry}
 use Rattle.library.specs.Library.{Entry, step, call, Alternative, entriesFrom, alternativesFrom}
-use Rattle.image.proofs.Bools.{or-cases}
+use Rattle.general.proofs.Bools.{or-cases}
 use Rattle.library.proofs.Decode.{entries-nil, alternatives-nil}
-use Rattle.rank.specs.Stands.{entryAt}
+use Rattle.chains.specs.Stands.{entryAt}
 use Rattle.rank.specs.Tables.{entryOf}
 
 -- ---- one word

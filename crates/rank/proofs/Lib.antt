@@ -1,14 +1,4 @@
-pub mod Scan
-pub mod Ranks
-pub mod Depth
-pub mod Passes
-pub mod Stands
-pub mod Links
-pub mod Answers
-pub mod Unique
 pub mod Visits
-pub mod Words
-pub mod Fits
 pub mod Walk
 pub mod Folds
 pub mod Looks

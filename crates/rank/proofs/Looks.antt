@@ -12,10 +12,10 @@ use lib.Dec.{eqb}
 use borrow.Author.Tests.{eq-eqb, ne-eqb}
 use Rattle.image.specs.Word.{isKind, isEntry}
 use Rattle.library.specs.Library.{Entry, Alternative, entriesFrom, alternativesFrom}
-use Rattle.rank.specs.Scan.{every}
+use Rattle.general.specs.Scan.{every}
 use Rattle.rank.specs.Walk.{depthFrom, fewestFrom, loweredFrom}
 use Rattle.rank.specs.Tables.{entryOf, rankIn, passIn, traitsIn, depthIn, everyIn, fewestIn, lookIn, AlternativeRead}
-use Rattle.chain_words.specs.declared.asked.Asked.{Asked}
+use Rattle.question.specs.declared.asked.Asked.{Asked}
 use Rattle.rank.specs.declared.entry.Traits.{Traits}
 use Rattle.rank.specs.declared.read.Read.{Read}
 use Rattle.rank.proofs.Walk.{lowered-least}

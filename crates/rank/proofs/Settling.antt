@@ -10,16 +10,16 @@ use lib.Seq.{set-getD, take-set-lt, drop-set-lt, getD-take}
 use lib.Dec.{ltb}
 use borrow.Author.Tests.{ltb-true, ltb-false}
 use Rattle.library.specs.Library.{Sequence, Alternative, alternativesFrom}
-use Rattle.visits.specs.Passes as passes
+use Rattle.settling.specs.Passes as passes
 use Rattle.runs.specs.Run.{alternativesOf}
-use Rattle.visits.proofs.Visits.{Lowers}
-use Rattle.rank.specs.Scan.{total}
-use Rattle.rank.specs.Ranks.{Look}
+use Rattle.settling.proofs.Visits.{Lowers}
+use Rattle.general.specs.Scan.{total}
+use Rattle.chains.specs.Ranks.{Look}
 use Rattle.rank.specs.Walk.{loweredFrom}
 use Rattle.rank.specs.Visits.{visited, Visits, Settled}
 use Rattle.rank.specs.Tables.{inRanks, lookIn, Rankable, Readable, Visitable, alternativesAt, visitedRank, visitedRanks}
-use Rattle.chain_words.specs.declared.asked.Asked.{Asked}
-use Rattle.rank.proofs.Scan.{getD-inside, total-set}
+use Rattle.question.specs.declared.asked.Asked.{Asked}
+use Rattle.general.proofs.Scan.{getD-inside, total-set}
 use Rattle.rank.proofs.Walk.{lowered-low, lowered-from}
 
 module _ (q : Asked) (ahead behind part places : List ℕ) where

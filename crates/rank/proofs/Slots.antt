@@ -13,8 +13,8 @@ use Rattle.image.specs.Word.{kind, payload, isKind, isEntry}
 use Rattle.library.specs.Library.{step, call}
 use Rattle.image.proofs.Entries.{entry-kinds}
 use Rattle.rank.specs.Tables.{entryOf, slotOf, rankIn, Within, markOf, stepMark, stepRank, Stepped, Steppable}
-use Rattle.chain_words.specs.declared.asked.Asked.{Asked}
-use Rattle.rank.proofs.Scan.{getD-inside}
+use Rattle.question.specs.declared.asked.Asked.{Asked}
+use Rattle.general.proofs.Scan.{getD-inside}
 
 -- ---- the word of an entry
 

@@ -4,20 +4,64 @@ use mathlib.Core.Path.{_≡_, ap}
 use mathlib.Core.Logic.{_≢_}
 use mathlib.Core.List.{List}
 use native.Mathlib.Omega.{arith}
-use lib.ListN.{length, getD, replicate, length-replicate}
-use lib.Seq.{getD-set-same}
+use native.Mathlib.Decide.{ℕ-discrete}
+use lib.ListN.{length, getD, replicate, length-replicate, length-set}
+use lib.Seq.{getD-set-same, getD-set-other}
+use Rattle.general.specs.Scan.{total}
+use Rattle.general.proofs.Scan.{total-set}
 use Rattle.library.specs.Library.{Library, Sequence}
-use Rattle.visits.specs.Passes.{here, next}
+use Rattle.settling.specs.Passes.{here, next}
 use Rattle.runs.specs.Run.{alternativesOf, alternativeOf}
 use Rattle.runs.specs.Touch.{untouched, Question}
-use Rattle.visits.proofs.Visits.{reached-length}
-use Rattle.rank.specs.Ranks.{Ranks, Look, lowered, Closed, Reached, Linked, Passing, unranked, hasMark, untouchedLook, touchLook}
-use Rattle.rank.specs.Answer.{touchAnswer, untouchedAnswer, ranksIn, answer}
-use Rattle.rank.specs.Visits.{Visits, Settled}
-use Rattle.rank.proofs.Ranks.{start-unranked, start-reached, visited-lower, visits-closed, visited-capped, visited-reached}
-use Rattle.rank.proofs.Depth.{depth-reached}
-use Rattle.rank.proofs.Links.{links-reached}
-use Rattle.rank.proofs.Answers.{touch-table, untouched-table}
+use Rattle.runs.proofs.Possible.{alternative-below}
+use Rattle.settling.proofs.Visits.{Lowers, reached-length}
+use Rattle.chains.specs.Ranks.{Ranks, Look, lowered, Closed, Reached, Linked, Passing, unranked, hasMark, untouchedLook, touchLook}
+use Rattle.chains.specs.Answer.{touchAnswer, untouchedAnswer, ranksIn, answer}
+use Rattle.rank.specs.Visits.{visited, Visits, Settled}
+use Rattle.chains.proofs.Ranks.{lowered-le, lowered-look, lowered-reached, start-unranked, start-reached}
+use Rattle.chains.proofs.Depth.{depth-reached}
+use Rattle.chains.proofs.Links.{links-reached}
+use Rattle.chains.proofs.Answers.{touch-table, untouched-table}
+
+module _ (S : List Sequence) (look : Look) (none : ℕ) where
+  -- the ranks in a list
+  abbrev inList : List ℕ → Ranks
+  inList T d = getD T d none
+
+  -- a visit keeps the length, and does not raise the sum
+  pub visited-lower : (n : ℕ) → Lowers (visited S look none) total n n
+  visited-lower n =
+      record {
+        keeps = λ T c. length-set T c (lowered S look (inList T) c);
+        lowers = λ T c lt long. omega (arith, total-set T c (lowered S look (inList T) c) none (omega arith), lowered-le S look (inList T) c);
+      }
+
+  -- a table that no visit lowers is closed
+  pub visits-closed : (T : List ℕ) → ((c : ℕ) → c < length S → inList T c ≤ lowered S look (inList T) c) → Closed S look (inList T)
+  visits-closed T same c i lt =
+      let h = same c (alternative-below S c i lt) in
+      let h′ = lowered-look S look (inList T) c i lt in
+      omega arith
+
+  pub visited-capped : (T : List ℕ) (c : ℕ) → c < length T → ((d : ℕ) → inList T d ≤ none) → (d : ℕ) → inList (visited S look none T c) d ≤ none
+  visited-capped T c lt le d = go (ℕ-discrete d c)
+    where
+      go : Dec (d ≡ c) → inList (visited S look none T c) d ≤ none
+      go (yes e) =
+          rw (e, getD-set-same T c (lowered S look (inList T) c) none lt) (let h = lowered-le S look (inList T) c in let h′ = le c in omega arith)
+      go (no e) = rw (getD-set-other T c d (lowered S look (inList T) c) none e) (le d)
+
+  -- what one look at an alternative preserves holds of the ranks after a visit
+  module _ (P : ℕ → ℕ → Type 0)
+      (keeps : (T : Ranks) → Reached P none T → (c i : ℕ) → i < length (alternativesOf S c) → suc (look T (alternativeOf S c i)) < none
+      → P c (suc (look T (alternativeOf S c i)))) where
+    pub visited-reached : (T : List ℕ) (c : ℕ) → c < length T → Reached P none (inList T) → Reached P none (inList (visited S look none T c))
+    visited-reached T c below reached d = go (ℕ-discrete d c)
+      where
+        go : Dec (d ≡ c) → inList (visited S look none T c) d < none → P d (inList (visited S look none T c) d)
+        go (yes e) =
+            rw (e, getD-set-same T c (lowered S look (inList T) c) none below) (lowered-reached S look none P keeps (inList T) reached c)
+        go (no e) = rw (getD-set-other T c d (lowered S look (inList T) c) none e) (reached d)
 
 module _ (S : List Sequence) (look : Look) (none : ℕ) where
   pub visits-length : {before T : List ℕ} → Visits S look none before T → length T ≡ length before

@@ -11,15 +11,14 @@ use lib.Dec.{leb, ltb}
 use borrow.Author.Tests.{leb-true, le-leb, lt-leb, ltb-true, lt-ltb}
 use Rattle.library.specs.Library.{Alternative, Sequence, Entry}
 use Rattle.runs.specs.Run.{Item, alternativesOf, alternativeOf}
-use Rattle.runs.specs.Tests.{and-parts}
-use Rattle.runs.proofs.Tests.{both-ways}
-use Rattle.rank.specs.Scan.{every, leastBelow, greatest, firstIndex}
-use Rattle.rank.specs.Stands.{entryAt}
-use Rattle.rank.specs.Ranks.{Ranks, Look, lowered, entryRank, depthLook, candidate, linkLook}
-use Rattle.rank.specs.Answer.{chosenAlternative, chosenPosition}
+use Rattle.general.proofs.Bools.{and-parts, both-ways}
+use Rattle.general.specs.Scan.{every, leastBelow, greatest, firstIndex}
+use Rattle.chains.specs.Stands.{entryAt}
+use Rattle.chains.specs.Ranks.{Ranks, Look, lowered, entryRank, depthLook, candidate, linkLook}
+use Rattle.chains.specs.Answer.{chosenAlternative, chosenPosition}
 use Rattle.rank.specs.Walk.{loweredFrom, alternativeFrom, depthFrom, fewestFrom, positionFrom, linkFrom, tailFrom}
-use Rattle.chain_words.specs.Link.{touchLink}
-use Rattle.rank.proofs.Scan.{least-start, least-le, least-cases, first-found, first-passes, first-same}
+use Rattle.chains.specs.Link.{touchLink}
+use Rattle.general.proofs.Scan.{least-start, least-le, least-cases, first-found, first-passes, first-same}
 
 -- the least value by its first index
 least-cons : (v : ℕ → ℕ) (r n : ℕ) → leastBelow v r (suc n) ≡ min (v 0) (leastBelow (λ i. v (suc i)) r n)

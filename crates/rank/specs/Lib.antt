@@ -1,10 +1,3 @@
-pub mod Scan
-pub mod Stands
-pub mod Depth
-pub mod Ranks
-pub mod Answer
-pub mod Shows
-pub mod Call
 pub mod Walk
 pub mod Visits
 pub mod Tables

@@ -11,11 +11,11 @@ use Rattle.column.specs.Sets.{inColumn}
 use Rattle.image.specs.Word.{kind, payload, isKind}
 use Rattle.library.specs.Library.{Alternative, Entry, step, call, entriesFrom, alternativesFrom}
 use Rattle.runs.specs.Run.{Item}
-use Rattle.visits.specs.Passes.{Pass}
-use Rattle.rank.specs.Scan.{every, total}
-use Rattle.rank.specs.Ranks.{Ranks}
+use Rattle.settling.specs.Passes.{Pass}
+use Rattle.general.specs.Scan.{every, total}
+use Rattle.chains.specs.Ranks.{Ranks}
 use Rattle.rank.specs.Walk.{loweredFrom, depthFrom, fewestFrom}
-use Rattle.chain_words.specs.declared.asked.Asked.{Asked}
+use Rattle.question.specs.declared.asked.Asked.{Asked}
 use Rattle.rank.specs.declared.entry.Traits.{Traits}
 use Rattle.rank.specs.declared.read.Read.{Read}
 

@@ -4,8 +4,8 @@ use Prim.Native.Nat.{ℕ}
 use mathlib.Core.List.{List}
 use lib.ListN.{length, getD, set}
 use Rattle.library.specs.Library.{Sequence}
-use Rattle.visits.specs.Passes as passes
-use Rattle.rank.specs.Ranks.{Look, lowered}
+use Rattle.settling.specs.Passes as passes
+use Rattle.chains.specs.Ranks.{Look, lowered}
 
 module _ (S : List Sequence) (look : Look) (none : ℕ) where
   -- the table after a visit of sequence c

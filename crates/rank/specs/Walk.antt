@@ -5,8 +5,8 @@ use mathlib.Core.List.{List, [], _∷_}
 use lib.ListN.{length}
 use lib.Dec.{leb, ltb}
 use Rattle.library.specs.Library.{Alternative, Entry}
-use Rattle.rank.specs.Scan.{every}
-use Rattle.chain_words.specs.Link.{Link, touchLink}
+use Rattle.general.specs.Scan.{every}
+use Rattle.chains.specs.Link.{Link, touchLink}
 
 -- the rank r of a sequence, lowered by the alternatives from here on
 unfoldable pub loweredFrom : (Alternative → ℕ) → ℕ → List Alternative → ℕ

@@ -1,8 +1,8 @@
 // What the tables say of an entry, for the question that is asked.
-use chain_words::asked::Asked;
 use column::sets::holds;
 use image::word::is_kind;
 use image::word::payload_of;
+use question::asked::Asked;
 ghost use mathlib.Core.Path.{_≡_};
 ghost use mathlib.Core.Bool.{true, cond};
 ghost use Prim.Native.Nat.{ℕ, _+_, _*_, _≤_, _<_};

@@ -1,11 +1,11 @@
 // Ranks lowered in place until no visit changes them, by passes like those of the outcome table.
 use crate::read::lowered_rank;
-use chain_words::asked::Asked;
-use visits::named::place_of;
+use question::asked::Asked;
+use settling::named::place_of;
 ghost use mathlib.Core.Bool.{false};
 ghost use Prim.Native.Nat.{_<_};
-ghost use Rattle.visits.specs.Passes.{Visit, Pass, Swept, Complete};
-ghost use Rattle.rank.specs.Scan.{total};
+ghost use Rattle.settling.specs.Passes.{Visit, Pass, Swept, Complete};
+ghost use Rattle.general.specs.Scan.{total};
 ghost use Rattle.rank.specs.Tables.{Visitable, visitedRanks};
 
 // Lowers the rank of sequence `c` by its alternatives. Answers whether it fell.

@@ -20,7 +20,7 @@ use Rattle.image.specs.declared.answer.Checked.the-variants.{Refused}
 use Rattle.reader.specs.declared.check.Steps.{Steps}
 use Rattle.reader.specs.declared.check.Steps.the-variants as steps
 use Rattle.rules.specs.declared.rules.Earlier.{Earlier}
-use Rattle.image.proofs.Bools.{and-left}
+use Rattle.general.proofs.Bools.{and-left}
 use Rattle.reader.proofs.Walk.{scan-walk}
 
 -- a slice from i on is the whole rest

@@ -23,7 +23,7 @@ use Rattle.reader.specs.declared.check.Body.{Body}
 use Rattle.rules.specs.declared.rules.Earlier.{Earlier}
 use Rattle.rules.specs.declared.rules.Fault.{Fault}
 use Rattle.rules.specs.declared.rules.Fault.the-variants.{Found, Nothing}
-use Rattle.image.proofs.Bools.{byte-le}
+use Rattle.general.proofs.Bools.{byte-le}
 use Rattle.rules.proofs.Right.{Passing, body-passing, body-follows, inside-body, Above, above-fact, fact-passing}
 
 walk-drop : (h : Head) (e : Earlier) (p i : ℕ) (ws : List ℕ) → i < length ws

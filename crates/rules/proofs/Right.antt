@@ -14,7 +14,7 @@ use Rattle.rules.specs.Quick.{entryRight, alternativeRight, bodyRight, i
 use Rattle.image.specs.declared.answer.Head.{Head}
 use Rattle.rules.specs.declared.rules.Earlier.{Earlier}
 use Rattle.rules.specs.declared.rules.Fault.the-variants.{Nothing}
-use Rattle.image.proofs.Bools.{and-left, and-right, or-left, or-right, or-cases}
+use Rattle.general.proofs.Bools.{and-left, and-right, or-left, or-right, or-cases}
 
 -- a fact word by its kind
 by-fact : {P : Type 0} (w : ℕ) → isFact w ≡ true → (kind w ≡ 2 → P) → (kind w ≡ 3 → P) → (kind w ≡ 4 → P) → P

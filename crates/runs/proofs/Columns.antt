@@ -5,7 +5,7 @@ use mathlib.Core.Logic.{_↔_, _≢_, _⊎_, inl, inr, ⊎-elim, by-cases}
 use mathlib.Core.Bool.{Bool, true, false, not, false≢true, true≢false}
 use mathlib.Core.List.{List, [], _∷_}
 use Rattle.library.specs.Library.{Library}
-use Rattle.runs.specs.Tests.{and-parts}
+use Rattle.general.proofs.Bools.{and-parts, and-both, or-cases, or-left, or-right, passes-or-not}
 use Rattle.runs.specs.Run.{Item, Run}
 use Rattle.runs.specs.Touch.{Question, questionNumber, questionOf, rival, untouchedOn, otherTouch, HasOutcome, itemTouch}
 use Rattle.runs.specs.Touch.{outcomeOf, Mark, present, absent, untouched, Side, last, first}
@@ -14,7 +14,6 @@ use Rattle.runs.specs.Possible.{Column, columnHas, questionColumn, empty
 use Rattle.runs.specs.Possible.{hasRun, hasEmptyRun, brokenRule, alwaysOutcome}
 use Rattle.runs.specs.Rows.{columnNumber}
 use borrow.Author.Tests.{not-true}
-use Rattle.runs.proofs.Tests.{and-both, or-cases, or-left, or-right, passes-or-not}
 use Rattle.runs.proofs.Outcome.{decided-outcome}
 use Rattle.runs.proofs.Possible.{possible-iff}
 

@@ -5,13 +5,12 @@ use mathlib.Core.Bool.{Bool, true, false, not, _&&_, _||_, cond, false≢true, t
 use mathlib.Core.List.{List, [], _∷_}
 use native.Mathlib.Bridge.{le-prop}
 use Rattle.library.specs.Library.{has, Library}
-use Rattle.runs.specs.Tests.{and-parts}
+use Rattle.general.proofs.Bools.{and-parts, or-cases}
 use Rattle.runs.specs.Run.{Item}
 use Rattle.runs.specs.Execution.{Fact, State, apply, stepOf, Executes, end}
 use Rattle.runs.specs.Touch.{Mark, present, absent, untouched, orElse, last, first, touch, decided, outcomeOf, HasOutcome}
 use Rattle.runs.specs.Touch.{lastSet, lastCleared}
 use Rattle.runs.specs.Algebra.{sameMark}
-use Rattle.runs.proofs.Tests.{or-cases}
 
 -- whether a fact stands after a last touch, by whether it stood before
 abbrev pub after : Mark → Bool → Bool

@@ -10,7 +10,7 @@ use lib.ListN.{length}
 use lib.Dec.{ltb}
 use borrow.Author.Tests.{ltb-true, ltb-false}
 use Rattle.runs.specs.Levels.{Cell, cell, blank, missing, found, added, levels, least}
-use Rattle.runs.proofs.Tests.{or-cases, passes-or-not}
+use Rattle.general.proofs.Bools.{or-cases, passes-or-not}
 
 -- a property of every cell
 abbrev Each : {K : Type 0} → (K → Bool → Type 0) → List (Cell K) → Type 0

@@ -1,4 +1,3 @@
-pub mod Tests
 pub mod Run
 pub mod Refinement
 pub mod Levels
@@ -6,7 +5,6 @@ pub mod Outcome
 pub mod Possible
 pub mod Reading
 pub mod Rows
-pub mod Words
 pub mod Columns
 pub mod Execution
 pub mod Published

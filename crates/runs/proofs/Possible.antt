@@ -12,12 +12,12 @@ use lib.ListN.{length, List·getD-eq-default}
 use lib.Dec.{eqb}
 use borrow.Author.Tests.{eqb-true, eq-eqb}
 use Rattle.library.specs.Library.{Sequence, Entry, step, call}
-use Rattle.runs.specs.Tests.{and-parts}
+use Rattle.general.proofs.Bools.{and-parts, and-both, both-ways}
 use Rattle.runs.specs.Run.{Item, alternativesOf, alternativeOf, Gives, nothing, by-step, by-call}
 use Rattle.runs.specs.Algebra.{Algebra, outcome}
 use Rattle.runs.specs.Possible.{Table, can, look, Key, key, sameKey, keysBelow, lookAt, possible}
 use Rattle.runs.specs.Table.{Part, whole, Occurs, Sound, Closed}
-use Rattle.runs.proofs.Tests.{and-both, both-ways, some-found, some-intro, some-place, some-at}
+use Rattle.general.proofs.Tests.{some-found, some-intro, some-place, some-at}
 use Rattle.runs.proofs.Levels.{least-sound, least-closed}
 use Rattle.runs.proofs.Outcome.{outcome-append}
 

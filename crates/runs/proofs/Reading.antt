@@ -6,7 +6,8 @@ use mathlib.Core.Logic.{⊎-elim, _≢_}
 use mathlib.Core.Bool.{Bool, true, false, _&&_, _||_, false≢true, and-false, or-false}
 use mathlib.Core.List.{List, [], _∷_}
 use Rattle.library.specs.Library.{Entry, step, call}
-use Rattle.runs.specs.Tests.{some, and-parts}
+use Rattle.general.specs.Tests.{some}
+use Rattle.general.proofs.Bools.{and-parts, and-both, or-cases, or-left, or-right, both-ways, passes-or-not}
 use Rattle.runs.specs.Run.{Item}
 use Rattle.runs.specs.Touch.{Mark, present, absent, untouched, Side, last, first}
 use Rattle.runs.specs.Algebra.{Algebra, sideAlgebra, anyAlgebra, emptyAlgebra, joinMarks, sameMark, sameMark-refl}
@@ -14,7 +15,7 @@ use Rattle.runs.specs.Possible.{Table, can}
 use Rattle.runs.specs.Table.{Part, whole}
 use Rattle.runs.specs.Reading.{joined, entryOutcomes, read}
 use Rattle.runs.specs.Rows.{laterSets, joinSets}
-use Rattle.runs.proofs.Tests.{and-both, or-cases, or-left, or-right, both-ways, passes-or-not, some-found, some-intro}
+use Rattle.general.proofs.Tests.{some-found, some-intro}
 use Rattle.runs.proofs.Outcome.{orElse-cases, orElse-touch, orElse-none, present≢untouched, absent≢untouched}
 
 module _ (A : Algebra) where

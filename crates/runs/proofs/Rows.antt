@@ -9,7 +9,8 @@ use native.Mathlib.Omega.{arith}
 use lib.ListN.{length}
 use borrow.Author.Count.{below-none, below-more}
 use Rattle.library.specs.Library.{has, Library, Entry, step, call}
-use Rattle.runs.specs.Tests.{some, and-parts}
+use Rattle.general.specs.Tests.{some}
+use Rattle.general.proofs.Bools.{and-parts, and-both, and-implied, or-cases, or-left, or-right}
 use Rattle.runs.specs.Execution.{stepOf}
 use Rattle.runs.specs.Run.{Item, alternativesOf, alternativeOf}
 use Rattle.runs.specs.Touch.{Mark, present, absent, untouched, Side, last, first, itemTouch}
@@ -19,7 +20,7 @@ use Rattle.runs.specs.Table.{whole, noItem, Occurs, Sound, Closed}
 use Rattle.runs.specs.Reading.{entryOutcomes}
 use Rattle.runs.specs.Rows.{Row, rowOf, columnNumber, rowSide, joinSets, joinRow, startRow, stepRow, touchRow, entryRow}
 use Rattle.runs.specs.Rows.{foldRow, readRow, OccursIn, GoodRow, GoodRows, ClosedRows}
-use Rattle.runs.proofs.Tests.{and-both, and-implied, or-cases, or-left, or-right, some-or}
+use Rattle.general.proofs.Tests.{some-or}
 use Rattle.runs.proofs.Possible.{look-place, alternative-sound, table-possible}
 use Rattle.runs.proofs.Reading.{allRun, allEmpty, readSets, sideOutcomes, side-can, side-live, run-can, empty-can}
 

@@ -1,4 +1,3 @@
-pub mod Tests
 pub mod Run
 pub mod Refinement
 pub mod Execution
@@ -9,5 +8,4 @@ pub mod Possible
 pub mod Table
 pub mod Reading
 pub mod Rows
-pub mod Words
 pub mod Published

@@ -6,7 +6,7 @@ use mathlib.Core.List.{List, [], _∷_, _++_, map}
 use lib.ListN.{length, getD}
 use lib.Dec.{eqb}
 use Rattle.library.specs.Library.{Library, Sequence, Entry, step, call}
-use Rattle.runs.specs.Tests.{some}
+use Rattle.general.specs.Tests.{some}
 use Rattle.runs.specs.Run.{Item, alternativesOf}
 use Rattle.runs.specs.Touch.{Question, rival, untouchedOn, lastSet, lastCleared, lastUntouched, firstNeeded, firstSet}
 use Rattle.runs.specs.Touch.{firstUntouched, itemTouch}

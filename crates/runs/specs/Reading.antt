@@ -3,7 +3,7 @@
 use mathlib.Core.Bool.{Bool, _&&_}
 use mathlib.Core.List.{List, [], _∷_}
 use Rattle.library.specs.Library.{Entry, step, call}
-use Rattle.runs.specs.Tests.{some}
+use Rattle.general.specs.Tests.{some}
 use Rattle.runs.specs.Run.{Item}
 use Rattle.runs.specs.Algebra.{Algebra}
 use Rattle.runs.specs.Possible.{Table}

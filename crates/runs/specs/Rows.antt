@@ -6,7 +6,7 @@ use mathlib.Core.Bool.{Bool, true, false, not, _&&_, _||_}
 use mathlib.Core.List.{List, [], _∷_}
 use lib.ListN.{length, getD}
 use Rattle.library.specs.Library.{Library, Entry, step, call}
-use Rattle.runs.specs.Tests.{some}
+use Rattle.general.specs.Tests.{some}
 use Rattle.runs.specs.Run.{Item, alternativesOf, alternativeOf}
 use Rattle.runs.specs.Touch.{Mark, present, absent, untouched, Side, last, first, itemTouch}
 use Rattle.runs.specs.Algebra.{sideAlgebra, sameMark}

@@ -1,3 +1,2 @@
-// Runs, touches and outcomes: the definitions of source documents 000 and 001 and their theory, and the row of columns in which outcomes are
-// worked out for all facts at once.
-pub mod row;
+// Runs, touches, outcomes and execution; the definitions of source documents 000 and 001; what is possible over all runs, and the theory of all
+// this. There is no function here.

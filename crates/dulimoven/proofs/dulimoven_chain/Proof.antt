@@ -2,7 +2,7 @@
 -- Assumes nothing.
 use borrow.Author.Needs.{needs}
 use mathlib.Core.Path.{ap, ap₂, _∙_}
-use Rattle.chain_words.specs.Answer.{chainAnswer}
+use Rattle.question.specs.Answer.{chainAnswer}
 use Rattle.dulimoven.specs.Returned.{returned}
 use Rattle.dulimoven.proofs.dulimoven_chain.Statement.{statement}
 use Rattle.dulimoven.proofs.dulimoven_chain.Tie as tie

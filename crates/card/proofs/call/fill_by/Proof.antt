@@ -7,7 +7,7 @@ use Rattle.card.proofs.call.fill_by.Statement.{statement}
 use Rattle.card.proofs.call.fill_by.Tie as tie
 use Rattle.card.proofs.call.fill_by.Reads as reads
 use Rattle.card.proofs.call.fill_by.Lts as lts
-use Rattle.card_words.proofs.write.write_cards.Reads as write-cards-reads
+use Rattle.row.proofs.card.write_cards.Reads as write-cards-reads
 use Rattle.outcome.proofs.table.outcome_table.Reads as outcome-table-reads
 
 outcome-table-requires : tie.Need-outcome-table-requires

@@ -10,10 +10,10 @@ use Rattle.chain.proofs.call.ask.Tie as tie
 use Rattle.chain.proofs.call.ask.Reads as reads
 use Rattle.chain.proofs.call.ask.Lts as lts
 use Rattle.chain.proofs.call.find.Reads as find-reads
-use Rattle.chain_words.proofs.answer.told_of.Reads as told-of-reads
-use Rattle.chain_words.proofs.asked.in_range.Reads as in-range-reads
-use Rattle.chain_words.proofs.asked.out_of_range.Reads as out-of-range-reads
-use Rattle.chain_words.proofs.asked.read_question.Reads as read-question-reads
+use Rattle.question.proofs.answer.told_of.Reads as told-of-reads
+use Rattle.question.proofs.asked.in_range.Reads as in-range-reads
+use Rattle.question.proofs.asked.out_of_range.Reads as out-of-range-reads
+use Rattle.question.proofs.asked.read_question.Reads as read-question-reads
 
 in-range-requires : tie.Need-in-range-requires
 in-range-requires c κs = search needs

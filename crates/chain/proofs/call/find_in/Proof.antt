@@ -5,7 +5,7 @@ use native.Mathlib.Omega.{arith}
 use mathlib.Core.Path.{sym}
 use lib.Seq.{length-take-le}
 use lib.ListN.{length}
-use Rattle.chain_words.specs.Answer as words
+use Rattle.question.specs.Answer as words
 use Rattle.link.proofs.Writing.{answered-same}
 use Rattle.chain.proofs.Finding.{image-long, few-sequences, tables-asked, made-of, tables-findable, found-done}
 use Rattle.chain.proofs.call.find_in.Statement.{statement}

@@ -3,7 +3,7 @@
 use borrow.Author.Needs.{needs}
 use native.Mathlib.Omega.{arith}
 use Prim.Native.Nat.{_+_}
-use Rattle.visits.proofs.Visits.{blank-zeros}
+use Rattle.settling.proofs.Visits.{blank-zeros}
 use Rattle.chain.proofs.Finding.{prefix-long, prefix-unranked}
 use Rattle.chain.proofs.call.find_small.Statement.{statement}
 use Rattle.chain.proofs.call.find_small.Tie as tie

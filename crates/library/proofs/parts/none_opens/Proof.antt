@@ -4,7 +4,7 @@ use borrow.Author.Needs.{needs}
 use borrow.Author.Tests.{not-true}
 use mathlib.Core.Path.{sym, _∙_}
 use mathlib.Core.Bool.{_||_}
-use Rattle.image.proofs.Bools.{nor-left, nor-right}
+use Rattle.general.proofs.Bools.{nor-left, nor-right}
 use Rattle.library.proofs.parts.none_opens.Statement.{statement}
 use Rattle.library.proofs.parts.none_opens.Tie as tie
 use Rattle.library.proofs.parts.none_opens.Reads as reads

@@ -9,7 +9,7 @@ use Rattle.link.proofs.write.write_chain.Statement.{statement}
 use Rattle.link.proofs.write.write_chain.Tie as tie
 use Rattle.link.proofs.write.write_chain.Reads as reads
 use Rattle.link.proofs.write.write_chain.Lts as lts
-use Rattle.chain_words.proofs.answer.shown_links.Reads as shown-links-reads
+use Rattle.question.proofs.answer.shown_links.Reads as shown-links-reads
 use Rattle.link.proofs.write.write_links.Reads as write-links-reads
 use Rattle.link.proofs.write.write_quiet.Reads as write-quiet-reads
 

@@ -7,7 +7,7 @@ use Rattle.link.proofs.write.write_links.Statement.{statement}
 use Rattle.link.proofs.write.write_links.Tie as tie
 use Rattle.link.proofs.write.write_links.Reads as reads
 use Rattle.link.proofs.write.write_links.Lts as lts
-use Rattle.chain_words.proofs.words.put_link.Reads as put-link-reads
+use Rattle.question.proofs.words.put_link.Reads as put-link-reads
 use Rattle.link.proofs.link.chosen_link.Reads as chosen-link-reads
 use Rattle.link.proofs.write.after_opener.Reads as after-opener-reads
 

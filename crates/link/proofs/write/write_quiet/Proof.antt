@@ -7,7 +7,7 @@ use Rattle.link.proofs.write.write_quiet.Statement.{statement}
 use Rattle.link.proofs.write.write_quiet.Tie as tie
 use Rattle.link.proofs.write.write_quiet.Reads as reads
 use Rattle.link.proofs.write.write_quiet.Lts as lts
-use Rattle.chain_words.proofs.words.put_link.Reads as put-link-reads
+use Rattle.question.proofs.words.put_link.Reads as put-link-reads
 use Rattle.link.proofs.link.chosen_alternative.Reads as chosen-alternative-reads
 use Rattle.link.proofs.write.after_opener.Reads as after-opener-reads
 use Rattle.link.proofs.write.before.Reads as before-reads

@@ -2,14 +2,14 @@
 -- Assumes nothing.
 use borrow.Author.Needs.{needs}
 use mathlib.Core.Path.{sym, subst}
-use Rattle.visits.specs.Stale.{Freshened}
-use Rattle.visits.proofs.CallerSets.{freshened-same, freshened-changed}
+use Rattle.settling.specs.Stale.{Freshened}
+use Rattle.settling.proofs.CallerSets.{freshened-same, freshened-changed}
 use Rattle.outcome.proofs.pass.freshen.Statement.{statement}
 use Rattle.outcome.proofs.pass.freshen.Tie as tie
 use Rattle.outcome.proofs.pass.freshen.Reads as reads
 use Rattle.outcome.proofs.pass.freshen.Lts as lts
-use Rattle.visits.proofs.callers.remove.Reads as remove-reads
-use Rattle.visits.proofs.callers.unite.Reads as unite-reads
+use Rattle.settling.proofs.callers.remove.Reads as remove-reads
+use Rattle.settling.proofs.callers.unite.Reads as unite-reads
 use Rattle.outcome.proofs.pass.visit.Reads as visit-reads
 
 remove-requires : tie.Need-remove-requires

@@ -6,18 +6,18 @@ use Prim.Native.Nat.{ℕ, _-_}
 use mathlib.Core.Path.{_≡_, refl, sym, ap, _∙_}
 use lib.ListN.{length, getD}
 use Rattle.outcome.specs.Visited.{lacking, visited}
-use Rattle.visits.specs.Stale.{Fresh, isStale}
+use Rattle.settling.specs.Stale.{Fresh, isStale}
 use Rattle.outcome.proofs.Visited.{visits-lower, visitable-at}
-use Rattle.visits.proofs.Visits.{reached-length, Sweeping, sweeping-start, sweeping-turn, sweeping-skip, sweeping-end}
-use Rattle.visits.proofs.Stale.{sweeping-fresh}
+use Rattle.settling.proofs.Visits.{reached-length, Sweeping, sweeping-start, sweeping-turn, sweeping-skip, sweeping-end}
+use Rattle.settling.proofs.Stale.{sweeping-fresh}
 use Rattle.outcome.proofs.Calls.{fresh-visit}
 use Rattle.outcome.proofs.pass.pass.Statement.{statement}
 use Rattle.outcome.proofs.pass.pass.Tie as tie
 use Rattle.outcome.proofs.pass.pass.Reads as reads
 use Rattle.outcome.proofs.pass.pass.Lts as lts
-use Rattle.visits.proofs.callers.is_stale.Reads as is-stale-reads
+use Rattle.settling.proofs.callers.is_stale.Reads as is-stale-reads
 use Rattle.outcome.proofs.pass.freshen.Reads as freshen-reads
-use Rattle.visits.proofs.named.place_of.Reads as place-of-reads
+use Rattle.settling.proofs.named.place_of.Reads as place-of-reads
 
 abbrev Inv-loop : tie.InvT-loop
 Inv-loop all steps part places callers order forward table₀ stale₀ n changed₀ i₀ table stale changed i =

@@ -3,12 +3,12 @@
 use native.Mathlib.Omega.{arith}
 use mathlib.Core.Path.{_≡_, refl, sym, subst}
 use lib.ListN.{length}
-use Rattle.visits.specs.Passes.{Reached, here, Pass}
+use Rattle.settling.specs.Passes.{Reached, here, Pass}
 use Rattle.outcome.specs.Visited.{lacking, visited}
-use Rattle.visits.specs.Stale.{Fresh, isStale}
+use Rattle.settling.specs.Stale.{Fresh, isStale}
 use Rattle.outcome.proofs.Visited.{visits-lower, visitable-at}
-use Rattle.visits.proofs.Visits.{reached-length, reached-on, pass-after, swept-pass}
-use Rattle.visits.proofs.CallerSets.{fresh-start}
+use Rattle.settling.proofs.Visits.{reached-length, reached-on, pass-after, swept-pass}
+use Rattle.settling.proofs.CallerSets.{fresh-start}
 use Rattle.outcome.proofs.pass.settle.Statement.{statement}
 use Rattle.outcome.proofs.pass.settle.Tie as tie
 use Rattle.outcome.proofs.pass.settle.Reads as reads

@@ -3,7 +3,7 @@
 use borrow.Author.Needs.{needs}
 use native.Mathlib.Omega.{arith}
 use mathlib.Core.Path.{_≡_, ap, ap₂, _∙_, subst}
-use Rattle.runs.specs.Words.{orRows, withRow, sameRows}
+use Rattle.row.specs.Words.{orRows, withRow, sameRows}
 use Rattle.outcome.specs.Visited.{visitedRow}
 use Rattle.outcome.proofs.Stores.{Fitting}
 use Rattle.outcome.proofs.Visited.{visit-made}
@@ -12,10 +12,10 @@ use Rattle.outcome.proofs.pass.visit.Tie as tie
 use Rattle.outcome.proofs.pass.visit.Reads as reads
 use Rattle.outcome.proofs.pass.visit.Lts as lts
 use Rattle.outcome.proofs.read.read_sequence.Reads as read-sequence-reads
-use Rattle.runs.proofs.row.put_row.Reads as put-row-reads
-use Rattle.runs.proofs.row.row_at.Reads as row-at-reads
-use Rattle.runs.proofs.row.same.Reads as same-reads
-use Rattle.runs.proofs.row.united.Reads as united-reads
+use Rattle.row.proofs.words.put_row.Reads as put-row-reads
+use Rattle.row.proofs.words.row_at.Reads as row-at-reads
+use Rattle.row.proofs.words.same.Reads as same-reads
+use Rattle.row.proofs.words.united.Reads as united-reads
 
 row-at-requires : tie.Need-row-at-requires
 row-at-requires c κs = search needs

@@ -4,7 +4,7 @@ use borrow.Author.Needs.{needs}
 use borrow.Author.Tests.{eqb-true, eqb-false}
 use mathlib.Core.Path.{sym, _∙_, ap}
 use Rattle.image.specs.Word.{kind}
-use Rattle.runs.specs.Words.{rowIn}
+use Rattle.row.specs.Words.{rowIn}
 use Rattle.image.proofs.Entries.{entry-kinds}
 use Rattle.outcome.proofs.read.entry_row.Statement.{statement}
 use Rattle.outcome.proofs.read.entry_row.Tie as tie
@@ -12,7 +12,7 @@ use Rattle.outcome.proofs.read.entry_row.Reads as reads
 use Rattle.outcome.proofs.read.entry_row.Lts as lts
 use Rattle.image.proofs.word.is_kind.Reads as is-kind-reads
 use Rattle.image.proofs.word.payload_of.Reads as payload-of-reads
-use Rattle.runs.proofs.row.row_at.Reads as row-at-reads
+use Rattle.row.proofs.words.row_at.Reads as row-at-reads
 
 is-kind-requires : tie.Need-is-kind-requires
 is-kind-requires c κs = search needs

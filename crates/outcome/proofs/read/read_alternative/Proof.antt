@@ -14,10 +14,10 @@ use Rattle.outcome.proofs.read.read_alternative.Lts as lts
 use Rattle.image.proofs.word.is_entry.Reads as is-entry-reads
 use Rattle.outcome.proofs.read.entries_end.Reads as entries-end-reads
 use Rattle.outcome.proofs.read.entry_row.Reads as entry-row-reads
-use Rattle.runs.proofs.row.joined.Reads as joined-reads
-use Rattle.runs.proofs.row.live.Reads as live-reads
-use Rattle.runs.proofs.row.none.Reads as none-reads
-use Rattle.runs.proofs.row.start.Reads as start-reads
+use Rattle.row.proofs.words.joined.Reads as joined-reads
+use Rattle.row.proofs.words.live.Reads as live-reads
+use Rattle.row.proofs.words.none.Reads as none-reads
+use Rattle.row.proofs.words.start.Reads as start-reads
 
 abbrev Inv-loop : tie.InvT-loop
 Inv-loop all steps table part at x₀ i₀ x i = Folding all steps table part at x i

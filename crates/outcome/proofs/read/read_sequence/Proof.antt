@@ -5,7 +5,7 @@ use native.Mathlib.Omega.{arith}
 use mathlib.Core.Path.{sym, _∙_}
 use Prim.Native.Nat.{_+_, _-_}
 use lib.ListN.{length}
-use Rattle.runs.specs.Words.{startRow, orRows, liveRow}
+use Rattle.row.specs.Words.{startRow, orRows, liveRow}
 use Rattle.outcome.proofs.Walks.{Uniting, empty-read, uniting-start, uniting-out, uniting-end, uniting-skip, uniting-empties, uniting-turn}
 use Rattle.outcome.proofs.Stores.{rows-again}
 use Rattle.outcome.proofs.read.read_sequence.Statement.{statement}
@@ -16,10 +16,10 @@ use Rattle.image.proofs.word.is_kind.Reads as is-kind-reads
 use Rattle.outcome.proofs.read.empties_end.Reads as empties-end-reads
 use Rattle.outcome.proofs.read.entry_at.Reads as entry-at-reads
 use Rattle.outcome.proofs.read.read_alternative.Reads as read-alternative-reads
-use Rattle.runs.proofs.row.live.Reads as live-reads
-use Rattle.runs.proofs.row.none.Reads as none-reads
-use Rattle.runs.proofs.row.start.Reads as start-reads
-use Rattle.runs.proofs.row.united.Reads as united-reads
+use Rattle.row.proofs.words.live.Reads as live-reads
+use Rattle.row.proofs.words.none.Reads as none-reads
+use Rattle.row.proofs.words.start.Reads as start-reads
+use Rattle.row.proofs.words.united.Reads as united-reads
 
 abbrev Inv-loop : tie.InvT-loop
 Inv-loop all steps table part at x₀ i₀ x i = Uniting all steps table part at x i

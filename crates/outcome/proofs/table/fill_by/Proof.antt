@@ -10,7 +10,7 @@ use Rattle.outcome.proofs.table.fill_by.Tie as tie
 use Rattle.outcome.proofs.table.fill_by.Reads as reads
 use Rattle.outcome.proofs.table.fill_by.Lts as lts
 use Rattle.outcome.proofs.pass.settle.Reads as settle-reads
-use Rattle.runs.proofs.row.all_facts.Reads as all-facts-reads
+use Rattle.row.proofs.words.all_facts.Reads as all-facts-reads
 use Rattle.outcome.proofs.steps.write_step_rows.Reads as write-step-rows-reads
 use Rattle.outcome.proofs.table.clear.Reads as clear-reads
 use Rattle.outcome.proofs.table.prepare_by.Reads as prepare-by-reads

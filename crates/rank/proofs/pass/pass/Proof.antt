@@ -5,8 +5,8 @@ use native.Mathlib.Omega.{arith}
 use Prim.Native.Nat.{ℕ, _-_}
 use mathlib.Core.Path.{ap}
 use lib.ListN.{length, getD}
-use Rattle.visits.proofs.Visits.{reached-length, Sweeping, sweeping-start, sweeping-turn, sweeping-skip, sweeping-end}
-use Rattle.rank.specs.Scan.{total}
+use Rattle.settling.proofs.Visits.{reached-length, Sweeping, sweeping-start, sweeping-turn, sweeping-skip, sweeping-end}
+use Rattle.general.specs.Scan.{total}
 use Rattle.rank.specs.Tables.{visitedRanks}
 use Rattle.rank.proofs.Settling.{visits-lower, visitable-at}
 use Rattle.rank.proofs.pass.pass.Statement.{statement}
@@ -14,7 +14,7 @@ use Rattle.rank.proofs.pass.pass.Tie as tie
 use Rattle.rank.proofs.pass.pass.Reads as reads
 use Rattle.rank.proofs.pass.pass.Lts as lts
 use Rattle.rank.proofs.pass.visit.Reads as visit-reads
-use Rattle.visits.proofs.named.place_of.Reads as place-of-reads
+use Rattle.settling.proofs.named.place_of.Reads as place-of-reads
 
 abbrev Inv-loop : tie.InvT-loop
 Inv-loop q ahead behind part places order forward ranks₀ n changed₀ i₀ ranks changed i =

@@ -1,9 +1,9 @@
 -- `rank::pass::settle` meets its contract: each pass that changes something lowers the sum of the ranks.
 -- Assumes nothing.
 use mathlib.Core.Path.{subst}
-use Rattle.visits.specs.Passes.{Reached, here, Pass}
-use Rattle.visits.proofs.Visits.{reached-length, reached-on, pass-after, swept-pass}
-use Rattle.rank.specs.Scan.{total}
+use Rattle.settling.specs.Passes.{Reached, here, Pass}
+use Rattle.settling.proofs.Visits.{reached-length, reached-on, pass-after, swept-pass}
+use Rattle.general.specs.Scan.{total}
 use Rattle.rank.specs.Tables.{visitedRanks}
 use Rattle.rank.proofs.Settling.{visits-lower, visitable-at}
 use Rattle.rank.proofs.pass.settle.Statement.{statement}

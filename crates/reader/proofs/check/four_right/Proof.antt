@@ -2,7 +2,7 @@
 -- Assumes nothing.
 use borrow.Author.Needs.{needs}
 use mathlib.Core.Bool.{_&&_}
-use Rattle.image.proofs.Bools.{and-left, and-right}
+use Rattle.general.proofs.Bools.{and-left, and-right}
 use Rattle.reader.proofs.check.four_right.Statement.{statement}
 use Rattle.reader.proofs.check.four_right.Tie as tie
 use Rattle.reader.proofs.check.four_right.Reads as reads

@@ -3,7 +3,7 @@
 use borrow.Author.Needs.{needs}
 use native.Mathlib.Omega.{arith}
 use Rattle.image.specs.Word.{isKind}
-use Rattle.image.proofs.Bools.{byte-le}
+use Rattle.general.proofs.Bools.{byte-le}
 use Rattle.rules.proofs.rules.past.Statement.{statement}
 use Rattle.rules.proofs.rules.past.Tie as tie
 use Rattle.rules.proofs.rules.past.Reads as reads

@@ -1,0 +1,118 @@
+-- What a card says (demands 2 and 3), of every library and of any seven words, wherever they were found: each column against the published
+-- definitions, the flags, the count, the blank card, and what the words say of every run. Word k of a card counts from 0.
+use Prim.Native.Nat.{ℕ, _/_, _^_, _≤_, _<_}
+use mathlib.Core.Path.{_≡_}
+use mathlib.Core.Logic.{_↔_, _⊎_}
+use mathlib.Core.Bool.{true, false, _||_}
+use mathlib.Core.List.{List, []}
+use lib.ListN.{getD}
+use Rattle.column.specs.Column.{bit}
+use Rattle.column.specs.Sets.{inColumn, countBelow}
+use Rattle.library.specs.Library.{Library}
+use Rattle.runs.specs.Run.{Item, Run}
+use Rattle.runs.specs.Execution.{Fact, State, Executes, end}
+use Rattle.runs.specs.Touch.{Question, HasOutcome, lastSet, lastCleared, firstNeeded}
+use Rattle.runs.specs.Published.{prec∅, poss-prec∅, eff*∅+, eff*∅-, poss-eff*∅+, poss-eff*∅-}
+use Rattle.cards.specs.Card.{cardWords, card}
+
+-- word k of the card of sequence c, by the definition
+abbrev pub cardWord : Library → ℕ → ℕ → ℕ
+cardWord L c k = getD (card L c) k 0
+
+-- "fact f is bit f": word k of the words holds the fact, or the fact is missing from it
+abbrev pub Holds : (ℕ → ℕ) → ℕ → ℕ → Type 0
+Holds word k f = bit (word k) f ≡ 1
+
+abbrev pub Lacks : (ℕ → ℕ) → ℕ → ℕ → Type 0
+Lacks word k f = bit (word k) f ≡ 0
+
+-- a sequence has a run, or none
+abbrev pub HasRun : Library → ℕ → Type 0
+HasRun L c = (w : List Item) × Run L c w
+
+abbrev pub NoRun : Library → ℕ → Type 0
+NoRun L c = (w : List Item) → ¬ Run L c w
+
+-- Demand 2: "each card's columns hold a fact if the published definition of relaxed preconditions and effects puts it there, and only
+-- then, over all finite runs"
+pub record Columns (L : Library) (c : ℕ) (word : ℕ → ℕ) (f : Fact L) : Type 0 where
+  pub always-needed : Holds word 1 (f .0) ↔ prec∅ L c f
+  pub may-need : Holds word 2 (f .0) ↔ poss-prec∅ L c f
+  pub may-set : Holds word 3 (f .0) ↔ poss-eff*∅+ L c f
+  pub may-clear : Holds word 4 (f .0) ↔ poss-eff*∅- L c f
+  pub always-set : Holds word 5 (f .0) ↔ eff*∅+ L c f
+  pub always-cleared : Holds word 6 (f .0) ↔ eff*∅- L c f
+
+-- "flags and count are those of document 01"
+pub record Flags (L : Library) (c : ℕ) (word : ℕ → ℕ) : Type 0 where
+  -- "bit 0, a run exists"
+  pub run : (bit (word 0) 0 ≡ 1) ↔ HasRun L c
+  -- "bit 1, an empty run exists"
+  pub empty-run : (bit (word 0) 1 ≡ 1) ↔ Run L c []
+  -- "bits 8 to 14, the number of facts that are in "may set" or in "may clear""
+  pub count : word 0 / 2 ^ 8 ≡ countBelow (L .facts) (λ (f : ℕ). inColumn (word 3) f || inColumn (word 4) f)
+  -- and no other bit
+  pub between : (k : ℕ) → 2 ≤ k → k < 8 → bit (word 0) k ≡ 0
+  pub above : (k : ℕ) → 15 ≤ k → bit (word 0) k ≡ 0
+
+-- "Without a run all seven words are 0"
+abbrev pub Blank : (ℕ → ℕ) → Type 0
+Blank word = (k : ℕ) → k < cardWords → word k ≡ 0
+
+-- the words are the card of sequence c, whole
+pub record Card (L : Library) (c : ℕ) (word : ℕ → ℕ) : Type 0 where
+  pub columns : HasRun L c → (f : Fact L) → Columns L c word f
+  -- a column holds no bit from F upward
+  pub facts-only : (k f : ℕ) → 1 ≤ k → k < cardWords → L .facts ≤ f → Lacks word k f
+  -- "a sequence without a run has a blank card", and no other has
+  pub blank : Blank word ↔ NoRun L c
+  -- "flags and count are those of document 01"
+  pub flags : Flags L c word
+
+-- Demand 3, "for every run of a sequence and whichever facts stand at the start: if the run executes from there, .."
+pub record Kept (L : Library) (word : ℕ → ℕ) (w : List Item) (s : State L) (f : Fact L) : Type 0 where
+  -- "each fact in "always needed" stood at the start"
+  pub needed : Holds word 1 (f .0) → s f ≡ true
+  -- "each in "always set" stands at the end"
+  pub set : Holds word 5 (f .0) → end L w s f ≡ true
+  -- "and none in "always cleared" does"
+  pub cleared : Holds word 6 (f .0) → end L w s f ≡ false
+
+-- of every run, executing or not, and whichever facts stand at the start
+pub record Changed (L : Library) (word : ℕ → ℕ) (w : List Item) (s : State L) (f : Fact L) : Type 0 where
+  -- "A fact that stands at the end and not at the start is in "may set""
+  pub gained : end L w s f ≡ true → s f ≡ false → Holds word 3 (f .0)
+  -- "one that stands at the start and not at the end in "may clear""
+  pub lost : s f ≡ true → end L w s f ≡ false → Holds word 4 (f .0)
+
+-- the three "always" columns
+pub data Always : Type 0 where
+  needed set cleared : Always
+
+-- the word of the card
+abbrev pub place : Always → ℕ
+place needed = 1
+place set = 5
+place cleared = 6
+
+-- "The rule of an "always" column is what it says of each run: for "always needed", that the run first touches the fact by a need; for
+-- "always set", that its last touch sets it; for "always cleared", that its last touch clears it."
+abbrev pub rule : Always → Question
+rule needed = firstNeeded
+rule set = lastSet
+rule cleared = lastCleared
+
+-- "A run breaks the rule where that is not so."
+abbrev pub Breaks : Library → Always → ℕ → List Item → Type 0
+Breaks L a f w = ¬ HasOutcome L (rule a) f w
+
+-- "A fact is missing from one of these three "always" columns exactly when the sequence has no run, or has one, executing or not, that
+-- breaks the column's rule."
+abbrev pub Missing : (L : Library) → ℕ → (ℕ → ℕ) → Always → Fact L → Type 0
+Missing L c word a f = Lacks word (place a) (f .0) ↔ (NoRun L c ⊎ ((w : List Item) × Run L c w × Breaks L a (f .0) w))
+
+-- what the words say of the runs of sequence c
+pub record Runs (L : Library) (c : ℕ) (word : ℕ → ℕ) : Type 0 where
+  pub kept : (w : List Item) → Run L c w → (s : State L) → Executes L w s → (f : Fact L) → Kept L word w s f
+  pub changed : (w : List Item) → Run L c w → (s : State L) → (f : Fact L) → Changed L word w s f
+  pub missing : (a : Always) (f : Fact L) → Missing L c word a f

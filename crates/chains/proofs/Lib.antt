@@ -1,0 +1,11 @@
+pub mod Depth
+pub mod Entries
+pub mod Ranks
+pub mod Stands
+pub mod Links
+pub mod Answers
+pub mod Words
+pub mod Call
+pub mod Fits
+pub mod Passing
+pub mod Unique

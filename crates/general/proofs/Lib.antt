@@ -1,0 +1,3 @@
+pub mod Bools
+pub mod Scan
+pub mod Tests

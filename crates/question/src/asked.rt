@@ -1,0 +1,47 @@
+// What the chain call is asked: a question of the library, or refusal 9, 10 or 11.
+use image::answer::Head;
+use image::answer::Refusal;
+ghost use mathlib.Core.Path.{_≡_};
+ghost use Prim.Native.Nat.{_≤_, _<_};
+ghost use Rattle.question.specs.Asked.{inRange, outOfRange, questionAsked};
+
+// The question: its side, the mark asked for there (0 and 1 for the two touches, 2 for untouched, 3 where only a rank counts), the fact, and what stands for "no rank".
+pub struct Asked {
+    pub first: bool,
+    pub mark: u32,
+    pub fact: u32,
+    pub none: u32,
+}
+
+// Whether the sequence, the question and the fact are there.
+pub fn in_range(h: Head, sequence: u64, question: u64, fact: u64) -> bool
+    ensures { λ r. ⌜ r ≡ inRange h sequence question fact ⌝ }
+{
+    (sequence < h.sequences as u64) & (question <= 5) & (fact < h.facts as u64)
+}
+
+// The first of 9, 10 and 11 that applies, where one does.
+pub fn out_of_range(h: Head, sequence: u64, question: u64) -> Refusal
+    ensures { λ r. ⌜ r ≡ outOfRange h sequence question ⌝ }
+{
+    if h.sequences as u64 <= sequence {
+        return Refusal::Sequence;
+    }
+    if 5 < question {
+        return Refusal::Question;
+    }
+    Refusal::Fact
+}
+
+// The question that has this number.
+pub fn read_question(h: Head, question: u64, fact: u64) -> Asked
+    requires { ⌜ (fact < h .facts) × (h .sequences ≤ 256) ⌝ }
+    ensures { λ r. ⌜ r ≡ questionAsked h question fact ⌝ }
+{
+    Asked {
+        first: 3 <= question,
+        mark: (question % 3) as u32,
+        fact: fact as u32,
+        none: h.sequences + 2,
+    }
+}

@@ -1,0 +1,151 @@
+-- Rows of words, bit by bit: each formula on whole columns is the formula of `Rows` for each fact.
+-- Assumes nothing.
+use Prim.Native.Nat.{ℕ, zero, suc, _+_, _-_, _/_, _^_, _≤_, _<_, max, min}
+use native.Mathlib.Nat.{sub-zero}
+use native.Mathlib.Omega.{arith}
+use mathlib.Core.Path.{_≡_, refl, sym, ap, _∙_}
+use mathlib.Core.Bool.{Bool, true, false, not, _&&_, _||_}
+use lib.Bits.{bitAnd, bitOr, or-lt}
+use lib.Dec.{eqb}
+use lib.Pow.{ones-split, high, ones-lt, pow-pos}
+use Rattle.column.specs.Column.{bit}
+use Rattle.column.proofs.Bits.{bit-le, bit-or, bit-and, bit-not, bit-none}
+use Rattle.runs.specs.Touch.{Mark, present, absent, untouched, Side, last, first}
+use Rattle.runs.specs.Rows as rows
+use Rattle.runs.specs.Rows.{columnNumber, joinRow, touchRow}
+use Rattle.row.specs.Words.{allFacts, startRow, notWord, stepRow, joinRows, orRows, liveRow, isSet, bitRow}
+use Rattle.row.specs.declared.words.Row.{Row}
+use Rattle.runs.proofs.Rows.{by-column}
+
+pub all-facts : (f : ℕ) → f ≤ 64 → (2 ^ 64 - 1) / 2 ^ (64 - f) ≡ 2 ^ f - 1
+all-facts f l =
+    let n : 64 ≡ f + (64 - f) = omega arith in
+    ap (λ (k : ℕ). (2 ^ k - 1) / 2 ^ (64 - f)) n
+    ∙ ap (λ (k : ℕ). k / 2 ^ (64 - f)) (ones-split f (64 - f))
+    ∙ high (2 ^ f - 1) (64 - f) (ones-lt (64 - f))
+
+-- ---- one bit of an operation
+
+set-max : (x y : ℕ) → x ≤ 1 → y ≤ 1 → eqb (max x y) 1 ≡ (eqb x 1 || eqb y 1)
+set-max zero zero l u = refl
+set-max zero (suc zero) l u = refl
+set-max (suc zero) zero l u = refl
+set-max (suc zero) (suc zero) l u = refl
+set-max zero (suc (suc y)) l u = absurd (omega arith)
+set-max (suc zero) (suc (suc y)) l u = absurd (omega arith)
+set-max (suc (suc x)) y l u = absurd (omega arith)
+
+set-min : (x y : ℕ) → x ≤ 1 → y ≤ 1 → eqb (min x y) 1 ≡ (eqb x 1 && eqb y 1)
+set-min zero zero l u = refl
+set-min zero (suc zero) l u = refl
+set-min (suc zero) zero l u = refl
+set-min (suc zero) (suc zero) l u = refl
+set-min zero (suc (suc y)) l u = absurd (omega arith)
+set-min (suc zero) (suc (suc y)) l u = absurd (omega arith)
+set-min (suc (suc x)) y l u = absurd (omega arith)
+
+set-other : (x : ℕ) → x ≤ 1 → eqb (1 - x) 1 ≡ not (eqb x 1)
+set-other zero l = refl
+set-other (suc zero) l = refl
+set-other (suc (suc x)) l = absurd (omega arith)
+
+pub or-set : (a b f : ℕ) → isSet (bitOr a b) f ≡ (isSet a f || isSet b f)
+or-set a b f = ap (λ (n : ℕ). eqb n 1) (bit-or a b f) ∙ set-max (bit a f) (bit b f) (bit-le a f) (bit-le b f)
+
+pub and-set : (a b f : ℕ) → isSet (bitAnd a b) f ≡ (isSet a f && isSet b f)
+and-set a b f = ap (λ (n : ℕ). eqb n 1) (bit-and a b f) ∙ set-min (bit a f) (bit b f) (bit-le a f) (bit-le b f)
+
+pub not-set : (a f : ℕ) → a < 2 ^ 64 → f < 64 → isSet (notWord a) f ≡ not (isSet a f)
+not-set a f l u = ap (λ (n : ℕ). eqb n 1) (bit-not 64 a f l u) ∙ set-other (bit a f) (bit-le a f)
+
+pub none-set : (f : ℕ) → isSet 0 f ≡ false
+none-set f = ap (λ (n : ℕ). eqb n 1) (bit-none f)
+
+-- ---- rows, bit by bit
+
+-- what either row has
+pub or-bits : (x y : Row) (f j : ℕ) → j < 8 → bitRow (orRows x y) f j ≡ (bitRow x f j || bitRow y f j)
+or-bits x y f =
+    by-column (λ (j : ℕ). bitRow (orRows x y) f j ≡ (bitRow x f j || bitRow y f j)) (or-set (x .run) (y .run) f) (or-set (x .empty) (y .empty) f) side
+  where
+    side : (s : Side) (m : Mark) → bitRow (orRows x y) f (columnNumber s m) ≡ (bitRow x f (columnNumber s m) || bitRow y f (columnNumber s m))
+    side last present = or-set (x .last .present) (y .last .present) f
+    side last absent = or-set (x .last .absent) (y .last .absent) f
+    side last untouched = or-set (x .last .untouched) (y .last .untouched) f
+    side first present = or-set (x .first .present) (y .first .present) f
+    side first absent = or-set (x .first .absent) (y .first .absent) f
+    side first untouched = or-set (x .first .untouched) (y .first .untouched) f
+
+-- the row where it has a run
+pub live-bits : (x : Row) (f j : ℕ) → j < 8 → bitRow (liveRow x) f j ≡ (bitRow x f 0 && bitRow x f j)
+live-bits x f =
+    by-column (λ (j : ℕ). bitRow (liveRow x) f j ≡ (bitRow x f 0 && bitRow x f j)) (and-set (x .run) (x .run) f) (and-set (x .run) (x .empty) f) side
+  where
+    side : (s : Side) (m : Mark) → bitRow (liveRow x) f (columnNumber s m) ≡ (bitRow x f 0 && bitRow x f (columnNumber s m))
+    side last present = and-set (x .run) (x .last .present) f
+    side last absent = and-set (x .run) (x .last .absent) f
+    side last untouched = and-set (x .run) (x .last .untouched) f
+    side first present = and-set (x .run) (x .first .present) f
+    side first absent = and-set (x .run) (x .first .absent) f
+    side first untouched = and-set (x .run) (x .first .untouched) f
+
+-- one list followed by another
+later-set : (a b c f : ℕ) → isSet (bitOr (bitAnd a b) c) f ≡ (isSet a f && isSet b f || isSet c f)
+later-set a b c f = or-set (bitAnd a b) c f ∙ ap (λ (t : Bool). t || isSet c f) (and-set a b f)
+
+pub join-bits : (x y : Row) (f j : ℕ) → j < 8 → bitRow (joinRows x y) f j ≡ joinRow (bitRow x f) (bitRow y f) j
+join-bits x y f =
+    by-column (λ (j : ℕ). bitRow (joinRows x y) f j ≡ joinRow (bitRow x f) (bitRow y f) j) (and-set (x .run) (y .run) f)
+    (and-set (x .empty) (y .empty) f) side
+  where
+    side : (s : Side) (m : Mark) → bitRow (joinRows x y) f (columnNumber s m) ≡ joinRow (bitRow x f) (bitRow y f) (columnNumber s m)
+    side last present = later-set (x .last .present) (y .last .untouched) (y .last .present) f
+    side last absent = later-set (x .last .absent) (y .last .untouched) (y .last .absent) f
+    side last untouched = and-set (x .last .untouched) (y .last .untouched) f
+    side first present = later-set (y .first .present) (x .first .untouched) (x .first .present) f
+    side first absent = later-set (y .first .absent) (x .first .untouched) (x .first .absent) f
+    side first untouched = and-set (y .first .untouched) (x .first .untouched) f
+
+-- the facts below F are all set
+pub all-set : (n f : ℕ) → f < n → isSet (allFacts n) f ≡ true
+all-set n f l =
+    ap (λ (k : ℕ). isSet k f) (sym (sub-zero (2 ^ n - 1)))
+    ∙ ap (λ (k : ℕ). eqb k 1) (bit-not n 0 f (pow-pos n) l ∙ ap (λ (k : ℕ). 1 - k) (bit-none f))
+
+-- no entry
+pub start-bits : (n f : ℕ) → f < n → (j : ℕ) → j < 8 → bitRow (startRow (allFacts n)) f j ≡ rows.startRow j
+start-bits n f l =
+    by-column (λ (j : ℕ). bitRow (startRow (allFacts n)) f j ≡ rows.startRow j) (all-set n f l) (all-set n f l) side
+  where
+    side : (s : Side) (m : Mark) → bitRow (startRow (allFacts n)) f (columnNumber s m) ≡ rows.startRow (columnNumber s m)
+    side last present = none-set f
+    side last absent = none-set f
+    side last untouched = all-set n f l
+    side first present = none-set f
+    side first absent = none-set f
+    side first untouched = all-set n f l
+
+-- a step
+module _ (n one other f : ℕ) (l : f < n) (u : n ≤ 64) (a : one < 2 ^ 64) (b : other < 2 ^ 64) where
+  absent-set : isSet (bitAnd other (notWord one)) f ≡ (isSet other f && not (isSet one f))
+  absent-set = and-set other (notWord one) f ∙ ap (λ (t : Bool). isSet other f && t) (not-set one f a (omega arith))
+
+  untouched-set : isSet (bitAnd (allFacts n) (notWord (bitOr one other))) f ≡ not (isSet one f || isSet other f)
+  untouched-set =
+      and-set (allFacts n) (notWord (bitOr one other)) f ∙ ap (λ (t : Bool). t && isSet (notWord (bitOr one other)) f) (all-set n f l)
+      ∙ not-set (bitOr one other) f (or-lt 64 one other a b) (omega arith) ∙ ap not (or-set one other f)
+
+pub step-bits : (n needs sets clears f : ℕ) → f < n → n ≤ 64 → needs < 2 ^ 64 → sets < 2 ^ 64 → clears < 2 ^ 64 → (j : ℕ) → j < 8
+    → bitRow (stepRow (allFacts n) needs sets clears) f j ≡ touchRow (isSet needs f) (isSet sets f) (isSet clears f) j
+step-bits n needs sets clears f l u a b c =
+    by-column (λ (j : ℕ). bitRow (stepRow (allFacts n) needs sets clears) f j ≡ touchRow (isSet needs f) (isSet sets f) (isSet clears f) j)
+    (all-set n f l) (none-set f) side
+  where
+    side : (s : Side) (m : Mark)
+        → bitRow (stepRow (allFacts n) needs sets clears) f (columnNumber s m) ≡ touchRow (isSet needs f) (isSet sets f) (isSet clears f) (columnNumber s m)
+    side last present = refl
+    side last absent = absent-set n sets clears f l u b c
+    side last untouched = untouched-set n sets clears f l u b c
+    side first present = refl
+    side first absent = absent-set n needs sets f l u a b
+    side first untouched = untouched-set n needs sets f l u a b

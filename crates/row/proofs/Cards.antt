@@ -1,0 +1,83 @@
+-- Rows and cards: the seven stores of a card, and the cards written one after the other.
+-- Assumes nothing.
+use Prim.Native.Nat.{ℕ, zero, suc, _+_, _*_, _≤_, _<_}
+use native.Mathlib.Nat.{add-zero, zero-add, suc-add, add-suc}
+use native.Mathlib.Numerals.{add-one}
+use native.Mathlib.Omega.{arith}
+use mathlib.Core.Path.{_≡_, refl, sym, ap, ap₂, _∙_}
+use mathlib.Core.List.{List, [], _∷_, _++_, append-assoc, append-nil}
+use lib.ListN.{length, take, drop, set, length-append, length-drop, drop-of-length-le}
+use lib.Seq.{take-at, drop-at, drop-drop, sets-eq}
+use Rattle.row.specs.Card.{rowCard, rowAt, tableCards}
+
+-- ---- one card
+
+-- seven stores into a part of seven words leave just what was stored
+pub seven-stores : (l : List ℕ) (a b c d e f g : ℕ) → length l ≡ 7
+    → set (set (set (set (set (set (set l 0 a) 1 b) 2 c) 3 d) 4 e) 5 f) 6 g ≡ a ∷ b ∷ c ∷ d ∷ e ∷ f ∷ g ∷ []
+seven-stores l a b c d e f g n =
+    sets-eq (a ∷ b ∷ c ∷ d ∷ e ∷ f ∷ g ∷ []) l 0 (omega arith)
+    ∙ ap (λ (r : List ℕ). a ∷ b ∷ c ∷ d ∷ e ∷ f ∷ g ∷ r) (drop-of-length-le l {i = 7} (omega arith))
+
+-- ---- all cards
+
+length-card : (row : List ℕ) → length (rowCard row) ≡ 7
+unfolding rowCard
+length-card row = refl
+
+length-cards : (table : List ℕ) (c n : ℕ) → length (tableCards table c n) ≡ 7 * n
+unfolding tableCards
+length-cards table c zero = refl
+length-cards table c (suc n) =
+    omega (arith, length-append (rowCard (rowAt table c)) (tableCards table (suc c) n), length-card (rowAt table c), length-cards table (suc c) n)
+
+cards-snoc : (table : List ℕ) (c n : ℕ) → tableCards table c (suc n) ≡ tableCards table c n ++ rowCard (rowAt table (c + n))
+unfolding tableCards
+cards-snoc table c zero = append-nil (rowCard (rowAt table c)) ∙ ap (λ (k : ℕ). rowCard (rowAt table k)) (sym (add-zero c))
+cards-snoc table c (suc n) =
+    ap (λ (r : List ℕ). rowCard (rowAt table c) ++ r) (cards-snoc table (suc c) n)
+    ∙ sym (append-assoc (rowCard (rowAt table c)) (tableCards table (suc c) n) (rowCard (rowAt table (suc c + n))))
+    ∙ ap (λ (k : ℕ). rowCard (rowAt table c) ++ tableCards table (suc c) n ++ rowCard (rowAt table k)) (suc-add c n ∙ sym (add-suc c n))
+
+-- the cards of the sequences below c are written, and the words past them stay
+pub record CardsAt (table area₀ area : List ℕ) (n c : ℕ) : Type 0 where
+  pub within : c ≤ n
+  pub written : area ≡ tableCards table 0 c ++ drop (7 * c) area₀
+
+module _ (table area₀ : List ℕ) (n : ℕ) (room : 7 * n ≤ length area₀) where
+  pub cards-start : CardsAt table area₀ area₀ n 0
+  unfolding tableCards
+  cards-start = record { within = omega arith; written = refl }
+
+  module _ (area : List ℕ) (c : ℕ) (at : CardsAt table area₀ area n c) where
+    done : List ℕ
+    done = tableCards table 0 c
+
+    pub cards-long : length area ≡ length area₀
+    unfolding done
+    cards-long = omega (arith, ap length (at .written), length-append done (drop (7 * c) area₀), length-cards table 0 c, length-drop (7 * c) area₀, at .within)
+
+    -- the next card in its part: the words before the part are the cards so far, and those after it stay
+    pub cards-next : c < n → (j k : ℕ) (part : List ℕ) → j ≡ 8 → k ≡ 7 → part ≡ rowCard (take j (drop (8 * c) table))
+        → CardsAt table area₀ (take (7 * c) area ++ (part ++ drop k (drop (7 * c) area))) n (c + 1)
+    unfolding done
+    cards-next l j k part eight seven new =
+        let before : take (7 * c) area ≡ done = ap (take (7 * c)) (at .written) ∙ take-at done (drop (7 * c) area₀) (7 * c) (length-cards table 0 c) in
+        let here : part ≡ rowCard (rowAt table (0 + c)) =
+        new ∙ ap₂ (λ (i d : ℕ). rowCard (take i (drop (8 * d) table))) eight (sym (zero-add c)) in
+        let seam : 7 * c + 7 ≡ 7 * (c + 1) = omega arith in
+        let past : drop k (drop (7 * c) area) ≡ drop (7 * (c + 1)) area₀ =
+        ap₂ drop seven (ap (drop (7 * c)) (at .written) ∙ drop-at done (drop (7 * c) area₀) (7 * c) (length-cards table 0 c))
+        ∙ drop-drop 7 (7 * c) area₀ ∙ ap (λ (i : ℕ). drop i area₀) seam in
+        record {
+          within = omega arith;
+          written =
+              ap₂ (λ (x y : List ℕ). x ++ y) before (ap₂ (λ (x y : List ℕ). x ++ y) here past)
+              ∙ sym (append-assoc done (rowCard (rowAt table (0 + c))) (drop (7 * (c + 1)) area₀))
+              ∙ ap (λ (x : List ℕ). x ++ drop (7 * (c + 1)) area₀) (sym (cards-snoc table 0 c) ∙ ap (tableCards table 0) (sym (add-one c)));
+        }
+
+    pub cards-end : n ≤ c → area ≡ tableCards table 0 n ++ drop (7 * n) area₀
+    cards-end l =
+        let all : c ≡ n = omega (arith, at .within) in
+        at .written ∙ ap (λ (k : ℕ). tableCards table 0 k ++ drop (7 * k) area₀) all

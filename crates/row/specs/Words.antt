@@ -1,0 +1,146 @@
+-- Rows of the outcome table as words, all facts at once: the formulas of `Rows` on whole columns. Bit f of each word is what `Rows`
+-- says of fact f, which `proofs/` shows.
+use Prim.Native.Nat.{ℕ, _+_, _-_, _*_, _^_}
+use mathlib.Core.Bool.{Bool, _&&_}
+use mathlib.Core.List.{List, [], _∷_}
+use lib.ListN.{getD, set}
+use lib.Bits.{bitAnd, bitOr}
+use lib.Dec.{eqb}
+use Rattle.column.specs.Column.{bit}
+use Rattle.row.specs.declared.words.Marks.{Marks}
+use Rattle.row.specs.declared.words.Row.{Row}
+
+-- all facts below F
+abbrev pub allFacts : ℕ → ℕ
+allFacts facts = 2 ^ facts - 1
+
+abbrev pub noMarks : Marks
+noMarks = record { present = 0; absent = 0; untouched = 0 }
+
+abbrev pub noRow : Row
+noRow = record { run = 0; empty = 0; last = noMarks; first = noMarks }
+
+-- no entry
+abbrev pub startMarks : ℕ → Marks
+startMarks all = record { present = 0; absent = 0; untouched = all }
+
+abbrev pub startRow : ℕ → Row
+startRow all = record { run = all; empty = all; last = startMarks all; first = startMarks all }
+
+-- a step, by what it needs, sets and clears
+abbrev pub notWord : ℕ → ℕ
+notWord a = 2 ^ 64 - 1 - a
+
+abbrev pub stepMarks : ℕ → ℕ → ℕ → Marks
+stepMarks all one other =
+    record { present = one; absent = bitAnd other (notWord one); untouched = bitAnd all (notWord (bitOr one other)) }
+
+abbrev pub stepRow : ℕ → ℕ → ℕ → ℕ → Row
+stepRow all needs sets clears = record { run = all; empty = 0; last = stepMarks all sets clears; first = stepMarks all needs sets }
+
+-- one list followed by another
+abbrev pub laterMarks : Marks → Marks → Marks
+laterMarks x y =
+    record {
+      present = bitOr (bitAnd (x .present) (y .untouched)) (y .present);
+      absent = bitOr (bitAnd (x .absent) (y .untouched)) (y .absent);
+      untouched = bitAnd (x .untouched) (y .untouched);
+    }
+
+abbrev pub joinRows : Row → Row → Row
+joinRows x y =
+    record {
+      run = bitAnd (x .run) (y .run);
+      empty = bitAnd (x .empty) (y .empty);
+      last = laterMarks (x .last) (y .last);
+      first = laterMarks (y .first) (x .first);
+    }
+
+-- what either has
+abbrev pub orMarks : Marks → Marks → Marks
+orMarks x y =
+    record {
+      present = bitOr (x .present) (y .present);
+      absent = bitOr (x .absent) (y .absent);
+      untouched = bitOr (x .untouched) (y .untouched);
+    }
+
+abbrev pub orRows : Row → Row → Row
+orRows x y =
+    record {
+      run = bitOr (x .run) (y .run);
+      empty = bitOr (x .empty) (y .empty);
+      last = orMarks (x .last) (y .last);
+      first = orMarks (x .first) (y .first);
+    }
+
+-- the row where it has a run
+abbrev pub liveMarks : ℕ → Marks → Marks
+liveMarks run x =
+    record {
+      present = bitAnd run (x .present);
+      absent = bitAnd run (x .absent);
+      untouched = bitAnd run (x .untouched);
+    }
+
+abbrev pub liveRow : Row → Row
+liveRow x =
+    record {
+      run = bitAnd (x .run) (x .run);
+      empty = bitAnd (x .run) (x .empty);
+      last = liveMarks (x .run) (x .last);
+      first = liveMarks (x .run) (x .first);
+    }
+
+abbrev pub sameMarks : Marks → Marks → Bool
+sameMarks x y = eqb (x .present) (y .present) && eqb (x .absent) (y .absent) && eqb (x .untouched) (y .untouched)
+
+abbrev pub sameRows : Row → Row → Bool
+sameRows x y =
+    eqb (x .run) (y .run) && eqb (x .empty) (y .empty) && sameMarks (x .last) (y .last) && sameMarks (x .first) (y .first)
+
+-- row c of a table of eight words a row, in the order of the columns
+abbrev pub rowIn : List ℕ → ℕ → Row
+rowIn table c =
+    record {
+      run = getD table (8 * c) 0;
+      empty = getD table (8 * c + 1) 0;
+      last =
+          record {
+            present = getD table (8 * c + 2) 0;
+            absent = getD table (8 * c + 3) 0;
+            untouched = getD table (8 * c + 4) 0;
+          };
+      first =
+          record {
+            present = getD table (8 * c + 5) 0;
+            absent = getD table (8 * c + 6) 0;
+            untouched = getD table (8 * c + 7) 0;
+          };
+    }
+
+-- the table with row c written
+abbrev pub withRow : List ℕ → ℕ → Row → List ℕ
+withRow table c r =
+    set
+    (set
+    (set
+    (set
+    (set (set (set (set table (8 * c) (r .run)) (8 * c + 1) (r .empty)) (8 * c + 2) (r .last .present)) (8 * c + 3) (r .last .absent))
+    (8 * c + 4) (r .last .untouched))
+    (8 * c + 5) (r .first .present))
+    (8 * c + 6) (r .first .absent))
+    (8 * c + 7) (r .first .untouched)
+
+-- the words of a row in the order of the columns
+abbrev pub wordsOf : Row → List ℕ
+wordsOf r =
+    r .run ∷ r .empty ∷ r .last .present ∷ r .last .absent ∷ r .last .untouched ∷ r .first .present ∷ r .first .absent ∷ r .first .untouched ∷ []
+
+-- whether bit f is set
+abbrev pub isSet : ℕ → ℕ → Bool
+isSet n f = eqb (bit n f) 1
+
+-- what a row of words says of fact f
+abbrev pub bitRow : Row → ℕ → ℕ → Bool
+bitRow r f j = isSet (getD (wordsOf r) j 0) f

@@ -1,0 +1,230 @@
+// A row of the outcome table: what is possible of one sequence, or of the entries read so far, for all facts at once. Bit f of each word says
+// it of fact f.
+ghost use mathlib.Core.Path.{_≡_};
+ghost use Prim.Native.Nat.{_+_, _-_, _*_, _≤_};
+ghost use lib.ListN.{length};
+ghost use Rattle.row.specs.Words.{allFacts, noRow, startRow, stepMarks, stepRow, laterMarks, joinRows, orMarks, orRows, liveMarks, liveRow, sameMarks, sameRows, rowIn, withRow};
+
+// The outcomes on one side. On the last side `present` is "sets" and `absent` is "clears"; on the first side `present` is "needs" and
+// `absent` is "sets".
+pub struct Marks {
+    pub present: u64,
+    pub absent: u64,
+    pub untouched: u64,
+}
+
+// A run exists; an empty run exists; the outcomes on the last and on the first side.
+pub struct Row {
+    pub run: u64,
+    pub empty: u64,
+    pub last: Marks,
+    pub first: Marks,
+}
+
+// The column of all facts below `facts`.
+pub fn all_facts(facts: u32) -> u64
+    requires { ⌜ (1 ≤ facts) × (facts ≤ 64) ⌝ }
+    ensures { λ r. ⌜ r ≡ allFacts facts ⌝ }
+{
+    18446744073709551615u64 >> (64 - facts)
+}
+
+// Nothing is possible.
+pub fn none() -> Row
+    ensures { λ r. ⌜ r ≡ noRow ⌝ }
+{
+    Row {
+        run: 0,
+        empty: 0,
+        last: Marks {
+            present: 0,
+            absent: 0,
+            untouched: 0,
+        },
+        first: Marks {
+            present: 0,
+            absent: 0,
+            untouched: 0,
+        },
+    }
+}
+
+// The row of no entry: the empty run.
+pub fn start(all: u64) -> Row
+    ensures { λ r. ⌜ r ≡ startRow all ⌝ }
+{
+    Row {
+        run: all,
+        empty: all,
+        last: Marks {
+            present: 0,
+            absent: 0,
+            untouched: all,
+        },
+        first: Marks {
+            present: 0,
+            absent: 0,
+            untouched: all,
+        },
+    }
+}
+
+// The marks of a step that gives one mark by `one` and, where it does not, the other by `other`.
+fn step_marks(all: u64, one: u64, other: u64) -> Marks
+    ensures { λ r. ⌜ r ≡ stepMarks all one other ⌝ }
+{
+    Marks {
+        present: one,
+        absent: other & !one,
+        untouched: all & !(one | other),
+    }
+}
+
+// The row of a step by what it needs, sets and clears.
+pub fn of_step(all: u64, needs: u64, sets: u64, clears: u64) -> Row
+    ensures { λ r. ⌜ r ≡ stepRow all needs sets clears ⌝ }
+{
+    Row {
+        run: all,
+        empty: 0,
+        last: step_marks(all, sets, clears),
+        first: step_marks(all, needs, sets),
+    }
+}
+
+// The marks of one list followed by another, where the later one's touch decides.
+fn later(x: Marks, y: Marks) -> Marks
+    ensures { λ r. ⌜ r ≡ laterMarks x y ⌝ }
+{
+    Marks {
+        present: (x.present & y.untouched) | y.present,
+        absent: (x.absent & y.untouched) | y.absent,
+        untouched: x.untouched & y.untouched,
+    }
+}
+
+// The row of one list followed by another.
+pub fn joined(x: Row, y: Row) -> Row
+    ensures { λ r. ⌜ r ≡ joinRows x y ⌝ }
+{
+    let x_last = x.last;
+    let y_last = y.last;
+    let x_first = x.first;
+    let y_first = y.first;
+    Row {
+        run: x.run & y.run,
+        empty: x.empty & y.empty,
+        last: later(x_last, y_last),
+        first: later(y_first, x_first),
+    }
+}
+
+fn either(x: Marks, y: Marks) -> Marks
+    ensures { λ r. ⌜ r ≡ orMarks x y ⌝ }
+{
+    Marks {
+        present: x.present | y.present,
+        absent: x.absent | y.absent,
+        untouched: x.untouched | y.untouched,
+    }
+}
+
+// What either row has.
+pub fn united(x: Row, y: Row) -> Row
+    ensures { λ r. ⌜ r ≡ orRows x y ⌝ }
+{
+    let x_last = x.last;
+    let y_last = y.last;
+    let x_first = x.first;
+    let y_first = y.first;
+    Row {
+        run: x.run | y.run,
+        empty: x.empty | y.empty,
+        last: either(x_last, y_last),
+        first: either(x_first, y_first),
+    }
+}
+
+fn live_marks(run: u64, x: Marks) -> Marks
+    ensures { λ r. ⌜ r ≡ liveMarks run x ⌝ }
+{
+    Marks {
+        present: run & x.present,
+        absent: run & x.absent,
+        untouched: run & x.untouched,
+    }
+}
+
+// The row where it has a run, and nothing where it has none.
+pub fn live(x: Row) -> Row
+    ensures { λ r. ⌜ r ≡ liveRow x ⌝ }
+{
+    let run = x.run;
+    let last = x.last;
+    let first = x.first;
+    Row {
+        run: run & run,
+        empty: run & x.empty,
+        last: live_marks(run, last),
+        first: live_marks(run, first),
+    }
+}
+
+fn same_marks(x: Marks, y: Marks) -> bool
+    ensures { λ r. ⌜ r ≡ sameMarks x y ⌝ }
+{
+    (x.present == y.present) & (x.absent == y.absent) & (x.untouched == y.untouched)
+}
+
+// Whether two rows are equal.
+pub fn same(x: Row, y: Row) -> bool
+    ensures { λ r. ⌜ r ≡ sameRows x y ⌝ }
+{
+    let x_last = x.last;
+    let y_last = y.last;
+    let x_first = x.first;
+    let y_first = y.first;
+    let last = same_marks(x_last, y_last);
+    let first = same_marks(x_first, y_first);
+    (x.run == y.run) & (x.empty == y.empty) & last & first
+}
+
+// Row `c` of a table of eight words a row.
+pub fn row_at(table: &[u64], c: usize) -> Row
+    requires { ⌜ 8 * c + 8 ≤ length (now table) ⌝ }
+    ensures { λ r. ⌜ r ≡ rowIn (now (table .entry)) c ⌝ }
+{
+    let at = 8 * c;
+    Row {
+        run: table[at],
+        empty: table[at + 1],
+        last: Marks {
+            present: table[at + 2],
+            absent: table[at + 3],
+            untouched: table[at + 4],
+        },
+        first: Marks {
+            present: table[at + 5],
+            absent: table[at + 6],
+            untouched: table[at + 7],
+        },
+    }
+}
+
+// Writes row `c` of a table.
+pub fn put_row(table: &mut [u64], c: usize, r: Row)
+    requires { ⌜ 8 * c + 8 ≤ length (now table) ⌝ }
+    ensures { λ _. ⌜ now (table .exit) ≡ withRow (now (table .entry)) c r ⌝ }
+{
+    let at = 8 * c;
+    let last = r.last;
+    let first = r.first;
+    table[at] = r.run;
+    table[at + 1] = r.empty;
+    table[at + 2] = last.present;
+    table[at + 3] = last.absent;
+    table[at + 4] = last.untouched;
+    table[at + 5] = first.present;
+    table[at + 6] = first.absent;
+    table[at + 7] = first.untouched;
+}

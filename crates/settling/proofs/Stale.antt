@@ -1,0 +1,54 @@
+-- Visits of stale numbers only, for any table: a visit leaves fresh what does not call the number visited. And what holds at the head of the
+-- loop over an order that passes over those that are not stale.
+-- Assumes nothing.
+use Prim.Native.Nat.{ℕ, _+_, _≤_, _<_}
+use native.Mathlib.Omega.{arith}
+use native.Mathlib.Decide.{ℕ-discrete}
+use mathlib.Core.Path.{_≡_, refl, sym, ap, _∙_, subst}
+use mathlib.Core.Bool.{Bool, true, false}
+use mathlib.Core.List.{List}
+use lib.ListN.{length, getD}
+use borrow.Author.Count.{below-more}
+use Rattle.settling.specs.Passes.{Visit, placeOf}
+use Rattle.settling.specs.Stale.{Fresh}
+use Rattle.settling.proofs.Visits.{Sweeping}
+
+-- what the laws ask of a visit: one that changes nothing still changes nothing after a visit of a number that it does not call, and neither
+-- does a second visit of a number that does not call itself
+pub record Local (visit : List ℕ → ℕ → List ℕ) (calls : ℕ → ℕ → Bool) (n room : ℕ) : Type 0 where
+  pub stays : (t : List ℕ) (c d : ℕ) → c < n → d < n → room ≤ length t → calls d c ≡ false → visit t d ≡ t → visit (visit t c) d ≡ visit t c
+  pub again : (t : List ℕ) (c : ℕ) → c < n → room ≤ length t → calls c c ≡ false → visit (visit t c) c ≡ visit t c
+
+module _ {visit : List ℕ → ℕ → List ℕ} {weight : List ℕ → ℕ} {n room : ℕ} {calls : ℕ → ℕ → Bool} (local : Local visit calls n room) where
+  -- after a visit of number c the others that are not stale were so before, and where it changed something none of them calls c
+  pub fresh-turn : (t : List ℕ) (c : ℕ) (t′ : List ℕ) (b : Bool) (stale stale′ : ℕ → Bool) → room ≤ length t → c < n → Fresh visit n stale t → Visit visit weight t c t′ b
+      → ((d : ℕ) → d < n → stale′ d ≡ false → ((d ≡ c → ⊥) → stale d ≡ false) × (b ≡ true → calls d c ≡ false)) → Fresh visit n stale′ t′
+  fresh-turn t c t′ true stale stale′ room low fresh v after d l e =
+      let apart = after d l e .1 refl in
+      rw (v .done)
+      (elim (ℕ-discrete d c) [
+        | yes same ↦ subst (λ (k : ℕ). visit (visit t c) k ≡ visit t c) (sym same) (local .again t c low room (subst (λ (k : ℕ). calls k c ≡ false) same apart))
+        | no other ↦ local .stays t c d low l room apart (fresh d l (after d l e .0 other))
+      ])
+  fresh-turn t c t′ false stale stale′ room low fresh v after d l e =
+      let same = v .stays refl in
+      rw same
+      (elim (ℕ-discrete d c) [
+        | yes here ↦ subst (λ (k : ℕ). visit t k ≡ t) (sym here) (sym (v .done) ∙ same)
+        | no other ↦ fresh d l (after d l e .0 other)
+      ])
+
+module _ {visit : List ℕ → ℕ → List ℕ} {weight : List ℕ → ℕ} {n : ℕ} where
+  -- a number whose visit would change nothing is passed over
+  pub sweeping-fresh : (order : List ℕ) (forward : Bool) (t₀ t : List ℕ) (changed : Bool) (i c : ℕ) → i < length order
+      → c ≡ getD order (placeOf forward (length order) i) 0 → visit t c ≡ t → Sweeping visit weight n order forward t₀ t changed i
+      → Sweeping visit weight n order forward t₀ t changed (i + 1)
+  sweeping-fresh order forward t₀ t changed i c l e still p =
+      record {
+        within = omega arith;
+        reached = p .reached;
+        falls = p .falls;
+        settled = λ q.
+            below-more (λ (k : ℕ). getD order (placeOf forward (length order) k) 0 < n → visit t (getD order (placeOf forward (length order) k) 0) ≡ t) i
+            (p .settled q) (λ small. ap (visit t) (sym e) ∙ still);
+      }

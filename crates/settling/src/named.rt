@@ -1,0 +1,76 @@
+// Orders of visits: whether an order names every number, which is tested at run time, and the turns in it and against it.
+ghost use mathlib.Core.Path.{_≡_};
+ghost use mathlib.Core.Bool.{true, false};
+ghost use Prim.Native.Nat.{_+_, _≤_, _<_};
+ghost use lib.ListN.{length, set};
+ghost use Rattle.settling.specs.Passes.{Complete, Marked, AllMarked, InTurn, placeOf, Blank};
+
+// Marks number `c` where it has a mark.
+fn mark_one(seen: &mut [u32], c: usize)
+    ensures { λ _. ⌜ now (seen .exit) ≡ set (now (seen .entry)) c 1 ⌝ }
+{
+    if c < seen.len() {
+        seen[c] = 1;
+    }
+}
+
+// Marks each number that `order` names.
+fn mark(order: &[usize], seen: &mut [u32])
+    requires { ⌜ Blank (now seen) ⌝ }
+    ensures { λ _. ⌜ Marked (now (order .entry)) (now (seen .exit)) ⌝ }
+{
+    let mut i = 0;
+    while i < order.len() {
+        mark_one(seen, order[i]);
+        i += 1;
+    }
+}
+
+// Whether each number below `n` is marked.
+fn all_marked(seen: &[u32], n: usize) -> bool
+    ensures { λ r. ⌜ (r ≡ true → AllMarked (now (seen .entry)) n) ⌝ }
+{
+    if seen.len() < n {
+        return false;
+    }
+    let mut c = 0;
+    while c < n {
+        if seen[c] != 1 {
+            return false;
+        }
+        c += 1;
+    }
+    true
+}
+
+// Whether `order` names each number below `n`.
+pub fn complete(order: &[usize], n: usize) -> bool
+    ensures { λ r. ⌜ (r ≡ true → Complete (now (order .entry)) n) ⌝ }
+{
+    let mut seen = [0u32; 256];
+    mark(order, &mut seen);
+    all_marked(&seen, n)
+}
+
+// Names the numbers below `n` in turn.
+pub fn write_numbers(order: &mut [usize], n: usize)
+    requires { ⌜ n ≤ length (now order) ⌝ }
+    ensures { λ _. ⌜ InTurn (now (order .exit)) n ⌝ }
+{
+    let mut c = 0;
+    while c < n {
+        order[c] = c;
+        c += 1;
+    }
+}
+
+// The place in an order of `len` numbers that comes at turn `i`: first to last, or last to first.
+pub fn place_of(forward: bool, len: usize, i: usize) -> usize
+    requires { ⌜ i < len ⌝ }
+    ensures { λ r. ⌜ (r ≡ placeOf forward len i) × (r < len) ⌝ }
+{
+    if forward {
+        return i;
+    }
+    len - 1 - i
+}
