@@ -1,0 +1,170 @@
+/*
+ * The words of document 01 for tests: kinds, the fields of the head and of a
+ * link, the sum word, and an image that is written word by word. What builds
+ * images and what reads them takes the format from here, and nothing from the
+ * library. C11 and C++17.
+ */
+#ifndef DULIMOVEN_TESTS_IMAGE_H
+#define DULIMOVEN_TESTS_IMAGE_H
+
+#include <stddef.h>
+#include <stdint.h>
+
+/* Bounds of an image's length, and of what its head counts. */
+enum {
+    LEAST_WORDS = 2,
+    MOST_WORDS = 8192,
+    LEAST_FACTS = 1,
+    MOST_FACTS = 64,
+    MOST_STEPS = 1024,
+    MOST_SEQUENCES = 256
+};
+
+/* Bits 31 to 28 of a word are its kind, the low 28 bits its payload. */
+enum {
+    PAYLOAD_BITS = 28,
+    KIND_HEAD = 1,
+    KIND_NEEDS = 2,
+    KIND_SETS = 3,
+    KIND_CLEARS = 4,
+    KIND_STEP = 5,
+    KIND_SEQUENCE = 6,
+    KIND_ALTERNATIVE = 7,
+    KIND_STEP_ENTRY = 8,
+    KIND_SEQUENCE_ENTRY = 9,
+    KIND_CHOICE = 10,
+    KIND_POSITION = 11,
+    KIND_UNTOUCHED = 12,
+    KIND_SUM = 15
+};
+
+static inline uint32_t word_of(uint32_t kind, uint32_t payload)
+{
+    return kind << PAYLOAD_BITS | payload;
+}
+
+static inline uint32_t kind_of(uint32_t word)
+{
+    return word >> PAYLOAD_BITS;
+}
+
+static inline uint32_t payload_of(uint32_t word)
+{
+    return word & ((UINT32_C(1) << PAYLOAD_BITS) - 1);
+}
+
+/* A word that says what a step needs, sets or clears. */
+static inline int is_fact(uint32_t word)
+{
+    return kind_of(word) >= KIND_NEEDS && kind_of(word) <= KIND_CLEARS;
+}
+
+static inline int is_entry(uint32_t word)
+{
+    return kind_of(word) == KIND_STEP_ENTRY ||
+           kind_of(word) == KIND_SEQUENCE_ENTRY;
+}
+
+/* The low `bits` bits of a word from bit `from` on. */
+static inline uint32_t field_of(uint32_t word, unsigned from, unsigned bits)
+{
+    return word >> from & ((UINT32_C(1) << bits) - 1);
+}
+
+/*
+ * The head: bits 0 to 6 hold F, the number of facts, bits 7 to 17 hold A,
+ * steps, bits 18 to 26 hold C, sequences. Bit 27 is zero.
+ */
+enum {
+    HEAD_FACTS = 0,
+    HEAD_FACTS_BITS = 7,
+    HEAD_STEPS = HEAD_FACTS + HEAD_FACTS_BITS,
+    HEAD_STEPS_BITS = 11,
+    HEAD_SEQUENCES = HEAD_STEPS + HEAD_STEPS_BITS,
+    HEAD_SEQUENCES_BITS = 9
+};
+
+static inline uint32_t head_word(uint32_t facts, uint32_t steps,
+                                 uint32_t sequences)
+{
+    return word_of(KIND_HEAD, facts << HEAD_FACTS | steps << HEAD_STEPS |
+                                  sequences << HEAD_SEQUENCES);
+}
+
+static inline uint32_t facts_of(uint32_t head)
+{
+    return field_of(head, HEAD_FACTS, HEAD_FACTS_BITS);
+}
+
+static inline uint32_t steps_of(uint32_t head)
+{
+    return field_of(head, HEAD_STEPS, HEAD_STEPS_BITS);
+}
+
+static inline uint32_t sequences_of(uint32_t head)
+{
+    return field_of(head, HEAD_SEQUENCES, HEAD_SEQUENCES_BITS);
+}
+
+/*
+ * The sum word after these words: s is their sum with wrap at 2^32, the payload
+ * (s + s / 2^28) mod 2^28.
+ */
+static inline uint32_t sum_word_after(const uint32_t *words, size_t count)
+{
+    uint32_t s = 0;
+    size_t i;
+    for (i = 0; i < count; i++)
+        s += words[i];
+    return word_of(KIND_SUM, payload_of(s + (s >> PAYLOAD_BITS)));
+}
+
+/*
+ * The first word of a link: bits 0 to 7 hold the sequence, bits 8 to 20 the
+ * alternative. The second is of kind 11 with a position, or of kind 12 with 0.
+ */
+enum {
+    CHOICE_SEQUENCE = 0,
+    CHOICE_SEQUENCE_BITS = 8,
+    CHOICE_ALTERNATIVE = CHOICE_SEQUENCE + CHOICE_SEQUENCE_BITS,
+    CHOICE_ALTERNATIVE_BITS = 13
+};
+
+static inline uint32_t choice_word(uint32_t sequence, uint32_t alternative)
+{
+    return word_of(KIND_CHOICE, sequence << CHOICE_SEQUENCE |
+                                    alternative << CHOICE_ALTERNATIVE);
+}
+
+static inline uint32_t chosen_alternative(uint32_t choice)
+{
+    return field_of(choice, CHOICE_ALTERNATIVE, CHOICE_ALTERNATIVE_BITS);
+}
+
+/* An image that is written word by word. */
+struct image {
+    size_t length;
+    uint32_t words[MOST_WORDS];
+};
+
+static inline void image_put(struct image *image, uint32_t kind,
+                             uint32_t payload)
+{
+    if (image->length < MOST_WORDS)
+        image->words[image->length++] = word_of(kind, payload);
+}
+
+static inline void image_begin(struct image *image, uint32_t facts,
+                               uint32_t steps, uint32_t sequences)
+{
+    image->length = 1;
+    image->words[0] = head_word(facts, steps, sequences);
+}
+
+static inline void image_end(struct image *image)
+{
+    uint32_t sum = sum_word_after(image->words, image->length);
+    image_put(image, KIND_SUM, payload_of(sum));
+}
+
+#endif
