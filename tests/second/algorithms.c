@@ -76,7 +76,7 @@ static void begin_domain(const struct domain *d, struct domain *made)
     made->methods = made->tasks = 0;
 }
 
-/* M' = M' u {(c, tn)}, where tn are the tasks of d from i up to j. */
+/* Adds the method (c, tn) to M', where tn are the tasks of d from i up to j. */
 static void add_method(const struct domain *d, uint32_t c, uint32_t i,
                        uint32_t j, struct domain *made)
 {
@@ -153,9 +153,9 @@ static void read_calls(const struct domain *d, struct compounds *calls)
 }
 
 /*
- * DECOMPOSITIONREACHABILITY: M_R(c) = {m | m = (c, tn)} u {m = (c', tn) |
- * there is tn' with <c> -> tn' and c' in tn'}. It is kept as the set of the
- * compound tasks whose methods these are: c, and each c'.
+ * DECOMPOSITIONREACHABILITY: M_R(c) has each m = (c, tn), and each
+ * m = (c', tn) where there is tn' with <c> -> tn' and c' in tn'. It is kept as
+ * the set of the compound tasks whose methods these are: c, and each c'.
  */
 static void decomposition_reachability(const struct domain *d,
                                        struct compounds *m_r)
@@ -178,8 +178,8 @@ static void decomposition_reachability(const struct domain *d,
 }
 
 /*
- * The compound tasks with a method in whose task network an action does it:
- * there is (c', <t_1 .. t_n>) in M_R(c) with such a t_i where M_R(c) meets them.
+ * The compound tasks with a method in whose task network an action does it.
+ * There is (c', <t_1 .. t_n>) in M_R(c) with such a t_i where M_R(c) has one.
  */
 static struct compounds doing(const struct domain *d, const struct actions *a,
                               unsigned it)

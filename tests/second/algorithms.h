@@ -12,8 +12,8 @@
 void empty_refinements(const struct domain *d, struct compounds *c_eps);
 
 /*
- * The domain with the actions alone that do something of `keep`: "M' is
- * obtained from M by restricting the task networks to tasks from A' u C".
+ * The domain D' whose actions A' are those that do something of `keep`; M' is
+ * M with the task networks restricted to tasks from A' and C.
  */
 void restrict_to(const struct domain *d, const struct actions *a,
                  unsigned keep, struct domain *restricted);

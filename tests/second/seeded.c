@@ -66,18 +66,18 @@ static const struct kind kinds[SEEDED_KINDS] = {
      {1, 0}, {3, 0}, {500, 0}, {16, 0}, {1, 30}, ANY},
     {"one fact", {1, 0}, {1, 5}, {1, 4}, {12, 0},
      {0, 0}, {2, 0}, {3, 0}, {8, 0}, {24, 0}, ANY},
-    {"64 facts", {64, 0}, {1, 5}, {1, 4}, {12, 0},
+    {"most facts", {MOST_FACTS, 0}, {1, 5}, {1, 4}, {12, 0},
      {0, 0}, {2, 0}, {3, 0}, {8, 0}, {24, 0}, ANY},
     {"ties", {1, 2}, {1, 4}, {1, 3}, {30, 20},
      {1, 0}, {2, 0}, {3, 0}, {8, 0}, {24, 0}, ANY},
-    {"large", {4, 0}, {64, 64}, {256, 0}, {1, 0},
+    {"large", {4, 0}, {64, 64}, {MOST_SEQUENCES, 0}, {1, 0},
      {0, 0}, {4, 0}, {10, 0}, {4, 0}, {20, 0}, ANY},
     {"very deep, calling the next", {2, 0}, {12, 0}, {205, 51}, {0, 0},
      {1, 0}, {1, 0}, {4, 0}, {1, 0}, {63, 0}, NEXT},
     {"very deep, calling the one before", {2, 0}, {12, 0}, {205, 51}, {0, 0},
      {1, 0}, {1, 0}, {4, 0}, {1, 0}, {63, 0}, BEFORE},
-    {"large, 64 facts", {64, 0}, {64, 64}, {256, 0}, {1, 0},
-     {0, 0}, {4, 0}, {10, 0}, {4, 0}, {20, 0}, ANY}};
+    {"large, most facts", {MOST_FACTS, 0}, {64, 64}, {MOST_SEQUENCES, 0},
+     {1, 0}, {0, 0}, {4, 0}, {10, 0}, {4, 0}, {20, 0}, ANY}};
 
 const char *seeded_name(unsigned kind) { return kinds[kind].name; }
 
@@ -105,10 +105,10 @@ static struct shape draw_shape(struct seed *seed, const struct kind *k)
 }
 
 /*
- * The steps' part ends within 3,000 words, their openers aside, and the
- * sequences' part leaves room for its openers and the sum word.
+ * Fact words stand among the first 3,000 words, and alternatives and entries
+ * where every opener and the sum word still have room after them.
  */
-enum { STEPS_END = 3000, ROOM_END = MOST_WORDS - MOST_SEQUENCES - 44 };
+enum { FACTS_END = 3000, ROOM_END = MOST_WORDS - MOST_SEQUENCES - 1 };
 
 static int room(const struct image *image)
 {
@@ -123,7 +123,7 @@ static void put_facts(struct seed *seed, const struct shape *s, uint32_t a,
     uint32_t kind, f;
     for (kind = KIND_NEEDS; kind <= KIND_CLEARS; kind++)
         for (f = 0; f < s->facts; f++)
-            if (chance(seed, of) && image->length <= STEPS_END)
+            if (chance(seed, of) && image->length < FACTS_END)
                 image_put(image, kind, f);
 }
 

@@ -11,7 +11,8 @@
  * Small and large libraries; such as call themselves, each other, the next
  * sequence or the one before; endless and deep ones; with many empty
  * alternatives, or with alternatives of hundreds of entries; with one fact and
- * with 64; with steps that set and clear, or need and set, the same fact.
+ * with as many as there can be; with steps that set and clear, or need and set,
+ * the same fact.
  */
 enum { SEEDED_KINDS = 15 };
 
