@@ -24,14 +24,15 @@
  * Tried: the engine was broken on a copy, compiled without its proofs and
  * linked with this test. Each break was reported, first by the words after it.
  *   runs, an alternative counts where one of two entries has a run
- *     (`x.run | y.run`): word 0 of a card, 1 for 0
+ *     (`x.run | y.run`): word 1 of a card, 1 for 0
  *   runs, a touch counts though a later entry always touches
- *     (`x.present & x.present`): word 2 of a card, 6 for 2
+ *     (`x.present & x.present`): word 3 of a card, 6 for 2
  *   outcome, callers are stale where a visit changed nothing, and not where it
- *     did (`if !changed`): word 0 of a card, 1 for 101
+ *     did (`if !changed`): word 1 of a card, 1 for 101
  *   card_words, a run may leave an always set fact untouched
- *     (`union(rival, rival)`): word 1 of a card, 1 for 0
- *   card_words, a card too many is written (`c <= n`): word 0 past the cards
+ *     (`union(rival, rival)`): word 2 of a card, 1 for 0
+ *   card_words, a card too many is written (`c <= n`): word 1 of a card past
+ *     the last
  *   link, a link with one link more after it is taken (`t.rank <= k + 1`): a
  *     link's entry is no step with the touch, or no sequence
  *   link, a link is taken though a later entry touches (`quiet <= next` left
@@ -152,7 +153,7 @@ static void word_differs(size_t i, uint64_t word, uint64_t second)
     if (printed_too())
         printf("%s, word %zu of sequence %zu's card: %" PRIx64
                ", and %" PRIx64 " by the second engine\n",
-               library_name, i % DULIMOVEN_CARD_WORDS,
+               library_name, i % DULIMOVEN_CARD_WORDS + 1,
                i / DULIMOVEN_CARD_WORDS, word, second);
 }
 
