@@ -134,23 +134,25 @@ static void begin_library(void)
     alarm(LIMIT_SECONDS);
 }
 
-/* Counts a difference; a dozen are printed. */
-static int printed_too(void)
+/* Counts a difference, and says whether it is one of the dozen printed. */
+static int is_printed(void)
 {
-    static unsigned printed;
+    enum { MOST_PRINTED = 12 };
+    static uint64_t all;
     tally.differences++;
-    return printed < 12 && ++printed;
+    all++;
+    return all <= MOST_PRINTED;
 }
 
 static void differs(const char *what)
 {
-    if (printed_too())
+    if (is_printed())
         printf("%s: %s\n", library_name, what);
 }
 
 static void word_differs(size_t i, uint64_t word, uint64_t second)
 {
-    if (printed_too())
+    if (is_printed())
         printf("%s, word %zu of sequence %zu's card: %" PRIx64
                ", and %" PRIx64 " by the second engine\n",
                library_name, i % DULIMOVEN_CARD_WORDS + 1,
@@ -160,7 +162,7 @@ static void word_differs(size_t i, uint64_t word, uint64_t second)
 static void chain_differs(uint32_t sequence, uint32_t question, uint32_t fact,
                           const char *what)
 {
-    if (printed_too())
+    if (is_printed())
         printf("%s, sequence %" PRIu32 ", question %" PRIu32 ", fact %" PRIu32
                ": %s\n",
                library_name, sequence, question, fact, what);
