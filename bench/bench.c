@@ -7,24 +7,19 @@
  */
 #define _POSIX_C_SOURCE 199309L
 #include "bench.h"
-#include "dulimoven.h"
 #include <inttypes.h>
 #include <stdio.h>
 #include <stdlib.h>
 #include <string.h>
 #include <time.h>
 
-/* As the header declares it, where it does. */
-#ifndef DULIMOVEN_CHAIN
-chain_call dulimoven_chain;
-#endif
-
 enum { ENGINES = 4, MOST_SAMPLES = 301 };
 enum { LIBRARY, PAPER, PLAIN, TUNED };
 
-static check_call *const checks[ENGINES] = {dulimoven_check, NULL, plain_check,
-                                            tuned_check};
-static cards_call *const cards[ENGINES] = {dulimoven_cards, paper_cards,
+/* The second engine checks by plain rules, and fills cards by the paper. */
+static check_call *const checks[ENGINES] = {dulimoven_check, NULL,
+                                            second_check, tuned_check};
+static cards_call *const cards[ENGINES] = {dulimoven_cards, second_cards,
                                            plain_cards, tuned_cards};
 static chain_call *const chains[ENGINES] = {dulimoven_chain, NULL, plain_chain,
                                             tuned_chain};

@@ -1,22 +1,17 @@
 /*
  * What the benchmark's files share: the shapes, and the engines that are
  * measured beside the library. All engines have the library's calls, so that
- * each can be called in another's place.
+ * each can be called in another's place. The second engine is that of the
+ * tests.
  */
 #ifndef BENCH_H
 #define BENCH_H
 
-#include <stddef.h>
-#include <stdint.h>
+#include "../tests/image.h"
+#include "../tests/second/second.h"
+#include "dulimoven.h"
 
-enum { MOST_WORDS = 8192, MOST_STEPS = 1024, MOST_SEQUENCES = 256 };
-enum { CARD = 7, SHAPES = 11, GROWTH = 6 };
-
-static inline uint32_t kind(uint32_t w) { return w >> 28; }
-static inline uint32_t payload(uint32_t w) { return w & 0xfffffffu; }
-static inline uint32_t facts_of(uint32_t head) { return head & 127u; }
-static inline uint32_t steps_of(uint32_t head) { return head >> 7 & 2047u; }
-static inline uint32_t sequences_of(uint32_t head) { return head >> 18 & 511u; }
+enum { CARD = DULIMOVEN_CARD_WORDS, SHAPES = 11, GROWTH = 6 };
 
 /* An image of the generator. */
 struct shape {
@@ -37,8 +32,7 @@ typedef uint64_t chain_call(const uint32_t *image, size_t image_len,
                             uint64_t sequence, uint64_t question, uint64_t fact,
                             uint32_t *area, size_t area_len);
 
-cards_call paper_cards;
-check_call plain_check, tuned_check;
+check_call tuned_check;
 cards_call plain_cards, tuned_cards;
 chain_call plain_chain, tuned_chain;
 

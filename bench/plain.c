@@ -1,78 +1,12 @@
 /*
  * The second baseline: columns of 64 facts, and plain passes over all sequences
- * in the order of their numbers until nothing changes.
+ * in the order of their numbers until nothing changes. The check is the second
+ * engine's, one word after the other.
  */
 #include "bench.h"
 #include <string.h>
 
-static uint64_t refusal(uint64_t n, size_t position) { return n << 32 | position; }
-
-uint64_t plain_check(const uint32_t *image, size_t length)
-{
-    uint32_t s = 0, head, facts, steps, sequences, a = 0, c = 0, last;
-    size_t i;
-    if (length < 2 || length > MOST_WORDS)
-        return refusal(1, 0);
-    for (i = 0; i + 1 < length; i++)
-        s += image[i];
-    if (image[length - 1] != (0xf0000000u | ((s + (s >> 28)) & 0xfffffffu)))
-        return refusal(2, length - 1);
-    head = image[0];
-    facts = facts_of(head);
-    steps = steps_of(head);
-    sequences = sequences_of(head);
-    if (kind(head) != 1 || facts < 1 || facts > 64 || steps > MOST_STEPS ||
-        sequences > MOST_SEQUENCES || (head >> 27 & 1u))
-        return refusal(3, 0);
-    last = head;
-    for (i = 1; i + 1 < length; i++) {
-        uint32_t w = image[i], k = kind(w), p = payload(w), l = kind(last);
-        int stands, right;
-        switch (k) {
-        case 2:
-        case 3:
-        case 4:
-            stands = l >= 2 && l <= 5;
-            right = p < facts;
-            break;
-        case 5:
-            stands = c == 0;
-            right = p == a && p < steps;
-            break;
-        case 6:
-            stands = a >= steps;
-            right = p == c && p < sequences;
-            break;
-        case 7:
-            stands = c > 0;
-            right = p == 0;
-            break;
-        case 8:
-            stands = l >= 7 && l <= 9;
-            right = p < steps;
-            break;
-        case 9:
-            stands = l >= 7 && l <= 9;
-            right = p < sequences;
-            break;
-        default:
-            stands = 0;
-            right = 0;
-        }
-        if (!stands)
-            return refusal(4, i);
-        if (!right)
-            return refusal(5, i);
-        if (k <= 4 && l <= 4 && w <= last)
-            return refusal(6, i);
-        a += k == 5;
-        c += k == 6;
-        last = w;
-    }
-    if (a < steps || c < sequences)
-        return refusal(7, length - 1);
-    return payload(head);
-}
+static uint64_t refusal(uint64_t n) { return n << 32; }
 
 /* What is possible: on the last side sets, clears and untouched, on the first
  * side needs, sets and untouched. */
@@ -95,22 +29,22 @@ static void read_library(const uint32_t *image, size_t length)
     lib.all = ~UINT64_C(0) >> (64 - facts_of(image[0]));
     lib.sequences = sequences_of(image[0]);
     for (i = 1; i + 1 < length; i++) {
-        uint32_t p = payload(image[i]);
-        switch (kind(image[i])) {
-        case 2:
+        uint32_t p = payload_of(image[i]);
+        switch (kind_of(image[i])) {
+        case KIND_NEEDS:
             lib.needs[a] |= UINT64_C(1) << p;
             break;
-        case 3:
+        case KIND_SETS:
             lib.sets[a] |= UINT64_C(1) << p;
             break;
-        case 4:
+        case KIND_CLEARS:
             lib.clears[a] |= UINT64_C(1) << p;
             break;
-        case 5:
+        case KIND_STEP:
             a = p;
             lib.needs[a] = lib.sets[a] = lib.clears[a] = 0;
             break;
-        case 6:
+        case KIND_SEQUENCE:
             lib.place[p] = i + 1;
             break;
         }
@@ -129,11 +63,12 @@ static struct row step_row(uint32_t a)
 static struct row look(const uint32_t *image, size_t i)
 {
     struct row sum = {0, 0, {0, 0, 0}, {0, 0, 0}};
-    while (kind(image[i]) == 7) {
+    while (kind_of(image[i]) == KIND_ALTERNATIVE) {
         struct row x = {lib.all, lib.all, {0, 0, lib.all}, {0, 0, lib.all}};
-        for (i++; kind(image[i]) == 8 || kind(image[i]) == 9; i++) {
-            uint32_t p = payload(image[i]);
-            struct row y = kind(image[i]) == 8 ? step_row(p) : lib.table[p];
+        for (i++; is_entry(image[i]); i++) {
+            uint32_t p = payload_of(image[i]);
+            struct row y = kind_of(image[i]) == KIND_STEP_ENTRY ? step_row(p)
+                                                               : lib.table[p];
             x.run &= y.run;
             x.empty &= y.empty;
             x.last[0] = (x.last[0] & y.last[2]) | y.last[0];
@@ -175,12 +110,12 @@ static void fill_table(const uint32_t *image)
 uint64_t plain_cards(const uint32_t *image, size_t length, uint64_t *area,
                      size_t area_length)
 {
-    uint64_t answer = plain_check(image, length);
+    uint64_t answer = second_check(image, length);
     uint32_t c;
     if (answer >> 32 != 0)
         return answer;
     if (area_length < (size_t)CARD * sequences_of(image[0]))
-        return refusal(8, 0);
+        return refusal(8);
     read_library(image, length);
     fill_table(image);
     for (c = 0; c < lib.sequences; c++) {
@@ -213,8 +148,8 @@ struct traits {
 static struct traits traits(uint32_t w)
 {
     struct traits t;
-    uint32_t p = payload(w), mark;
-    if (kind(w) == 8) {
+    uint32_t p = payload_of(w), mark;
+    if (kind_of(w) == KIND_STEP_ENTRY) {
         uint64_t one = ask.first ? lib.needs[p] : lib.sets[p];
         uint64_t other = ask.first ? lib.sets[p] : lib.clears[p];
         mark = one >> ask.fact & 1 ? 0 : other >> ask.fact & 1 ? 1 : 2;
@@ -236,7 +171,7 @@ static uint32_t value(const uint32_t *image, size_t i)
 {
     uint32_t best = ask.mark == 2 ? 0 : ask.none;
     int ok = 1;
-    for (; kind(image[i]) == 8 || kind(image[i]) == 9; i++) {
+    for (; is_entry(image[i]); i++) {
         struct traits t = traits(image[i]);
         int ahead = ask.first ? t.stays : t.runs;
         int behind = ask.first ? t.runs : t.stays;
@@ -257,7 +192,7 @@ static uint32_t value(const uint32_t *image, size_t i)
 static uint32_t position(const uint32_t *image, size_t i, uint32_t k)
 {
     size_t start = i, end, quiet;
-    for (end = i; kind(image[end]) == 8 || kind(image[end]) == 9; end++)
+    for (end = i; is_entry(image[end]); end++)
         ;
     for (quiet = end; quiet > start; quiet--) {
         struct traits t = traits(image[quiet - 1]);
@@ -269,22 +204,27 @@ static uint32_t position(const uint32_t *image, size_t i, uint32_t k)
     return (uint32_t)(i - start);
 }
 
+static int in_sequence(uint32_t w)
+{
+    return kind_of(w) == KIND_ALTERNATIVE || is_entry(w);
+}
+
 uint64_t plain_chain(const uint32_t *image, size_t length, uint64_t sequence,
                      uint64_t question, uint64_t fact, uint32_t *area,
                      size_t area_length)
 {
-    uint64_t answer = plain_check(image, length);
+    uint64_t answer = second_check(image, length);
     uint32_t c, d, k, count;
     size_t i;
     int changed = 1;
     if (answer >> 32 != 0)
         return answer;
     if (sequence >= sequences_of(image[0]))
-        return refusal(9, 0);
+        return refusal(9);
     if (question > 5)
-        return refusal(10, 0);
+        return refusal(10);
     if (fact >= facts_of(image[0]))
-        return refusal(11, 0);
+        return refusal(11);
     read_library(image, length);
     fill_table(image);
     ask.first = question >= 3;
@@ -296,9 +236,9 @@ uint64_t plain_chain(const uint32_t *image, size_t length, uint64_t sequence,
     while (changed) {
         changed = 0;
         for (c = 0; c < lib.sequences; c++) {
-            for (i = lib.place[c]; kind(image[i]) >= 7 && kind(image[i]) <= 9; i++) {
+            for (i = lib.place[c]; in_sequence(image[i]); i++) {
                 uint32_t v;
-                if (kind(image[i]) != 7)
+                if (is_entry(image[i]))
                     continue;
                 v = value(image, i + 1);
                 if (v + 1 < ask.rank[c]) {
@@ -313,20 +253,20 @@ uint64_t plain_chain(const uint32_t *image, size_t length, uint64_t sequence,
         return 0;
     count = ask.mark == 2 ? 1 : ask.rank[d];
     if (area_length < 2 * (size_t)count)
-        return refusal(12, 0);
+        return refusal(12);
     for (k = 0; k < count; k++) {
         uint32_t alternative = 0, at, goal = ask.rank[d] - 1;
         for (i = lib.place[d]; value(image, i + 1) > goal; alternative++)
-            for (i++; kind(image[i]) != 7; i++)
+            for (i++; is_entry(image[i]); i++)
                 ;
-        area[2 * k] = 0xa0000000u | alternative << 8 | d;
+        area[2 * k] = choice_word(d, alternative);
         if (ask.mark == 2) {
-            area[1] = 0xc0000000u;
+            area[1] = word_of(KIND_UNTOUCHED, 0);
             break;
         }
         at = position(image, i + 1, goal);
-        area[2 * k + 1] = 0xb0000000u | at;
-        d = payload(image[i + 1 + at]);
+        area[2 * k + 1] = word_of(KIND_POSITION, at);
+        d = payload_of(image[i + 1 + at]);
     }
     return count;
 }

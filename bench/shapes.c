@@ -15,7 +15,15 @@ static uint32_t below(uint32_t n)
     return (uint32_t)((uint64_t)(seed >> 8) * n >> 24);
 }
 
-static void put(uint32_t k, uint32_t p) { out->words[out->length++] = k << 28 | p; }
+static void put(uint32_t kind, uint32_t payload)
+{
+    out->words[out->length++] = word_of(kind, payload);
+}
+
+static uint32_t last_kind(void)
+{
+    return kind_of(out->words[out->length - 1]);
+}
 
 static void begin(struct shape *shape, const char *name, uint32_t facts,
                   uint32_t steps, uint32_t sequences)
@@ -24,16 +32,12 @@ static void begin(struct shape *shape, const char *name, uint32_t facts,
     out->name = name;
     out->length = 0;
     seed = 2024;
-    put(1, facts | steps << 7 | sequences << 18);
+    put(KIND_HEAD, payload_of(head_word(facts, steps, sequences)));
 }
 
 static void end(void)
 {
-    uint32_t s = 0;
-    size_t i;
-    for (i = 0; i < out->length; i++)
-        s += out->words[i];
-    put(15, (s + (s >> 28)) & 0xfffffffu);
+    put(KIND_SUM, payload_of(sum_word_after(out->words, out->length)));
 }
 
 /* How many words are left, with one kept for the sum word. */
@@ -49,10 +53,10 @@ static void column(uint32_t k, uint64_t facts)
 
 static void step(uint32_t a, uint64_t needs, uint64_t sets, uint64_t clears)
 {
-    put(5, a);
-    column(2, needs);
-    column(3, sets);
-    column(4, clears);
+    put(KIND_STEP, a);
+    column(KIND_NEEDS, needs);
+    column(KIND_SETS, sets);
+    column(KIND_CLEARS, clears);
 }
 
 /* Some of the facts from `from` up to and without `to`. */
@@ -81,22 +85,23 @@ static void everyday(struct shape *shape, const char *name, uint32_t words)
         step(a, some(1, 0, facts), some(1, 0, facts), some(below(3), 0, facts));
     for (c = 0; c < sequences; c++) {
         stop = out->length + (words - 1 - out->length) / (sequences - c);
-        put(6, c);
-        put(7, 0);
-        put(8, below(steps));
+        put(KIND_SEQUENCE, c);
+        put(KIND_ALTERNATIVE, 0);
+        put(KIND_STEP_ENTRY, below(steps));
         while (out->length + 8 < stop) {
-            put(7, 0);
+            put(KIND_ALTERNATIVE, 0);
             entries = 2 + below(5);
             for (i = 0; i < entries; i++) {
                 if (c > 0 && below(4) == 0)
-                    put(9, below(8) == 0 ? below(sequences) : below(c));
+                    put(KIND_SEQUENCE_ENTRY,
+                        below(8) == 0 ? below(sequences) : below(c));
                 else
-                    put(8, below(steps));
+                    put(KIND_STEP_ENTRY, below(steps));
             }
         }
-        put(7, 0);
+        put(KIND_ALTERNATIVE, 0);
         while (out->length < stop)
-            put(8, below(steps));
+            put(KIND_STEP_ENTRY, below(steps));
     }
     end();
 }
@@ -111,14 +116,14 @@ static void random_words(struct shape *shape)
              some(below(3), 0, 64));
     for (c = 0; c < 256; c++) {
         stop = out->length + room() / (256 - c);
-        put(6, c);
+        put(KIND_SEQUENCE, c);
         while (out->length + 1 < stop) {
-            put(7, 0);
+            put(KIND_ALTERNATIVE, 0);
             while (out->length < stop && below(5) != 0) {
                 if (below(2) == 0)
-                    put(9, below(256));
+                    put(KIND_SEQUENCE_ENTRY, below(256));
                 else
-                    put(8, below(512));
+                    put(KIND_STEP_ENTRY, below(512));
             }
         }
     }
@@ -169,12 +174,12 @@ static void calling(struct shape *shape, const char *name, enum calls calls)
     base = calls == BEFORE ? 0 : calls == RING ? 128 : order[255];
     for (c = 0; c < 256; c++) {
         stop = out->length + room() / (256 - c);
-        put(6, c);
+        put(KIND_SEQUENCE, c);
         if (c == base && calls != ENDLESS) {
             for (i = 0; i < 3; i++) {
-                put(7, 0);
-                put(8, 3 + below(253));
-                put(8, i);
+                put(KIND_ALTERNATIVE, 0);
+                put(KIND_STEP_ENTRY, 3 + below(253));
+                put(KIND_STEP_ENTRY, i);
             }
         }
         for (n = 0; out->length + 7 < stop; n++) {
@@ -195,16 +200,17 @@ static void calling(struct shape *shape, const char *name, enum calls calls)
             default:
                 d = below(256);
             }
-            put(7, 0);
-            put(8, 3 + below(253));
-            put(9, d);
-            put(8, 3 + below(253));
+            put(KIND_ALTERNATIVE, 0);
+            put(KIND_STEP_ENTRY, 3 + below(253));
+            put(KIND_SEQUENCE_ENTRY, d);
+            put(KIND_STEP_ENTRY, 3 + below(253));
             if (below(2) == 0)
-                put(9, d);
+                put(KIND_SEQUENCE_ENTRY, d);
         }
+        if (out->length < stop && last_kind() == KIND_SEQUENCE)
+            put(KIND_ALTERNATIVE, 0);
         while (out->length < stop)
-            put(out->words[out->length - 1] >> 28 < 7 ? 7 : 8,
-                out->words[out->length - 1] >> 28 < 7 ? 0 : 3 + below(253));
+            put(KIND_STEP_ENTRY, 3 + below(253));
     }
     end();
 }
@@ -216,17 +222,17 @@ static void one_alternative(struct shape *shape)
     for (a = 0; a < 1024; a++)
         step(a, a % 3 == 0 ? some(1, 0, 64) : 0, a % 3 == 1 ? some(1, 0, 64) : 0,
              a % 3 == 2 ? some(1, 0, 64) : 0);
-    put(6, 0);
-    put(7, 0);
-    put(8, 1);
-    put(7, 0);
-    put(6, 1);
-    put(7, 0);
+    put(KIND_SEQUENCE, 0);
+    put(KIND_ALTERNATIVE, 0);
+    put(KIND_STEP_ENTRY, 1);
+    put(KIND_ALTERNATIVE, 0);
+    put(KIND_SEQUENCE, 1);
+    put(KIND_ALTERNATIVE, 0);
     while (room() > 0) {
         if (below(8) == 0)
-            put(9, 0);
+            put(KIND_SEQUENCE_ENTRY, 0);
         else
-            put(8, below(1024));
+            put(KIND_STEP_ENTRY, below(1024));
     }
     end();
 }
@@ -239,11 +245,11 @@ static void empty_alternatives(struct shape *shape)
     chain_steps();
     for (c = 0; c < 8; c++) {
         stop = out->length + room() / (8 - c);
-        put(6, c);
+        put(KIND_SEQUENCE, c);
         while (out->length + 2 < stop)
-            put(7, 0);
-        put(7, 0);
-        put(8, below(256));
+            put(KIND_ALTERNATIVE, 0);
+        put(KIND_ALTERNATIVE, 0);
+        put(KIND_STEP_ENTRY, below(256));
     }
     end();
 }

@@ -15,8 +15,6 @@
 
 static uint64_t refusal(uint64_t n) { return n << 32; }
 
-static int is_entry(uint32_t w) { return w >> 29 == 4; }
-
 /* Four words, as numbers with a sign. */
 typedef int32_t four __attribute__((vector_size(16)));
 
@@ -49,7 +47,7 @@ static int well_formed(const uint32_t *image, size_t length, uint32_t facts,
             return 0;
         before = 0;
         for (i++; (w = image[i]) - 0x20000000u < 0x30000000u; i++) {
-            if ((payload(w) >= facts) | (w <= before))
+            if ((payload_of(w) >= facts) | (w <= before))
                 return 0;
             before = w;
         }
@@ -85,7 +83,7 @@ uint64_t tuned_check(const uint32_t *image, size_t length)
     uint32_t s0 = 0, s1 = 0, s2 = 0, s3 = 0, head;
     size_t i;
     if (length < 2 || length > MOST_WORDS)
-        return plain_check(image, length);
+        return second_check(image, length);
     for (i = 0; i + 4 < length; i += 4) {
         s0 += image[i];
         s1 += image[i + 1];
@@ -97,13 +95,13 @@ uint64_t tuned_check(const uint32_t *image, size_t length)
     s0 += s1 + s2 + s3;
     head = image[0];
     if (image[length - 1] != (0xf0000000u | ((s0 + (s0 >> 28)) & 0xfffffffu)) ||
-        kind(head) != 1 || facts_of(head) < 1 || facts_of(head) > 64 ||
+        kind_of(head) != 1 || facts_of(head) < 1 || facts_of(head) > 64 ||
         steps_of(head) > MOST_STEPS || sequences_of(head) > MOST_SEQUENCES ||
         (head >> 27 & 1u) ||
         !well_formed(image, length, facts_of(head), steps_of(head),
                      sequences_of(head)))
-        return plain_check(image, length);
-    return payload(head);
+        return second_check(image, length);
+    return payload_of(head);
 }
 
 /* Two columns side by side. */
@@ -167,7 +165,7 @@ static size_t read_steps(const uint32_t *image, uint64_t all, uint32_t steps)
         uint64_t u;
         mask[0] = mask[1] = mask[2] = 0;
         for (i++; (w = image[i]) - 0x20000000u < 0x30000000u; i++)
-            mask[kind(w) - 2] |= UINT64_C(1) << (w & 63);
+            mask[kind_of(w) - 2] |= UINT64_C(1) << (w & 63);
         u = all & ~(mask[1] | mask[2]);
         r->last = (pair){mask[1], mask[2] & ~mask[1]};
         r->last_untouched = (pair){u, u};
@@ -195,11 +193,11 @@ static void read_sequences(const uint32_t *image, size_t i, uint64_t all,
             struct row x = start;
             for (i++; is_entry(w = image[i]);) {
                 if (w < 0x90000000u) {
-                    uint32_t step = STEP_ROWS + payload(w);
+                    uint32_t step = STEP_ROWS + payload_of(w);
                     x = rows[step];
                     if (image[i + 1] - 0x80000000u < 0x10000000u) {
                         for (i++; (w = image[i]) - 0x80000000u < 0x10000000u; i++)
-                            x = joined(x, &rows[STEP_ROWS + payload(w)]);
+                            x = joined(x, &rows[STEP_ROWS + payload_of(w)]);
                         if (n == from && !is_entry(w)) {
                             n = from;
                             goto constant;
@@ -214,7 +212,7 @@ static void read_sequences(const uint32_t *image, size_t i, uint64_t all,
                     }
                     list_rows[n++] = (uint16_t)step;
                 } else {
-                    uint32_t d = payload(w);
+                    uint32_t d = payload_of(w);
                     calls[c][d >> 6] |= UINT64_C(1) << (d & 63);
                     callers[d][c >> 6] |= UINT64_C(1) << (c & 63);
                     list_rows[n++] = (uint16_t)d;
@@ -401,7 +399,7 @@ static uint32_t read_calls(const uint32_t *image, size_t i, uint32_t sequences)
             alt->owner = (uint16_t)c;
             alt->from = (uint16_t)(i + 1);
             for (i++; is_entry(w = image[i]); i++) {
-                uint32_t p = payload(w);
+                uint32_t p = payload_of(w);
                 if (w < 0x90000000u) {
                     touched |= marks[p] != 2;
                 } else {
@@ -482,7 +480,8 @@ static struct window window(const uint32_t *image,
     if (first) {
         for (i = alt->from; i < alt->end; i++) {
             w = image[i];
-            if (w < 0x90000000u ? marks[payload(w)] != 2 : depth[payload(w)] == 0) {
+            if (w < 0x90000000u ? marks[payload_of(w)] != 2
+                                : depth[payload_of(w)] == 0) {
                 win.end = i + 1;
                 break;
             }
@@ -490,7 +489,8 @@ static struct window window(const uint32_t *image,
     } else {
         for (i = alt->end; i > alt->from; i--) {
             w = image[i - 1];
-            if (w < 0x90000000u ? marks[payload(w)] != 2 : depth[payload(w)] == 0) {
+            if (w < 0x90000000u ? marks[payload_of(w)] != 2
+                                : depth[payload_of(w)] == 0) {
                 win.from = i - 1;
                 break;
             }
@@ -518,7 +518,7 @@ static void find_links(const uint32_t *image, uint32_t count, int first,
             continue;
         win = window(image, alt, first, depth);
         for (i = win.from; i < win.end; i++) {
-            uint32_t w = image[i], p = payload(w);
+            uint32_t w = image[i], p = payload_of(w);
             if (w < 0x90000000u) {
                 if (marks[p] == mark) {
                     links[alt->owner] = 1;
@@ -553,7 +553,7 @@ static uint32_t quiet_alternative(const uint32_t *image, const uint16_t *depth,
         int ok = alternatives[m].lacks_quiet == 0;
         for (i = alternatives[m].from; ok && i < alternatives[m].end; i++)
             if (image[i] >= 0x90000000u)
-                ok = depth[payload(image[i])] < depth[c];
+                ok = depth[payload_of(image[i])] < depth[c];
         if (ok)
             return m - first_alternative[c];
     }
@@ -572,7 +572,7 @@ static void write_links(const uint32_t *image, int first, uint32_t mark,
                 continue;
             win = window(image, alt, first, depth);
             for (i = win.from; i < win.end; i++) {
-                uint32_t w = image[i], p = payload(w);
+                uint32_t w = image[i], p = payload_of(w);
                 if (k == 1 ? w < 0x90000000u && marks[p] == mark
                            : w >= 0x90000000u && links[p] == k - 1)
                     break;
@@ -582,7 +582,7 @@ static void write_links(const uint32_t *image, int first, uint32_t mark,
         }
         area[at++] = 0xa0000000u | (m - first_alternative[c]) << 8 | c;
         area[at++] = 0xb0000000u | (i - alternatives[m].from);
-        c = payload(image[i]);
+        c = payload_of(image[i]);
     }
 }
 

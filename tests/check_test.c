@@ -40,7 +40,7 @@ static void accepts(const char *name)
 {
     keep();
     compare(name, dulimoven_check(area + GUARD, words),
-            image_payload(*word_at(0)));
+            payload_of(*word_at(0)));
     kept(name);
 }
 
@@ -75,7 +75,7 @@ static void take(const uint32_t *given, size_t count)
 static void samples(void)
 {
     uint64_t answer = dulimoven_check(library_l, L_WORDS);
-    compare("L", answer, image_payload(library_l[0]));
+    compare("L", answer, payload_of(library_l[0]));
     hold("L has 3 facts", dulimoven_facts(answer) == 3);
     hold("L has 3 steps", dulimoven_steps(answer) == 3);
     hold("L has 3 sequences", dulimoven_sequences(answer) == 3);
@@ -383,7 +383,7 @@ static void wrong_kind_of_sum(void)
     uint32_t kind;
     for (kind = 0; kind < KIND_SUM; kind++) {
         BUILD(HEAD(1, 0, 0));
-        *word_at(1) = WORD(kind, image_payload(*word_at(1)));
+        *word_at(1) = WORD(kind, payload_of(*word_at(1)));
         refuses(2, 1, "the right payload under another kind");
     }
     start();
@@ -397,12 +397,12 @@ static void wrong_kind_of_sum(void)
 /* 3: "The first word breaks the rule for the head, position 0." */
 static void head(void)
 {
-    REFUSES(3, 0, "all bits of F", HEAD(HEAD_FACTS_MASK, 0, 0));
+    REFUSES(3, 0, "all bits of F", HEAD((1 << HEAD_FACTS_BITS) - 1, 0, 0));
     REFUSES(3, 0, "A above the greatest; no step is there: 3 comes before 7",
             HEAD(1, MOST_A + 1, 0));
-    REFUSES(3, 0, "all bits of A", HEAD(1, HEAD_STEPS_MASK, 0));
+    REFUSES(3, 0, "all bits of A", HEAD(1, (1 << HEAD_STEPS_BITS) - 1, 0));
     REFUSES(3, 0, "C above the greatest", HEAD(1, 0, MOST_C + 1));
-    REFUSES(3, 0, "all bits of C", HEAD(1, 0, HEAD_SEQUENCES_MASK));
+    REFUSES(3, 0, "all bits of C", HEAD(1, 0, (1 << HEAD_SEQUENCES_BITS) - 1));
     REFUSES(3, 0, "F, A and C out of range", HEAD(0, MOST_A + 1, MOST_C + 1));
     REFUSES(3, 0, "bit 27", HEAD(1, 0, 0) | HEAD_ZERO_BIT);
     REFUSES(3, 0, "bit 27 beside the greatest counts: 3 comes before 7",
@@ -427,7 +427,7 @@ static void kind_of_head(void)
     for (kind = 0; kind <= KIND_SUM; kind++) {
         if (kind == KIND_HEAD)
             continue;
-        BUILD(WORD(kind, image_payload(HEAD(1, 0, 0))));
+        BUILD(WORD(kind, payload_of(HEAD(1, 0, 0))));
         refuses(3, 0, "a head's payload under another kind");
         BUILD(WORD(kind, 0));
         refuses(3, 0, "another kind and no payload");

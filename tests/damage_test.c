@@ -321,7 +321,7 @@ static const uint32_t poll[] = {
 
 static int sum_is_right(void)
 {
-    return *word_at(words - 1) == image_sum_word(area + GUARD, words - 1);
+    return *word_at(words - 1) == sum_word_after(area + GUARD, words - 1);
 }
 
 /*
@@ -386,7 +386,7 @@ static void noise(void)
         while (words + 1 < length) {
             uint32_t word = (uint32_t)random_bits();
             if (form == 2)
-                word = WORD(image_kind(word), image_payload(word) & 3);
+                word = WORD(kind_of(word), payload_of(word) & 3);
             else if (form == 3)
                 word = WORD(KIND_NEEDS + below(8), below(3));
             put(word);

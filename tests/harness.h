@@ -33,8 +33,8 @@ enum {
 #define CLEARS(fact) WORD(KIND_CLEARS, fact)
 #define SEQUENCE(number) WORD(KIND_SEQUENCE, number)
 #define ALTERNATIVE WORD(KIND_ALTERNATIVE, 0)
-#define DO(step) WORD(KIND_ENTRY_STEP, step)
-#define CALL(sequence) WORD(KIND_ENTRY_SEQUENCE, sequence)
+#define DO(step) WORD(KIND_STEP_ENTRY, step)
+#define CALL(sequence) WORD(KIND_SEQUENCE_ENTRY, sequence)
 
 /* The words of a link: CHOICE and then AT or UNTOUCHED. */
 #define CHOICE(sequence, alternative) \
@@ -105,7 +105,7 @@ static inline void fill(uint32_t word, size_t count)
 /* The sum word of the words that are there. */
 static inline void put_sum(void)
 {
-    put(image_sum_word(area + GUARD, words));
+    put(sum_word_after(area + GUARD, words));
 }
 
 /* The words given, and after them the sum word. */
@@ -138,7 +138,7 @@ static inline void sum_again(void)
 static inline void miss_sum(int by)
 {
     uint32_t *last = word_at(words - 1);
-    *last = image_word(KIND_SUM, image_payload(*last + (uint32_t)by));
+    *last = word_of(KIND_SUM, payload_of(*last + (uint32_t)by));
 }
 
 /* Before a call, and after it: no word of the image or beside it is changed. */

@@ -1,7 +1,9 @@
 /*
- * The format of an image, and the kinds of its words and of a chain's: what a
- * new head or a new sum changes in the tests, beside the samples that document
- * 01 prints (samples.h). Needs no library. C11 and C++17.
+ * The words of document 01 for tests: kinds, the fields of the head and of a
+ * link, the sum word, and an image that is written word by word. What builds
+ * images and what reads them takes the format from here, and nothing from the
+ * library: a new head or a new sum changes this file, beside the samples that
+ * document 01 prints (samples.h). C11 and C++17.
  */
 #ifndef DULIMOVEN_TESTS_IMAGE_H
 #define DULIMOVEN_TESTS_IMAGE_H
@@ -9,7 +11,19 @@
 #include <stddef.h>
 #include <stdint.h>
 
+/* Bounds of an image's length, and of what its head counts. */
 enum {
+    LEAST_WORDS = 2,
+    MOST_WORDS = 8192,
+    LEAST_FACTS = 1,
+    MOST_FACTS = 64,
+    MOST_STEPS = 1024,
+    MOST_SEQUENCES = 256
+};
+
+/* Bits 31 to 28 of a word are its kind, the low 28 bits its payload. */
+enum {
+    PAYLOAD_BITS = 28,
     KIND_HEAD = 1,
     KIND_NEEDS = 2,
     KIND_SETS = 3,
@@ -17,86 +31,153 @@ enum {
     KIND_STEP = 5,
     KIND_SEQUENCE = 6,
     KIND_ALTERNATIVE = 7,
-    KIND_ENTRY_STEP = 8,
-    KIND_ENTRY_SEQUENCE = 9,
+    KIND_STEP_ENTRY = 8,
+    KIND_SEQUENCE_ENTRY = 9,
     KIND_CHOICE = 10,
     KIND_POSITION = 11,
     KIND_UNTOUCHED = 12,
     KIND_SUM = 15
 };
 
-/* "Bits 31 to 28 are the kind; the low 28 bits are the payload". */
-enum { KIND_SHIFT = 28, PAYLOAD_MASK = 0xfffffff };
+enum { PAYLOAD_MASK = (1 << PAYLOAD_BITS) - 1 };
 
-/*
- * The head's payload: "bits 0 to 6 hold F, the number of facts [..]; bits 7 to
- * 17 hold A, steps [..]; bits 18 to 26 hold C, sequences [..]; bit 27 is zero."
- */
-enum {
-    HEAD_FACTS_SHIFT = 0,
-    HEAD_FACTS_MASK = 0x7f,
-    HEAD_STEPS_SHIFT = 7,
-    HEAD_STEPS_MASK = 0x7ff,
-    HEAD_SEQUENCES_SHIFT = 18,
-    HEAD_SEQUENCES_MASK = 0x1ff,
-    HEAD_ZERO_BIT = 0x8000000
-};
-
-/* A word and a head, for constants too. */
+/* A word, as a constant too. */
 #define WORD(kind, payload) \
-    ((uint32_t)(kind) << KIND_SHIFT | (uint32_t)(payload))
-#define HEAD(f, a, c)                                       \
-    WORD(KIND_HEAD, (uint32_t)(f) << HEAD_FACTS_SHIFT |     \
-                        (uint32_t)(a) << HEAD_STEPS_SHIFT | \
-                        (uint32_t)(c) << HEAD_SEQUENCES_SHIFT)
+    ((uint32_t)(kind) << PAYLOAD_BITS | (uint32_t)(payload))
 
-static inline uint32_t image_word(uint32_t kind, uint32_t payload)
+static inline uint32_t word_of(uint32_t kind, uint32_t payload)
 {
     return WORD(kind, payload);
 }
 
-static inline uint32_t image_kind(uint32_t word)
+static inline uint32_t kind_of(uint32_t word)
 {
-    return word >> KIND_SHIFT;
+    return word >> PAYLOAD_BITS;
 }
 
-static inline uint32_t image_payload(uint32_t word)
+static inline uint32_t payload_of(uint32_t word)
 {
     return word & PAYLOAD_MASK;
 }
 
-static inline uint32_t image_head(uint32_t f, uint32_t a, uint32_t c)
+/* A word that says what a step needs, sets or clears. */
+static inline int is_fact(uint32_t word)
 {
-    return HEAD(f, a, c);
+    return kind_of(word) >= KIND_NEEDS && kind_of(word) <= KIND_CLEARS;
 }
 
-static inline uint32_t image_facts(uint32_t head)
+static inline int is_entry(uint32_t word)
 {
-    return head >> HEAD_FACTS_SHIFT & HEAD_FACTS_MASK;
+    return kind_of(word) == KIND_STEP_ENTRY ||
+           kind_of(word) == KIND_SEQUENCE_ENTRY;
 }
 
-static inline uint32_t image_steps(uint32_t head)
+/* The low `bits` bits of a word from bit `from` on. */
+static inline uint32_t field_of(uint32_t word, unsigned from, unsigned bits)
 {
-    return head >> HEAD_STEPS_SHIFT & HEAD_STEPS_MASK;
-}
-
-static inline uint32_t image_sequences(uint32_t head)
-{
-    return head >> HEAD_SEQUENCES_SHIFT & HEAD_SEQUENCES_MASK;
+    return word >> from & ((UINT32_C(1) << bits) - 1);
 }
 
 /*
- * The sum word that follows these words. "Let s be the sum of all earlier words
- * with wrap at 2^32; its payload is (s + s / 2^28) mod 2^28, the quotient
- * whole."
+ * The head: bits 0 to 6 hold F, the number of facts, bits 7 to 17 hold A,
+ * steps, bits 18 to 26 hold C, sequences. Bit 27 is zero.
  */
-static inline uint32_t image_sum_word(const uint32_t *words, size_t count)
+enum {
+    HEAD_FACTS = 0,
+    HEAD_FACTS_BITS = 7,
+    HEAD_STEPS = HEAD_FACTS + HEAD_FACTS_BITS,
+    HEAD_STEPS_BITS = 11,
+    HEAD_SEQUENCES = HEAD_STEPS + HEAD_STEPS_BITS,
+    HEAD_SEQUENCES_BITS = 9,
+    HEAD_ZERO_BIT = 0x8000000
+};
+
+/* A head, as a constant too. */
+#define HEAD(facts, steps, sequences)                          \
+    WORD(KIND_HEAD, (uint32_t)(facts) << HEAD_FACTS |          \
+                        (uint32_t)(steps) << HEAD_STEPS |      \
+                        (uint32_t)(sequences) << HEAD_SEQUENCES)
+
+static inline uint32_t head_word(uint32_t facts, uint32_t steps,
+                                 uint32_t sequences)
+{
+    return HEAD(facts, steps, sequences);
+}
+
+static inline uint32_t facts_of(uint32_t head)
+{
+    return field_of(head, HEAD_FACTS, HEAD_FACTS_BITS);
+}
+
+static inline uint32_t steps_of(uint32_t head)
+{
+    return field_of(head, HEAD_STEPS, HEAD_STEPS_BITS);
+}
+
+static inline uint32_t sequences_of(uint32_t head)
+{
+    return field_of(head, HEAD_SEQUENCES, HEAD_SEQUENCES_BITS);
+}
+
+/*
+ * The sum word after these words: s is their sum with wrap at 2^32, the payload
+ * (s + s / 2^28) mod 2^28.
+ */
+static inline uint32_t sum_word_after(const uint32_t *words, size_t count)
 {
     uint32_t s = 0;
     size_t i;
     for (i = 0; i < count; i++)
         s += words[i];
-    return image_word(KIND_SUM, (s + (s >> KIND_SHIFT)) & PAYLOAD_MASK);
+    return word_of(KIND_SUM, payload_of(s + (s >> PAYLOAD_BITS)));
+}
+
+/*
+ * The first word of a link: bits 0 to 7 hold the sequence, bits 8 to 20 the
+ * alternative. The second is of kind 11 with a position, or of kind 12 with 0.
+ */
+enum {
+    CHOICE_SEQUENCE = 0,
+    CHOICE_SEQUENCE_BITS = 8,
+    CHOICE_ALTERNATIVE = CHOICE_SEQUENCE + CHOICE_SEQUENCE_BITS,
+    CHOICE_ALTERNATIVE_BITS = 13
+};
+
+static inline uint32_t choice_word(uint32_t sequence, uint32_t alternative)
+{
+    return word_of(KIND_CHOICE, sequence << CHOICE_SEQUENCE |
+                                    alternative << CHOICE_ALTERNATIVE);
+}
+
+static inline uint32_t chosen_alternative(uint32_t choice)
+{
+    return field_of(choice, CHOICE_ALTERNATIVE, CHOICE_ALTERNATIVE_BITS);
+}
+
+/* An image that is written word by word. */
+struct image {
+    size_t length;
+    uint32_t words[MOST_WORDS];
+};
+
+static inline void image_put(struct image *image, uint32_t kind,
+                             uint32_t payload)
+{
+    if (image->length < MOST_WORDS)
+        image->words[image->length++] = word_of(kind, payload);
+}
+
+static inline void image_begin(struct image *image, uint32_t facts,
+                               uint32_t steps, uint32_t sequences)
+{
+    image->length = 1;
+    image->words[0] = head_word(facts, steps, sequences);
+}
+
+static inline void image_end(struct image *image)
+{
+    uint32_t sum = sum_word_after(image->words, image->length);
+    image_put(image, KIND_SUM, payload_of(sum));
 }
 
 #endif

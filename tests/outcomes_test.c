@@ -77,7 +77,7 @@ static void begin(const char *name)
 
 static uint64_t all_facts(void)
 {
-    return FACTS(image_facts(*word_at(0)));
+    return FACTS(facts_of(*word_at(0)));
 }
 
 /*
@@ -249,7 +249,7 @@ static void ask(size_t c, uint64_t question, uint64_t fact)
  */
 static void ask_all(void)
 {
-    uint32_t facts = image_facts(*word_at(0));
+    uint32_t facts = facts_of(*word_at(0));
     size_t apart = dues * facts <= 512 ? 1 : 37;
     size_t c;
     uint64_t question;
@@ -270,13 +270,13 @@ static void judge(void)
     keep();
     answer = dulimoven_check(area + GUARD, words);
     ran++;
-    if (answer != image_payload(*word_at(0))) {
+    if (answer != payload_of(*word_at(0))) {
         differs();
         printf("the check answered %" PRIx64 "\n", answer);
         return;
     }
     ran++;
-    if (dues != image_sequences(*word_at(0))) {
+    if (dues != sequences_of(*word_at(0))) {
         differs();
         printf("outcomes of %u sequences are expected\n", (unsigned)dues);
         return;

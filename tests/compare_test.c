@@ -1,0 +1,379 @@
+/*
+ * Compares the library with the second engine over libraries made from a seed
+ * (tests/second), of fifteen kinds.
+ *
+ * The card words are compared with those of the second engine, which works by
+ * the algorithms printed in source document 001. The chain call is asked every
+ * question (of the largest libraries about some facts and some sequences), and
+ * each link is held against the words of the library; plain rounds say how many
+ * links are the fewest, what depth is the least and which choice is the lowest.
+ * The rounds are held against the second engine's columns too. The check is
+ * compared with the second engine's over each library, and over the same with
+ * some damage.
+ *
+ * What it would catch: a card word that the algorithms do not give, or a word
+ * changed past the cards; "none" where a run has the outcome, or a chain where
+ * none has; a link about another sequence, or with an alternative or a position
+ * that does not exist; one whose entry is not a step with the touch or the
+ * sequence of the next link, or beside whose entry another touches the fact
+ * that must not, or has no run; an untouched link whose alternative cannot stay
+ * untouched; more links than the fewest; a choice that is not the lowest; words
+ * changed past a chain or on "none"; a library refused, or a damaged one judged
+ * otherwise; a call that does not end.
+ *
+ * Tried: the engine was broken on a copy, compiled without its proofs and
+ * linked with this test. Each break was reported, first by the words after it.
+ *   runs, an alternative counts where one of two entries has a run
+ *     (`x.run | y.run`): word 1 of a card, 1 for 0
+ *   runs, a touch counts though a later entry always touches
+ *     (`x.present & x.present`): word 3 of a card, 6 for 2
+ *   outcome, callers are stale where a visit changed nothing, and not where it
+ *     did (`if !changed`): word 1 of a card, 1 for 101
+ *   card_words, a run may leave an always set fact untouched
+ *     (`union(rival, rival)`): word 2 of a card, 1 for 0
+ *   card_words, a card too many is written (`c <= n`): word 1 of a card past
+ *     the last
+ *   link, a link with one link more after it is taken (`t.rank <= k + 1`): a
+ *     link's entry is no step with the touch, or no sequence
+ *   link, a link is taken though a later entry touches (`quiet <= next` left
+ *     out): beside a link's entry another touches the fact, or has no run
+ *   link, a kind 12 link names the first alternative (`k <= 1000`): a link is
+ *     not the lowest choice
+ *   rank, an entry behind the position is held to what is asked of one ahead
+ *     (`passes(none, ahead, w)`): none, and a run has the outcome
+ *   rank, entries ahead of the position may touch (`ok = ok`): a chain, and no
+ *     run has the outcome
+ *   chain_words, one word more is written: words past the chain are changed
+ *   outcome, a visit always says that it changed the table, and rank, that it
+ *     lowered a rank: the time limit is over, and no answer from
+ *     dulimoven_cards, and from dulimoven_chain
+ * And the must-fail edits of the crates that change the code of the three
+ * calls, 46 of them: all are reported but three. What shows in no answer and no
+ * area is not: bits from F upward in the outcome table (runs/bits_above), an
+ * order of visits that is never asked for (visits/one_number). Nor is the order
+ * of refusals 10 and 11 (chain_words/eleven_before_ten), since all questions
+ * here are in range; chain_test has it.
+ *
+ * C11 and C++17. Prints a line for each of the first dozen differences, the
+ * counts of each kind, and last the total with its differences; the exit status
+ * is 0 where there are none. The output is fixed by the seed.
+ */
+#define _POSIX_C_SOURCE 200112L
+#include "dulimoven.h"
+#include "second/judge.h"
+#include "second/second.h"
+#include "second/seeded.h"
+
+#include <inttypes.h>
+#include <signal.h>
+#include <stdio.h>
+#include <string.h>
+#include <unistd.h>
+
+/* With the sanitizers, which are slow, one library in so many is tried. */
+#ifdef __SANITIZE_ADDRESS__
+enum { SHARE = 4 };
+#else
+enum { SHARE = 1 };
+#endif
+
+/*
+ * How many libraries of a kind are tried, in the order of the kinds, and of how
+ * many facts and of how many sequences one is asked about.
+ */
+static const struct trial {
+    unsigned libraries, facts, sequences;
+} trials[SEEDED_KINDS] = {
+    {40000, 1, 1}, {16000, 1, 1}, {16000, 1, 1}, {16000, 1, 1}, {2000, 1, 1},
+    {2000, 1, 1},  {12000, 1, 1}, {1000, 1, 1},  {16000, 1, 1}, {2000, 1, 1},
+    {20000, 1, 1}, {40, 1, 16},   {40, 1, 8},    {40, 1, 8},    {12, 21, 16}};
+
+static const uint64_t first_seed = UINT64_C(0x2545f4914f6cdd1d);
+
+/* What is counted of the libraries of a kind, or of all. */
+struct tally {
+    uint64_t libraries, sequences, card_words, checks, questions, chains, links,
+        differences;
+};
+
+static struct tally tally;
+
+/* The library under trial. */
+static struct image image;
+static const char *kind_name;
+
+/*
+ * The time limit of one library. The handler says which library it is, and
+ * which call has not ended.
+ */
+enum { LIMIT_SECONDS = 60 };
+static char library_name[80];
+static const char *volatile call_name;
+
+static void say(const char *text)
+{
+    if (write(STDOUT_FILENO, text, strlen(text)) < 0)
+        _exit(1);
+}
+
+static void time_is_up(int number)
+{
+    (void)number;
+    say(library_name);
+    say(": the time limit is over, and no answer from ");
+    say(call_name);
+    say("\n");
+    _exit(1);
+}
+
+static void begin_library(void)
+{
+    tally.libraries++;
+    snprintf(library_name, sizeof library_name, "%s, library %" PRIu64,
+             kind_name, tally.libraries);
+    alarm(LIMIT_SECONDS);
+}
+
+/* Counts a difference, and says whether it is one of the dozen printed. */
+static int is_printed(void)
+{
+    enum { MOST_PRINTED = 12 };
+    static uint64_t all;
+    tally.differences++;
+    all++;
+    return all <= MOST_PRINTED;
+}
+
+static void differs(const char *what)
+{
+    if (is_printed())
+        printf("%s: %s\n", library_name, what);
+}
+
+static void word_differs(size_t i, uint64_t word, uint64_t second)
+{
+    if (is_printed())
+        printf("%s, word %zu of sequence %zu's card: %" PRIx64
+               ", and %" PRIx64 " by the second engine\n",
+               library_name, i % DULIMOVEN_CARD_WORDS + 1,
+               i / DULIMOVEN_CARD_WORDS, word, second);
+}
+
+static void chain_differs(uint32_t sequence, uint32_t question, uint32_t fact,
+                          const char *what)
+{
+    if (is_printed())
+        printf("%s, sequence %" PRIu32 ", question %" PRIu32 ", fact %" PRIu32
+               ": %s\n",
+               library_name, sequence, question, fact, what);
+}
+
+static uint64_t check(const struct image *checked)
+{
+    call_name = "dulimoven_check";
+    return dulimoven_check(checked->words, checked->length);
+}
+
+/* A library is accepted by both engines. */
+static void try_check(void)
+{
+    uint64_t accepted = payload_of(image.words[0]);
+    tally.checks++;
+    if (check(&image) != accepted)
+        differs("refused by the library");
+    if (second_check(image.words, image.length) != accepted)
+        differs("refused by the second engine");
+}
+
+/* Changes a word, leaves one out, doubles one or lets two change places. */
+static void damage(struct seed *seed, struct image *damaged)
+{
+    uint32_t *word = damaged->words + draw(seed, (uint32_t)damaged->length - 1);
+    size_t after = (size_t)(damaged->words + damaged->length - 1 - word);
+    uint32_t before = *word;
+    switch (draw(seed, 4)) {
+    case 0:
+        *word ^= UINT32_C(1) << draw(seed, 32);
+        break;
+    case 1:
+        memmove(word, word + 1, after * sizeof *word);
+        damaged->length--;
+        break;
+    case 2:
+        if (damaged->length == MOST_WORDS)
+            break;
+        memmove(word + 1, word, (after + 1) * sizeof *word);
+        damaged->length++;
+        break;
+    default:
+        word[0] = word[1];
+        word[1] = before;
+    }
+}
+
+/* The damaged library, most times with a sum word that is right again. */
+static void try_damage(struct seed *seed)
+{
+    static struct image damaged;
+    damaged = image;
+    damage(seed, &damaged);
+    if (draw(seed, 8) != 0) {
+        damaged.length--;
+        image_end(&damaged);
+    }
+    tally.checks++;
+    if (check(&damaged) != second_check(damaged.words, damaged.length))
+        differs("the check answers otherwise once the library is damaged");
+}
+
+/* The card areas of both engines, with words past the last card. */
+enum { CARD_AREA = DULIMOVEN_MOST_CARD_WORDS + 8 };
+static uint64_t cards[CARD_AREA];
+static uint64_t second[CARD_AREA];
+
+static void try_cards(void)
+{
+    uint32_t sequences = sequences_of(image.words[0]);
+    size_t i;
+    memset(cards, 0xa5, sizeof cards);
+    memset(second, 0xa5, sizeof second);
+    call_name = "dulimoven_cards";
+    if (dulimoven_cards(image.words, image.length, cards, CARD_AREA) !=
+        sequences)
+        differs("the card call answers another number");
+    call_name = "second_cards";
+    if (second_cards(image.words, image.length, second, CARD_AREA) != sequences)
+        differs("the second engine answers another number");
+    for (i = 0; i < CARD_AREA; i++)
+        if (cards[i] != second[i])
+            word_differs(i, cards[i], second[i]);
+    tally.sequences += sequences;
+    tally.card_words += (size_t)DULIMOVEN_CARD_WORDS * sequences;
+}
+
+/* Whether a fact is in a column of a card by the second engine. */
+static int in_column(uint32_t sequence, int column, uint32_t fact)
+{
+    const uint64_t *card = second + (size_t)DULIMOVEN_CARD_WORDS * sequence;
+    return dulimoven_has_fact(card[column], fact);
+}
+
+/*
+ * Whether the second engine's columns are those of the judge's rounds. An
+ * "always" column lacks a fact where a rival question has a run.
+ */
+static int rounds_agree(uint32_t c, uint32_t fact)
+{
+    int has[DULIMOVEN_FIRST_UNTOUCHED + 1], run = judge_has_run(c);
+    uint32_t q;
+    for (q = 0; q <= DULIMOVEN_FIRST_UNTOUCHED; q++)
+        has[q] = judge_possible(c, q);
+    return in_column(c, DULIMOVEN_MAY_NEED, fact) == has[3] &&
+           in_column(c, DULIMOVEN_MAY_SET, fact) == has[0] &&
+           in_column(c, DULIMOVEN_MAY_CLEAR, fact) == has[1] &&
+           in_column(c, DULIMOVEN_ALWAYS_NEEDED, fact) ==
+               (run && !has[4] && !has[5]) &&
+           in_column(c, DULIMOVEN_ALWAYS_SET, fact) ==
+               (run && !has[1] && !has[2]) &&
+           in_column(c, DULIMOVEN_ALWAYS_CLEARED, fact) ==
+               (run && !has[0] && !has[2]);
+}
+
+static void ask(uint32_t sequence, uint32_t question, uint32_t fact)
+{
+    static uint32_t area[DULIMOVEN_MOST_CHAIN_WORDS];
+    uint32_t sequences = sequences_of(image.words[0]);
+    size_t i, room = (size_t)DULIMOVEN_LINK_WORDS * sequences;
+    uint64_t links;
+    enum fault fault;
+    for (i = 0; i < room; i++)
+        area[i] = JUDGE_BEFORE;
+    links = dulimoven_chain(image.words, image.length, sequence, question, fact,
+                            area, room);
+    fault = judge_answer(sequence, question, links, area, room);
+    tally.questions++;
+    tally.chains += links != 0;
+    tally.links += links;
+    if (fault != NO_FAULT)
+        chain_differs(sequence, question, fact, fault_text(fault));
+}
+
+static void ask_fact(const struct trial *trial, uint32_t fact)
+{
+    uint32_t sequences = sequences_of(image.words[0]);
+    uint32_t c, question;
+    call_name = "judge_fact";
+    judge_fact(fact);
+    for (c = 0; c < sequences; c++)
+        if (!rounds_agree(c, fact))
+            differs("the second engine's columns differ from the rounds");
+    call_name = "dulimoven_chain";
+    for (c = 0; c < sequences; c += trial->sequences)
+        for (question = 0; question <= DULIMOVEN_FIRST_UNTOUCHED; question++)
+            ask(c, question, fact);
+}
+
+static void try_library(const struct trial *trial, struct seed *seed)
+{
+    enum { DAMAGES = 4 };
+    uint32_t fact, n;
+    begin_library();
+    try_check();
+    for (n = 0; n < DAMAGES; n++)
+        try_damage(seed);
+    try_cards();
+    judge_library(image.words, image.length);
+    for (fact = 0; fact < facts_of(image.words[0]); fact += trial->facts)
+        ask_fact(trial, fact);
+}
+
+static void print_tally(const char *name, const struct tally *t)
+{
+    printf("%s: libraries %" PRIu64 ", sequences %" PRIu64
+           ", card words %" PRIu64 ", checks %" PRIu64 ", questions %" PRIu64
+           ", chains %" PRIu64 ", links %" PRIu64 ", differences %" PRIu64 "\n",
+           name, t->libraries, t->sequences, t->card_words, t->checks,
+           t->questions, t->chains, t->links, t->differences);
+    fflush(stdout);
+}
+
+/* Libraries of a kind. Some questions must have a chain, and some none. */
+static void try_kind(unsigned kind)
+{
+    struct seed seed = {first_seed + kind};
+    unsigned n;
+    memset(&tally, 0, sizeof tally);
+    kind_name = seeded_name(kind);
+    for (n = 0; n < trials[kind].libraries; n += SHARE) {
+        make_library(&seed, kind, &image);
+        try_library(&trials[kind], &seed);
+    }
+    if (tally.chains == 0 || tally.chains == tally.questions)
+        differs("no chain in any library, or no \"none\"");
+    print_tally(kind_name, &tally);
+}
+
+static void add_tally(struct tally *total)
+{
+    total->libraries += tally.libraries;
+    total->sequences += tally.sequences;
+    total->card_words += tally.card_words;
+    total->checks += tally.checks;
+    total->questions += tally.questions;
+    total->chains += tally.chains;
+    total->links += tally.links;
+    total->differences += tally.differences;
+}
+
+int main(void)
+{
+    struct tally total = {0, 0, 0, 0, 0, 0, 0, 0};
+    unsigned kind;
+    signal(SIGALRM, time_is_up);
+    for (kind = 0; kind < SEEDED_KINDS; kind++) {
+        try_kind(kind);
+        add_tally(&total);
+    }
+    print_tally("total", &total);
+    return total.differences == 0 ? 0 : 1;
+}

@@ -1,0 +1,365 @@
+/*
+ * The worked examples of source documents 000 and 001, each with its place in
+ * the paper: the sets that the text prints are columns of a card, by the card
+ * call and by the second engine. Where the text says why a fact is missing from
+ * an "always" column, a chain names that method.
+ *
+ * The figures are not in the text. Actions and methods that it leaves open are
+ * chosen here to fit all that it says of them.
+ *
+ * In the papers' terms a step is an action (prec, add, del), a sequence a
+ * compound task, an alternative a method. prec and poss-prec are "always
+ * needed" and "may need", poss-eff+ and poss-eff- "may set" and "may clear",
+ * eff+ and eff- "always set" and "always cleared", all of the relaxed kind.
+ *
+ * C11 and C++17. Prints a line for what does not hold, then a count; the exit
+ * status is 0 where all holds.
+ */
+#include "dulimoven.h"
+#include "image.h"
+#include "second/second.h"
+
+#include <inttypes.h>
+#include <stdio.h>
+
+static unsigned ran;
+static unsigned failed;
+
+/* The library under test, and the cards of both engines. */
+static struct image image;
+static uint32_t actions, compounds;
+static uint64_t cards[DULIMOVEN_MOST_CARD_WORDS];
+static uint64_t second[DULIMOVEN_MOST_CARD_WORDS];
+
+/* Fact f_n of a paper is fact n. Fact 0 is none of them. */
+#define FACT(n) (UINT64_C(1) << (n))
+static const uint64_t none = 0;
+
+static void domain(uint32_t facts, uint32_t all_actions, uint32_t all_compounds)
+{
+    image_begin(&image, facts, all_actions, all_compounds);
+    actions = compounds = 0;
+}
+
+static void facts(uint32_t kind, uint64_t column)
+{
+    uint32_t f;
+    for (f = 0; f < MOST_FACTS; f++)
+        if (column & FACT(f))
+            image_put(&image, kind, f);
+}
+
+/* The next action, of a1, a2 .. */
+static void action(uint64_t prec, uint64_t add, uint64_t del)
+{
+    image_put(&image, KIND_STEP, actions++);
+    facts(KIND_NEEDS, prec);
+    facts(KIND_SETS, add);
+    facts(KIND_CLEARS, del);
+}
+
+/* The next compound task, of c1, c2 .. */
+static void compound(void) { image_put(&image, KIND_SEQUENCE, compounds++); }
+
+/* A method of it, by its tasks: "a1 c2" is action a1 and then task c2. */
+static void method(const char *tasks)
+{
+    image_put(&image, KIND_ALTERNATIVE, 0);
+    for (; *tasks != '\0'; tasks++) {
+        if (*tasks == 'a')
+            image_put(&image, KIND_STEP_ENTRY, (uint32_t)(tasks[1] - '1'));
+        if (*tasks == 'c')
+            image_put(&image, KIND_SEQUENCE_ENTRY, (uint32_t)(tasks[1] - '1'));
+    }
+}
+
+/* The library is whole: both engines fill its cards. */
+static void fill(const char *name)
+{
+    image_end(&image);
+    ran += 2;
+    if (dulimoven_cards(image.words, image.length, cards,
+                        DULIMOVEN_MOST_CARD_WORDS) != compounds) {
+        failed++;
+        printf("%s: the card call refuses it\n", name);
+    }
+    if (second_cards(image.words, image.length, second,
+                     DULIMOVEN_MOST_CARD_WORDS) != compounds) {
+        failed++;
+        printf("%s: the second engine refuses it\n", name);
+    }
+}
+
+/* A card as it is to be, with the words in the order of document 01. */
+struct card {
+    uint64_t flags, always_needed, may_need, may_set, may_clear, always_set,
+        always_cleared;
+};
+
+/* A run exists, none is empty, and so many facts can change. */
+static uint64_t flags(uint64_t changeable)
+{
+    return DULIMOVEN_FLAG_RUN | changeable << DULIMOVEN_FLAG_COUNT_SHIFT;
+}
+
+static void word_is(const char *name, const char *engine, int column,
+                    uint64_t word, uint64_t expected)
+{
+    ran++;
+    if (word == expected)
+        return;
+    failed++;
+    printf("%s, %s, word %d: %" PRIx64 ", and not %" PRIx64 "\n", name, engine,
+           column, word, expected);
+}
+
+static void engine_card_is(const char *name, const char *engine,
+                           const uint64_t *card, const struct card *expected)
+{
+    word_is(name, engine, 1, card[DULIMOVEN_FLAGS], expected->flags);
+    word_is(name, engine, 2, card[DULIMOVEN_ALWAYS_NEEDED],
+            expected->always_needed);
+    word_is(name, engine, 3, card[DULIMOVEN_MAY_NEED], expected->may_need);
+    word_is(name, engine, 4, card[DULIMOVEN_MAY_SET], expected->may_set);
+    word_is(name, engine, 5, card[DULIMOVEN_MAY_CLEAR], expected->may_clear);
+    word_is(name, engine, 6, card[DULIMOVEN_ALWAYS_SET], expected->always_set);
+    word_is(name, engine, 7, card[DULIMOVEN_ALWAYS_CLEARED],
+            expected->always_cleared);
+}
+
+/* The card of compound task number c, counted from 1. */
+static void card_is(const char *name, uint32_t c, struct card expected)
+{
+    size_t at = (size_t)DULIMOVEN_CARD_WORDS * (c - 1);
+    engine_card_is(name, "the card call", cards + at, &expected);
+    engine_card_is(name, "the second engine", second + at, &expected);
+}
+
+/*
+ * The method of compound task number c by which a fact is left untouched, on
+ * the side of question 2 or 5; methods are counted from 0.
+ */
+static void untouched_by(const char *name, uint32_t c, uint32_t question,
+                         uint32_t fact, uint32_t expected)
+{
+    uint32_t link[DULIMOVEN_LINK_WORDS] = {0, 0};
+    uint64_t links = dulimoven_chain(image.words, image.length, c - 1, question,
+                                     fact, link, DULIMOVEN_LINK_WORDS);
+    ran++;
+    if (links == 1 && link[0] == choice_word(c - 1, expected) &&
+        link[1] == word_of(KIND_UNTOUCHED, 0))
+        return;
+    failed++;
+    printf("%s: f%" PRIu32 " is not left untouched by method %" PRIu32 "\n",
+           name, fact, expected);
+}
+
+/*
+ * 000, after the relaxation, the first remark: "consider a compound task c with
+ * only one method (c, <{f}, {f}, {}>). Here f is contained in eff+(c) but it is
+ * also needed to execute c."
+ *
+ * So f is in eff+ and prec, and with them in poss-eff+ and poss-prec; nothing
+ * deletes it. One fact can change.
+ */
+static void needed_and_added(void)
+{
+    struct card c = {flags(1), FACT(1), FACT(1), FACT(1), none, FACT(1), none};
+    domain(2, 1, 1);
+    action(FACT(1), FACT(1), none);
+    compound();
+    method("a1");
+    fill("000, first remark");
+    card_is("000, first remark", 1, c);
+}
+
+/*
+ * 000, after the relaxation, the second remark: "if c does not have an
+ * executable refinement .. the relaxed versions may contain facts. This can be
+ * seen, e.g., if c has only one method containing only the two actions
+ * ({}, {}, {f1}) and ({f1}, {f2}, {}), which are ordered as given. Here,
+ * eff+(c) = {f2} but this sequence of tasks is never executable."
+ *
+ * f2 is in poss-eff+ with that. f1 is deleted, and never added: it is in eff-
+ * and poss-eff-. It is needed, and no action before adds it: by Definition 6 of
+ * 001 it is in prec, and in poss-prec. Two facts can change.
+ */
+static void never_executable(void)
+{
+    struct card c = {flags(2), FACT(1), FACT(1), FACT(2),
+                     FACT(1),  FACT(2), FACT(1)};
+    domain(3, 2, 1);
+    action(none, none, FACT(1));
+    action(FACT(1), FACT(2), none);
+    compound();
+    method("a1 a2");
+    fill("000, second remark");
+    card_is("000, second remark", 1, c);
+}
+
+/*
+ * 001, Figures 1 and 2. What the text says of them:
+ *
+ *   c1 "has two refinements (using either m1 or m2) with two primitive tasks
+ *   each"; "executing <a1, a2> .. in the state s = {f1, f2} results in the
+ *   state {f2, f3, f4}"; "f3, f4, f6 and f7 are possible positive effects of
+ *   c1, f1, f2, and f5 are possible negative effects. Since only f3 is added by
+ *   both refinements, it is the only guaranteed effect"; the precondition of c1
+ *   "would be f2".
+ *
+ *   c2 "has three refinements <a1, a2, a5>, <a3, a4, a5>, and <a6>";
+ *   "<a3, a4, a5> will never be executable since a3 deletes f5, the
+ *   precondition of a5"; exactly, eff+(c2) = {f4} and poss-eff+(c2) =
+ *   {f3, f4, f6}; relaxed, eff+(c2) = {} and poss-eff+(c2) = {f3, f4, f6, f7};
+ *   "The set of (relaxed) preconditions of c2 is empty because of m4."
+ *
+ * The actions below fit that. <a1, a2> in {f1, f2}: a1 gives {f2, f3}, a2 then
+ * {f2, f3, f4}. m1 needs f1 and f2, m2 needs f2. m1 adds f3 and f4 and deletes
+ * f1, m2 adds f3, f6 and f7 and deletes f2 and f5. Of c2, <a1, a2, a5> and <a6>
+ * alone are executable: both add f4, the first f3 and f6 too, and neither f7.
+ * <a3, a4, a5> does not add f4, and a6 adds nothing else.
+ *
+ * The rest of the cards. a1 needs f1, a2 and a3 need f2, and no action before
+ * adds these: poss-prec(c1) = {f1, f2}. a5 needs f5, which a3 deletes and does
+ * not add: poss-prec(c2) = {f1, f2, f5}. a5 and a6 add nothing that m1 or m2
+ * deletes, and delete nothing: poss-eff-(c2) = poss-eff-(c1), and eff- is empty
+ * for both, since m1 and m2 delete no fact in common. So 7 facts can change.
+ */
+static void figures_1_and_2(void)
+{
+    uint64_t plus = FACT(3) | FACT(4) | FACT(6) | FACT(7);
+    uint64_t minus = FACT(1) | FACT(2) | FACT(5);
+    struct card c1 = {flags(7), FACT(2), FACT(1) | FACT(2), plus,
+                      minus,    FACT(3), none};
+    struct card c2 = {flags(7), none, FACT(1) | FACT(2) | FACT(5), plus,
+                      minus,    none, none};
+    domain(8, 6, 2);
+    action(FACT(1), FACT(3), FACT(1));
+    action(FACT(2), FACT(4), none);
+    action(FACT(2), FACT(6), FACT(5));
+    action(none, FACT(3) | FACT(7), FACT(2));
+    action(FACT(5), FACT(6), none);
+    action(none, FACT(4), none);
+    compound(); /* c1: m1, m2 */
+    method("a1 a2");
+    method("a3 a4");
+    compound(); /* c2: m3, m4 */
+    method("c1 a5");
+    method("a6");
+    fill("001, Figures 1 and 2");
+    card_is("001, Figure 1, c1", 1, c1);
+    card_is("001, Figure 2, c2", 2, c2);
+    /* f4 is not guaranteed: m2 does not add it, and <a3, a4, a5> of m3 not */
+    untouched_by("001, Figure 1, c1", 1, DULIMOVEN_LAST_UNTOUCHED, 4, 1);
+    untouched_by("001, Figure 2, c2", 2, DULIMOVEN_LAST_UNTOUCHED, 4, 0);
+    /* "because of m4" */
+    untouched_by("001, Figure 2, c2", 2, DULIMOVEN_FIRST_UNTOUCHED, 2, 1);
+}
+
+/*
+ * 001, section 3.3.1 with Figure 3. What the text says of it:
+ *
+ *   "poss-eff+(c) = {f1, f2, f3}, poss-eff-(c) = {f2}, eff+(c) = {f3}, and
+ *   eff-(c) = {}"; c has the methods m1 and m2; "tn7 can be reached from
+ *   compound task c1 and does also contain c1 again"; "Only the primitive task
+ *   in tn1 adds (or deletes) f1", and "c can be refined into an empty task
+ *   network using m2" in the domain restricted to f1; "the rightmost task in
+ *   tn2 is primitive", so that for f2 c5 is removed, "making tn3 no longer
+ *   reachable", and f2 is possible positive and negative "as it can be
+ *   decomposed into tn2 or tn4"; for f3 "We remove c5 in tn2 and in tn5 we
+ *   remove the leftmost (primitive) task since c1 does not admit an empty
+ *   refinement", an action of tn2 adds f3, no task network that is left deletes
+ *   it, and "c does not admit an empty refinement".
+ *
+ * The domain below fits that: c is compound task 6 with m1 = <c3, c4> and
+ * m2 = tn5; a1 to a6 are the actions of tn1 to tn6. a3 and a5 delete what is
+ * cut off. No action has a precondition.
+ */
+static void figure_3(void)
+{
+    uint64_t plus = FACT(1) | FACT(2) | FACT(3);
+    struct card c = {flags(3), none, none, plus, FACT(2), FACT(3), none};
+    domain(4, 6, 6);
+    action(none, FACT(1), none);
+    action(none, FACT(2) | FACT(3), none);
+    action(none, none, FACT(2) | FACT(3));
+    action(none, FACT(3), FACT(2));
+    action(none, none, FACT(3));
+    action(none, FACT(3), none);
+    compound(); /* c1: tn6, tn7 */
+    method("a6 c2");
+    method("c2 c1");
+    compound(); /* c2 */
+    method("");
+    compound(); /* c3: tn1 */
+    method("a1");
+    compound(); /* c4: tn2, tn4 */
+    method("c5 a2");
+    method("a4");
+    compound(); /* c5: tn3 */
+    method("a3");
+    compound(); /* c: m1, m2 with tn5 */
+    method("c3 c4");
+    method("a5 c1 c2");
+    fill("001, Figure 3");
+    card_is("001, Figure 3, c", 6, c);
+    /* "using m2" */
+    untouched_by("001, Figure 3, c", 6, DULIMOVEN_LAST_UNTOUCHED, 1, 1);
+}
+
+/*
+ * 001, Appendix A.1, Figure 10a: "The fact f1 is included in eff+(c1) because
+ * f1 holds after the execution of both a1 and a2, and it is not a mandatory
+ * precondition. However, f1 is not actually added by a1 .. This is accurately
+ * reflected in the relaxed version, where f1 is not in eff+(c1)."
+ *
+ * The two methods are <a1> and <a2>: f1 holds after a1, which does not add it,
+ * since a1 needs it; a2 adds it. So f1 is in poss-eff+ and poss-prec, and by a2
+ * not in prec.
+ */
+static void figure_10a(void)
+{
+    struct card c1 = {flags(1), none, FACT(1), FACT(1), none, none, none};
+    domain(2, 2, 1);
+    action(FACT(1), none, none);
+    action(none, FACT(1), none);
+    compound();
+    method("a1");
+    method("a2");
+    fill("001, Figure 10a");
+    card_is("001, Figure 10a, c1", 1, c1);
+    untouched_by("001, Figure 10a, c1", 1, DULIMOVEN_LAST_UNTOUCHED, 1, 0);
+}
+
+/*
+ * 001, Appendix A.1, Figure 10b: "a method containing two primitive tasks ..
+ * The fact f1 is required as a precondition for a1 and is additionally added by
+ * a3. .. In the relaxed version, however, f1 is considered an effect, i.e.,
+ * f1 in eff+(m3)."
+ *
+ * m3 = <a1, a3> is the one method of a task here, and a3 is its second action:
+ * f1 is in eff+ and prec, and with them in poss-eff+ and poss-prec.
+ */
+static void figure_10b(void)
+{
+    struct card m3 = {flags(1), FACT(1), FACT(1), FACT(1), none, FACT(1), none};
+    domain(2, 2, 1);
+    action(FACT(1), none, none);
+    action(none, FACT(1), none);
+    compound();
+    method("a1 a2");
+    fill("001, Figure 10b");
+    card_is("001, Figure 10b, m3", 1, m3);
+}
+
+int main(void)
+{
+    needed_and_added();
+    never_executable();
+    figures_1_and_2();
+    figure_3();
+    figure_10a();
+    figure_10b();
+    printf("papers_test: %u checks, %u failed\n", ran, failed);
+    return failed == 0 ? 0 : 1;
+}

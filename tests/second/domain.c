@@ -1,0 +1,78 @@
+/*
+ * Reads the domain of an accepted image, and what its actions do with a fact.
+ */
+#include "domain.h"
+
+static void begin_method(struct domain *d, uint32_t c)
+{
+    struct method *m = &d->method[d->methods++];
+    m->c = (uint16_t)c;
+    m->begin = m->end = (uint16_t)d->tasks;
+}
+
+/* Puts a task at the end of the last method's task network. */
+static void put_task(struct domain *d, uint32_t number, int is_action)
+{
+    struct task *t = &d->task[d->tasks++];
+    t->number = (uint16_t)number;
+    t->is_action = (uint16_t)is_action;
+    d->method[d->methods - 1].end = (uint16_t)d->tasks;
+}
+
+void read_domain(const uint32_t *image, size_t length, struct domain *d)
+{
+    uint32_t c = 0;
+    size_t i;
+    d->facts = facts_of(image[0]);
+    d->actions = steps_of(image[0]);
+    d->compounds = sequences_of(image[0]);
+    d->methods = d->tasks = 0;
+    for (i = 1; i + 1 < length; i++) {
+        uint32_t p = payload_of(image[i]);
+        switch (kind_of(image[i])) {
+        case KIND_SEQUENCE:
+            c = p;
+            break;
+        case KIND_ALTERNATIVE:
+            begin_method(d, c);
+            break;
+        case KIND_STEP_ENTRY:
+            put_task(d, p, 1);
+            break;
+        case KIND_SEQUENCE_ENTRY:
+            put_task(d, p, 0);
+            break;
+        }
+    }
+}
+
+/*
+ * What a fact word of kind `kind` adds to what the words before it say: they
+ * stand in the order needs, sets, clears, which decides the ties.
+ */
+static unsigned says(unsigned before, uint32_t kind)
+{
+    if (kind == KIND_NEEDS)
+        return PREC;
+    if (kind == KIND_SETS)
+        return before & PREC ? ADD : ADD | FIRST_ADD;
+    return before & ADD ? 0 : DEL;
+}
+
+void read_actions(const uint32_t *image, size_t length, uint32_t f,
+                  struct actions *a)
+{
+    uint8_t *now = a->does;
+    size_t i;
+    for (i = 1; i + 1 < length; i++) {
+        uint32_t word = image[i];
+        if (kind_of(word) == KIND_SEQUENCE)
+            return;
+        if (kind_of(word) == KIND_STEP) {
+            now = &a->does[payload_of(word)];
+            *now = 0;
+        } else if (payload_of(word) == f) {
+            *now |= (uint8_t)says(*now, kind_of(word));
+        }
+    }
+}
