@@ -8,10 +8,10 @@ use mathlib.Core.List.{List, [], _∷_}
 use borrow.Author.Tests.{ne-eqb}
 use Rattle.general.specs.Tests.{All}
 use Rattle.reader.specs.Checked.{scan, checked}
-use Rattle.library.specs.Library.{Library, has, libraryOf}
+use Rattle.library.specs.Library.{Library, has, libraryOf, Item, step}
 use Rattle.rules.specs.Rules.{opened, lastOf}
 use Rattle.image.specs.Word.{total}
-use Rattle.runs.specs.Run.{Item, Run, Gives, nothing, by-step, by-call, alternativeOf}
+use Rattle.runs.specs.Run.{Run, Gives, nothing, by-item, by-call, alternativeOf}
 use Rattle.runs.specs.Execution.{Fact, State, Executes, end}
 use Rattle.runs.specs.Possible.{possible}
 use Rattle.cards.specs.Card.{card, cards}
@@ -38,55 +38,55 @@ need-zero K s below stands (suc f) e =
 
 -- ---- the runs of the samples
 
-both-steps : Holds (executes L 1 (0 ∷ 1 ∷ []) [] (0 ∷ 1 ∷ []))
+both-steps : Holds (executes L 1 (step 0 ∷ step 1 ∷ []) [] (0 ∷ 1 ∷ []))
 unfolding libraryOf has
 both-steps = (
-  record { alternative = 0; listed = omega arith; given = by-call {c = 0} 0 (omega arith) (by-step nothing) (by-step nothing) refl },
+  record { alternative = 0; listed = omega arith; given = by-call {c = 0} 0 (omega arith) (by-item nothing) (by-item nothing) refl },
   (
     no-need (libraryOf L) (standing (libraryOf L) []),
-    (need-zero (libraryOf L) (end (libraryOf L) (0 ∷ []) (standing (libraryOf L) [])) (omega arith) refl, tt),
+    (need-zero (libraryOf L) (end (libraryOf L) (step 0 ∷ []) (standing (libraryOf L) [])) (omega arith) refl, tt),
   ),
   ends,
 )
   where
-    ends : (f : Fact (libraryOf L)) → end (libraryOf L) (0 ∷ 1 ∷ []) (standing (libraryOf L) []) f ≡ has (f .0) (0 ∷ 1 ∷ [])
+    ends : (f : Fact (libraryOf L)) → end (libraryOf L) (step 0 ∷ step 1 ∷ []) (standing (libraryOf L) []) f ≡ has (f .0) (0 ∷ 1 ∷ [])
     ends (zero, low) = refl
     ends (suc zero, low) = refl
     ends (suc (suc zero), low) = refl
     ends (suc (suc (suc f)), low) = absurd (omega arith)
 
 -- <step 1>, with sequence 0 by its empty alternative
-second-step : Run (libraryOf L) 1 (1 ∷ [])
+second-step : Run (libraryOf L) 1 (step 1 ∷ [])
 unfolding libraryOf has
-second-step = record { alternative = 0; listed = omega arith; given = by-call {c = 0} 1 (omega arith) nothing (by-step nothing) refl }
+second-step = record { alternative = 0; listed = omega arith; given = by-call {c = 0} 1 (omega arith) nothing (by-item nothing) refl }
 
-second-fails : Holds (fails L 1 (1 ∷ []) [])
+second-fails : Holds (fails L 1 (step 1 ∷ []) [])
 unfolding libraryOf has
 second-fails = (second-step, λ executing. false≢true (executing .0 0 refl .1))
 
-second-executes : Holds (executes L 1 (1 ∷ []) (0 ∷ []) (0 ∷ 1 ∷ []))
+second-executes : Holds (executes L 1 (step 1 ∷ []) (0 ∷ []) (0 ∷ 1 ∷ []))
 unfolding libraryOf has
 second-executes = (second-step, (need-zero (libraryOf L) (standing (libraryOf L) (0 ∷ [])) (omega arith) refl, tt), ends)
   where
-    ends : (f : Fact (libraryOf L)) → end (libraryOf L) (1 ∷ []) (standing (libraryOf L) (0 ∷ [])) f ≡ has (f .0) (0 ∷ 1 ∷ [])
+    ends : (f : Fact (libraryOf L)) → end (libraryOf L) (step 1 ∷ []) (standing (libraryOf L) (0 ∷ [])) f ≡ has (f .0) (0 ∷ 1 ∷ [])
     ends (zero, low) = refl
     ends (suc zero, low) = refl
     ends (suc (suc zero), low) = refl
     ends (suc (suc (suc f)), low) = absurd (omega arith)
 
-clear-executes : Holds (executes endlessFirst 0 (1 ∷ []) (0 ∷ []) [])
+clear-executes : Holds (executes endlessFirst 0 (step 1 ∷ []) (0 ∷ []) [])
 unfolding libraryOf has
-clear-executes = (record { alternative = 1; listed = omega arith; given = by-step nothing }, (no-need (libraryOf endlessFirst) (standing (libraryOf endlessFirst) (0 ∷ [])), tt), ends)
+clear-executes = (record { alternative = 1; listed = omega arith; given = by-item nothing }, (no-need (libraryOf endlessFirst) (standing (libraryOf endlessFirst) (0 ∷ [])), tt), ends)
   where
-    ends : (f : Fact (libraryOf endlessFirst)) → end (libraryOf endlessFirst) (1 ∷ []) (standing (libraryOf endlessFirst) (0 ∷ [])) f ≡ has (f .0) []
+    ends : (f : Fact (libraryOf endlessFirst)) → end (libraryOf endlessFirst) (step 1 ∷ []) (standing (libraryOf endlessFirst) (0 ∷ [])) f ≡ has (f .0) []
     ends (zero, low) = refl
     ends (suc f, low) = absurd (omega arith)
 
-pulse-executes : Holds (executes pulse 0 (0 ∷ []) [] (0 ∷ []))
+pulse-executes : Holds (executes pulse 0 (step 0 ∷ []) [] (0 ∷ []))
 unfolding libraryOf has
-pulse-executes = (record { alternative = 0; listed = omega arith; given = by-step nothing }, (no-need (libraryOf pulse) (standing (libraryOf pulse) []), tt), ends)
+pulse-executes = (record { alternative = 0; listed = omega arith; given = by-item nothing }, (no-need (libraryOf pulse) (standing (libraryOf pulse) []), tt), ends)
   where
-    ends : (f : Fact (libraryOf pulse)) → end (libraryOf pulse) (0 ∷ []) (standing (libraryOf pulse) []) f ≡ has (f .0) (0 ∷ [])
+    ends : (f : Fact (libraryOf pulse)) → end (libraryOf pulse) (step 0 ∷ []) (standing (libraryOf pulse) []) f ≡ has (f .0) (0 ∷ [])
     ends (zero, low) = refl
     ends (suc f, low) = absurd (omega arith)
 
@@ -96,7 +96,7 @@ cleared : (b : Bool) → (b && false || false) ≡ false
 cleared true = refl
 cleared false = refl
 
-never-twice : (s : State (libraryOf clearThenNeed)) → ¬ Executes (libraryOf clearThenNeed) (0 ∷ 1 ∷ []) s
+never-twice : (s : State (libraryOf clearThenNeed)) → ¬ Executes (libraryOf clearThenNeed) (step 0 ∷ step 1 ∷ []) s
 unfolding libraryOf has
 never-twice s executing = let (low, stands) = executing .1 .0 0 refl in false≢true (sym (cleared (s (0, low))) ∙ stands)
 
@@ -106,13 +106,13 @@ never-executes w run s executing = go (run .alternative) (run .listed) w (run .g
   where
     go : (i : ℕ) → i < 1 → (v : List Item) → Gives (libraryOf clearThenNeed .sequences) (alternativeOf (libraryOf clearThenNeed .sequences) 0 i) v
         → ¬ Executes (libraryOf clearThenNeed) v s
-    go zero l v (by-step (by-step nothing)) ex = never-twice s ex
+    go zero l v (by-item (by-item nothing)) ex = never-twice s ex
     go (suc i) l v given ex = absurd (omega arith)
 
-need-fails : Holds (fails clearThenNeed 0 (0 ∷ 1 ∷ []) (0 ∷ []))
+need-fails : Holds (fails clearThenNeed 0 (step 0 ∷ step 1 ∷ []) (0 ∷ []))
 unfolding libraryOf has
 need-fails =
-    (record { alternative = 0; listed = omega arith; given = by-step (by-step nothing) }, never-twice (standing (libraryOf clearThenNeed) (0 ∷ [])))
+    (record { alternative = 0; listed = omega arith; given = by-item (by-item nothing) }, never-twice (standing (libraryOf clearThenNeed) (0 ∷ [])))
 
 -- ---- the one fact
 

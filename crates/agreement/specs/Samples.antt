@@ -7,8 +7,8 @@ use Prim.Native.String as string
 use mathlib.Core.Path.{_≡_}
 use mathlib.Core.List.{List, [], _∷_, _++_}
 use lib.ListN.{length, replicate}
-use Rattle.library.specs.Library.{Library, has, libraryOf}
-use Rattle.runs.specs.Run.{Item, Run}
+use Rattle.library.specs.Library.{Library, has, libraryOf, Item, step}
+use Rattle.runs.specs.Run.{Run}
 use Rattle.runs.specs.Execution.{Fact, State, Executes, end}
 use Rattle.cards.specs.Card.{cardWords}
 use Rattle.card_text.specs.Print.{printed}
@@ -118,9 +118,9 @@ starred =
     ∷ chains L 2 2 0 spare 0 spare
     -- the runs of L's sequence 1: <step 0, step 1> executes where nothing stands, since step 0 sets what step 1 needs, and leaves facts 0 and 1
     -- standing; <step 1>, with the empty alternative, does not, and does where fact 0 stands
-    ∷ executes L 1 (0 ∷ 1 ∷ []) [] (0 ∷ 1 ∷ [])
-    ∷ fails L 1 (1 ∷ []) []
-    ∷ executes L 1 (1 ∷ []) (0 ∷ []) (0 ∷ 1 ∷ [])
+    ∷ executes L 1 (step 0 ∷ step 1 ∷ []) [] (0 ∷ 1 ∷ [])
+    ∷ fails L 1 (step 1 ∷ []) []
+    ∷ executes L 1 (step 1 ∷ []) (0 ∷ []) (0 ∷ 1 ∷ [])
     -- "10000001 f0000002 is accepted and prints nothing"
     ∷ accepts bare 1 0 0
     ∷ fills bare []
@@ -133,12 +133,12 @@ starred =
     -- "Alternatives <set f, L's kind of endless sequence> and <clear f>: always cleared." It may clear f, so one fact is changeable
     ∷ fills endlessFirst ((0x101 ∷ 0 ∷ 0 ∷ 0 ∷ 1 ∷ 0 ∷ 1 ∷ []) ∷ (0 ∷ 0 ∷ 0 ∷ 0 ∷ 0 ∷ 0 ∷ 0 ∷ []) ∷ [])
     -- the step that clears f takes it away
-    ∷ executes endlessFirst 0 (1 ∷ []) (0 ∷ []) []
+    ∷ executes endlessFirst 0 (step 1 ∷ []) (0 ∷ []) []
     -- "Alternative <clear f, need f>: always needed, though no run executes." It may need f, and always clears it. That no run executes from any
     -- state is `never-executes` (proofs/Samples)
     ∷ fills clearThenNeed ((0x101 ∷ 1 ∷ 1 ∷ 0 ∷ 1 ∷ 0 ∷ 1 ∷ []) ∷ [])
-    ∷ fails clearThenNeed 0 (0 ∷ 1 ∷ []) (0 ∷ [])
+    ∷ fails clearThenNeed 0 (step 0 ∷ step 1 ∷ []) (0 ∷ [])
     -- "One step sets and clears f: always set, not may clear."
     ∷ fills pulse ((0x101 ∷ 0 ∷ 0 ∷ 1 ∷ 0 ∷ 1 ∷ 0 ∷ []) ∷ [])
-    ∷ executes pulse 0 (0 ∷ []) [] (0 ∷ [])
+    ∷ executes pulse 0 (step 0 ∷ []) [] (0 ∷ [])
     ∷ []

@@ -12,8 +12,8 @@ use Rattle.column.specs.Column.{bit}
 use Rattle.column.specs.Sets.{inColumn, countBelow}
 use Rattle.column.proofs.Bits.{bit-zero, bit-suc, bit-none, bit-high, column-same, column-none}
 use Rattle.column.proofs.Operations.{bit-one, bit-null, in-column, column-high, count-le, count-same, count-none}
-use Rattle.library.specs.Library.{Library}
-use Rattle.runs.specs.Run.{Item, Run}
+use Rattle.library.specs.Library.{Library, Item}
+use Rattle.runs.specs.Run.{Run}
 use Rattle.runs.specs.Execution.{Fact, State, Executes}
 use Rattle.runs.specs.Touch.{Question, HasOutcome, untouched, lastSet, lastCleared, firstNeeded}
 use Rattle.runs.specs.Possible.{possibleOutcome, alwaysOutcome, hasRun, hasEmptyRun, brokenRule, questionColumn, emptyColumn}

@@ -8,8 +8,8 @@ use mathlib.Core.List.{List, []}
 use lib.ListN.{getD}
 use Rattle.column.specs.Column.{bit}
 use Rattle.column.specs.Sets.{inColumn, countBelow}
-use Rattle.library.specs.Library.{Library}
-use Rattle.runs.specs.Run.{Item, Run}
+use Rattle.library.specs.Library.{Library, Item}
+use Rattle.runs.specs.Run.{Run}
 use Rattle.runs.specs.Execution.{Fact, State, Executes, end}
 use Rattle.runs.specs.Touch.{Question, HasOutcome, lastSet, lastCleared, firstNeeded}
 use Rattle.runs.specs.Published.{prec∅, poss-prec∅, eff*∅+, eff*∅-, poss-eff*∅+, poss-eff*∅-}

@@ -14,9 +14,9 @@ use lib.Dec.{eqb, ltb}
 use borrow.Author.Tests.{ltb-true, lt-ltb, le-ltb}
 use Rattle.column.specs.Sets.{inColumn}
 use Rattle.column.proofs.Operations.{in-column}
-use Rattle.library.specs.Library.{has, Library, Step, Alternative, Entry, step, call}
+use Rattle.library.specs.Library.{has, Library, Step, Alternative, Entry, step, item, call, Item}
 use Rattle.library.specs.Tables.{maskOf}
-use Rattle.runs.specs.Run.{Item, alternativesOf}
+use Rattle.runs.specs.Run.{alternativesOf}
 use Rattle.runs.specs.Execution.{noStep, stepOf}
 use Rattle.runs.specs.Touch.{Side, last, first, Mark, present, absent, untouched, Question, touch, itemTouch}
 use Rattle.runs.specs.Algebra.{sameMark}
@@ -72,25 +72,25 @@ module _ (L : Library) (q : Asked) (Q : Question) (masks : List ℕ) (asks : Ask
       let low : asked < 64 = omega (arith, asks .fact, masked .narrow) in
       ap (λ (x : ℕ). inColumn x asked) e ∙ in-column 64 (λ (g : ℕ). has g facts) asked low
 
-  step-mark : (a : ℕ) → stepMark q masks a ≡ markNumber (itemTouch L (Q .side) asked a)
+  step-mark : (a : ℕ) → stepMark q masks a ≡ markNumber (itemTouch L (Q .side) asked (step a))
   step-mark a =
-      let n = mask-has (getD masks (3 * a) 0) (stepOf L a .needs) (masked .needs a) in
-      let s = mask-has (getD masks (3 * a + 1) 0) (stepOf L a .sets) (masked .sets a) in
-      let k = mask-has (getD masks (3 * a + 2) 0) (stepOf L a .clears) (masked .clears a) in
+      let n = mask-has (getD masks (3 * a) 0) (stepOf L (step a) .needs) (masked .needs a) in
+      let s = mask-has (getD masks (3 * a + 1) 0) (stepOf L (step a) .sets) (masked .sets a) in
+      let k = mask-has (getD masks (3 * a + 2) 0) (stepOf L (step a) .clears) (masked .clears a) in
       rw (asks .first, n, s, k) (go (Q .side))
     where
       go : (s : Side)
-          → cond (isFirst s) (cond (has asked (stepOf L a .needs)) 0 (cond (has asked (stepOf L a .sets)) 1 2))
-          (cond (has asked (stepOf L a .sets)) 0 (cond (has asked (stepOf L a .clears)) 1 2))
-          ≡ markNumber (itemTouch L s asked a)
-      go last = cond-mark (has asked (stepOf L a .sets)) (has asked (stepOf L a .clears))
-      go first = cond-mark (has asked (stepOf L a .needs)) (has asked (stepOf L a .sets))
+          → cond (isFirst s) (cond (has asked (stepOf L (step a) .needs)) 0 (cond (has asked (stepOf L (step a) .sets)) 1 2))
+          (cond (has asked (stepOf L (step a) .sets)) 0 (cond (has asked (stepOf L (step a) .clears)) 1 2))
+          ≡ markNumber (itemTouch L s asked (step a))
+      go last = cond-mark (has asked (stepOf L (step a) .sets)) (has asked (stepOf L (step a) .clears))
+      go first = cond-mark (has asked (stepOf L (step a) .needs)) (has asked (stepOf L (step a) .sets))
 
-  mark-is : (a : Item) → markIn false q masks a ≡ hasMark L Q asked a
-  mark-is a = rw (step-mark a, asks .mark) (same-number (itemTouch L (Q .side) asked a) (Q .mark))
+  mark-is : (a : ℕ) → markIn false q masks a ≡ hasMark L Q asked (step a)
+  mark-is a = rw (step-mark a, asks .mark) (same-number (itemTouch L (Q .side) asked (step a)) (Q .mark))
 
   -- a step past the library's touches nothing
-  pub mark-past : (a : Item) → length (L .steps) ≤ a → hasMark L Q asked a ≡ sameMark untouched (Q .mark)
+  pub mark-past : (a : ℕ) → length (L .steps) ≤ a → hasMark L Q asked (step a) ≡ sameMark untouched (Q .mark)
   mark-past a le =
       ap (λ (m : Mark). sameMark m (Q .mark))
       (ap (λ (s : Step). touch (Q .side) s asked) (List·getD-eq-default (L .steps) noStep {n = a} le) ∙ no-touch (Q .side) asked)
@@ -129,13 +129,13 @@ module _ (none past : ℕ) (test : Item → Bool) (T : List ℕ) (steps : StepsB
   rank-is = fun-ext go
     where
       go : (e : Entry) → rankIn none past T e ≡ entryRank none test (inRanks none T) e
-      go (step a) = steps a
+      go (item (step a)) = steps a
       go (call d) = refl
 
 -- an entry has a rank exactly where it passes, where a sequence has one exactly where it passes
 pub pass-is : (none : ℕ) → 0 < none → (test : Item → Bool) (run : ℕ → Bool) (T : List ℕ) → StepsBy none 0 test T
     → ((d : ℕ) → ltb (inRanks none T d) none ≡ run d) → (e : Entry) → passIn none T e ≡ entryPasses test run e
-pass-is n some test run T steps ranked (step a) = ap (λ (r : ℕ). ltb r n) (steps a) ∙ go (test a)
+pass-is n some test run T steps ranked (item (step a)) = ap (λ (r : ℕ). ltb r n) (steps a) ∙ go (test (step a))
   where
     go : (b : Bool) → ltb (cond b 0 n) n ≡ b
     go true = lt-ltb 0 n some
@@ -244,9 +244,9 @@ module _ (L : Library) (q : Asked) (Q : Question) (asks : Asks L q Q) where
             → ((d : ℕ) → T d ≡ k → linksIn (q .none) ahead behind ranks part places k d ≡ linksFrom L Q f T k d)
             → linksIn (q .none) ahead behind ranks part places k (entryNumber e) ≡ followed e (λ d. linksFrom L Q f T k d)
         unfolding linksIn linksFrom
-        after-is zero low (step a) e rest = refl
-        after-is (suc k) low (step a) e rest =
-            let z = step-rank (unranked L) (hasMark L Q f a) (step-passes (unranked L) (hasMark L Q f a) (omega arith)) in
+        after-is zero low (item (step a)) e rest = refl
+        after-is (suc k) low (item (step a)) e rest =
+            let z = step-rank (unranked L) (hasMark L Q f (step a)) (step-passes (unranked L) (hasMark L Q f (step a)) (omega arith)) in
             absurd (omega arith)
         after-is k low (call d) e rest = rest d e
 

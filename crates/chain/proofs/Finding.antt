@@ -13,7 +13,7 @@ use lib.Seq.{getD-drop, getD-take, ext-getD, length-take-le}
 use Rattle.column.proofs.Bits.{column-none}
 use Rattle.reader.specs.Checked.{checked}
 use Rattle.rules.specs.Rules.{opened}
-use Rattle.library.specs.Library.{Library, Step, Entry, alternativesFrom, stepsFrom, stepsPart, sequencesPart, libraryOf}
+use Rattle.library.specs.Library.{Library, Step, Entry, alternativesFrom, stepsFrom, stepsPart, sequencesPart, libraryOf, Item, step}
 use Rattle.general.specs.Tests.{All}
 use Rattle.library.specs.Accepted.{SequenceWord, Counted}
 use Rattle.library.specs.Tables.{StepsAsked, SequencesAsked, maskOf, masks, placesFrom}
@@ -27,7 +27,7 @@ use Rattle.settling.specs.Passes.{Blank, Complete}
 use Rattle.outcome.specs.Area.{TableAsked, Prepared, libraryIn}
 use Rattle.runs.specs.Execution.{noStep, stepOf}
 use Rattle.runs.specs.Possible.{hasRun, possibleOutcome}
-use Rattle.runs.specs.Run.{Item, RunOf, alternativesOf}
+use Rattle.runs.specs.Run.{RunOf, alternativesOf}
 use Rattle.settling.proofs.Visits.{blank-zeros}
 use Rattle.outcome.proofs.Fill.{fill-asked, prepare-asked}
 use Rattle.runs.proofs.Outcome.{present≢untouched, absent≢untouched}
@@ -223,7 +223,7 @@ module _ (image : List ℕ) (h : Head) (accepted : checked image ≡ Accepted h)
   masks-made : Masked L ms
   masks-made =
       let has = counted image h accepted in
-      let steps : (a : ℕ) → getD (stepsFrom (stepsPart image)) a noStep ≡ stepOf L a = λ a. ap (λ (M : Library). stepOf M a) (sym library-made) in
+      let steps : (a : ℕ) → getD (stepsFrom (stepsPart image)) a noStep ≡ stepOf L (step a) = λ a. ap (λ (M : Library). stepOf M (step a)) (sym library-made) in
       let words = step-words (stepsFrom (stepsPart image)) (made .past-masks) (made .blank-masks) in
       record {
         narrow = omega (arith, has .facts, faultless image h accepted .facts-high);
@@ -328,7 +328,7 @@ module _ (image : List ℕ) (h : Head) (accepted : checked image ≡ Accepted h)
 
     steps-stay : (past : ℕ) (test : Item → Bool) (T : List ℕ) → drop m T ≡ drop m (ranked .start) → StepsBy (p .none) past test (ranked .start) → StepsBy m past test T
     steps-stay past test T same steps a =
-        ap (λ (l : List ℕ). getD l a past) (same ∙ ap (λ (n : ℕ). drop n (ranked .start)) (sym p-none)) ∙ steps a ∙ ap (cond (test a) 0) p-none
+        ap (λ (l : List ℕ). getD l a past) (same ∙ ap (λ (n : ℕ). drop n (ranked .start)) (sym p-none)) ∙ steps a ∙ ap (cond (test (step a)) 0) p-none
 
     -- by a look that the tables have, where the ranks of the steps are those that are written
     module _ (look : Look) (looks : (T : List ℕ) → drop m T ≡ drop m (ranked .start) → lookIn q ahead behind T ≡ look (inRanks m T)) where

@@ -7,12 +7,12 @@ use mathlib.Core.Logic.{_≢_}
 use mathlib.Core.List.{List, [], _∷_, _++_}
 use lib.ListN.{length, getD, drop}
 use Rattle.reader.specs.Checked.{checked}
-use Rattle.library.specs.Library.{Library, Entry, stepsFrom, stepsPart, sequencesPart}
+use Rattle.library.specs.Library.{Library, Entry, stepsFrom, stepsPart, sequencesPart, Item, step}
 use Rattle.image.specs.declared.answer.Head.{Head}
 use Rattle.image.specs.declared.answer.Checked.the-variants.{Accepted}
 use Rattle.library.specs.Tables.{maskOf, masks, placesFrom}
 use Rattle.settling.specs.Passes.{Blank, Complete}
-use Rattle.runs.specs.Run.{Item, alternativesOf}
+use Rattle.runs.specs.Run.{alternativesOf}
 use Rattle.runs.specs.Execution.{stepOf}
 use Rattle.runs.specs.Touch.{Side, last, first, Mark, present, absent, untouched, Question}
 use Rattle.chains.specs.Ranks.{unranked, aheadOf, behindOf}
@@ -40,9 +40,9 @@ pub record Asks (L : Library) (q : Asked) (Q : Question) : Type 0 where
 -- the masks are those of the library's steps
 pub record Masked (L : Library) (masks : List ℕ) : Type 0 where
   pub narrow : L .facts ≤ 64
-  pub needs : (a : ℕ) → getD masks (3 * a) 0 ≡ maskOf (stepOf L a .needs)
-  pub sets : (a : ℕ) → getD masks (3 * a + 1) 0 ≡ maskOf (stepOf L a .sets)
-  pub clears : (a : ℕ) → getD masks (3 * a + 2) 0 ≡ maskOf (stepOf L a .clears)
+  pub needs : (a : ℕ) → getD masks (3 * a) 0 ≡ maskOf (stepOf L (step a) .needs)
+  pub sets : (a : ℕ) → getD masks (3 * a + 1) 0 ≡ maskOf (stepOf L (step a) .sets)
+  pub clears : (a : ℕ) → getD masks (3 * a + 2) 0 ≡ maskOf (stepOf L (step a) .clears)
 
 -- the words hold each sequence's alternatives where its place says
 abbrev pub Placed : Library → List ℕ → List ℕ → Type 0
@@ -50,7 +50,7 @@ Placed L part places = (c : ℕ) → c < length (L .sequences) → alternativesA
 
 -- the ranks of the steps in a table are by a test of them, with `past` for a step past the table
 abbrev pub StepsBy : ℕ → ℕ → (Item → Bool) → List ℕ → Type 0
-StepsBy none past test T = (a : ℕ) → getD (drop none T) a past ≡ cond (test a) 0 none
+StepsBy none past test T = (a : ℕ) → getD (drop none T) a past ≡ cond (test (step a)) 0 none
 
 -- the tables are the library's, where the question asks for a touch: what they say of the entries ahead of the position and of those
 -- behind it

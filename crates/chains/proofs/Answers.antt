@@ -10,8 +10,8 @@ use native.Mathlib.Nat.{eq-or-lt-of-le}
 use lib.ListN.{length}
 use lib.Dec.{ltb}
 use borrow.Author.Tests.{ltb-true, ltb-false}
-use Rattle.library.specs.Library.{Library, Entry, step, call}
-use Rattle.runs.specs.Run.{Item, Run, Gives, alternativesOf, alternativeOf}
+use Rattle.library.specs.Library.{Library, Entry, item, call, Item}
+use Rattle.runs.specs.Run.{Run, Gives, alternativesOf, alternativeOf}
 use Rattle.runs.specs.Touch.{Side, Mark, present, absent, untouched, itemTouch, Question, HasOutcome}
 use Rattle.runs.specs.Algebra.{sameMark-eq}
 use Rattle.runs.specs.Possible.{possibleOutcome}
@@ -56,7 +56,7 @@ module _ (L : Library) (q : Question) (f : ℕ) (touch : q .mark ≢ untouched) 
   -- the entry that is chosen touches, by the links after it
   entry-stands : (k : ℕ) → k < unranked L → ((d : ℕ) → T d ≡ k → Standing d k) → (e : Entry) → entryRank (unranked L) (hasMark L q f) T e ≡ k
       → (length (followed e (next k)) ≡ k) × ((g : List Item) × Touching L q f (followed e (next k)) e g)
-  entry-stands k lt rest (step a) e =
+  entry-stands k lt rest (item a) e =
       let passes = step-passes (unranked L) (hasMark L q f a) (omega arith) in
       let z = step-rank (unranked L) (hasMark L q f a) passes in
       (omega arith, (a ∷ [], (refl, refl, sameMark-eq (itemTouch L (q .side) f a) (q .mark) passes)))
@@ -97,7 +97,7 @@ module _ (L : Library) (q : Question) (f : ℕ) (touch : q .mark ≢ untouched) 
   entry-lowest : (k : ℕ) (ms : Chain) (g : List Item)
       → ((d : ℕ) → T d ≡ k → About d ms → StandsFor L q f ms g → HasOutcome L q f g → NoHigher (next k d) ms) → (e : Entry)
       → entryRank (unranked L) (hasMark L q f) T e ≡ k → Touching L q f ms e g → NoHigher (followed e (next k)) ms
-  entry-lowest k ms g rest (step a) e touching = tt
+  entry-lowest k ms g rest (item a) e touching = tt
   entry-lowest k ms g rest (call d) e (about, stands, outcome) = rest d e about stands outcome
 
   first-lowest : (k c j r : ℕ) (ms : Chain) (w : List Item) → T c ≡ suc k → suc k < unranked L → j < length (alternativesOf (L .sequences) c)

@@ -9,14 +9,14 @@ use lib.ListN.{length, drop, length-append, length-drop}
 use lib.Dec.{leb, ltb}
 use borrow.Author.Tests.{le-leb, lt-ltb, leb-true, ltb-true}
 use Rattle.reader.specs.Checked.{checked}
-use Rattle.library.specs.Library.{libraryOf}
+use Rattle.library.specs.Library.{libraryOf, Item}
 use Rattle.image.specs.declared.answer.Head.{Head}
 use Rattle.image.specs.declared.answer.Refusal.{Refusal}
 use Rattle.image.specs.declared.answer.Refusal.the-variants.{Sequence, Question, Fact, ChainArea}
 use Rattle.image.specs.declared.answer.Checked.{Checked}
 use Rattle.image.specs.declared.answer.Checked.the-variants.{Accepted, Refused}
 use Rattle.library.proofs.Accepted.{counted}
-use Rattle.runs.specs.Run.{Item, Run}
+use Rattle.runs.specs.Run.{Run}
 use Rattle.runs.specs.Touch.{questionOf, HasOutcome}
 use Rattle.runs.specs.Touch as touch
 use Rattle.chains.specs.Link.{Chain, chainWords}

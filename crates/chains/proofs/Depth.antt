@@ -7,9 +7,9 @@ use mathlib.Core.Bool.{Bool, true, false, cond, false≢true}
 use mathlib.Core.List.{List, [], _∷_, _++_}
 use native.Mathlib.Omega.{arith}
 use lib.ListN.{length}
-use Rattle.library.specs.Library.{Sequence, Entry, step, call}
+use Rattle.library.specs.Library.{Sequence, Entry, item, call, Item}
 use Rattle.general.proofs.Bools.{and-parts, and-both}
-use Rattle.runs.specs.Run.{Item, RunOf, Gives, nothing, by-step, by-call, alternativesOf, alternativeOf}
+use Rattle.runs.specs.Run.{RunOf, Gives, nothing, by-item, by-call, alternativesOf, alternativeOf}
 use Rattle.runs.proofs.Possible.{alternative-below}
 use Rattle.general.specs.Scan.{every}
 use Rattle.chains.specs.Depth.{deepest, depthOf}
@@ -50,7 +50,7 @@ module _ (S : List Sequence) (none : ℕ) (test : Item → Bool) where
       → depthLook none test T es ≤ deepest S g
   unfolding depthLook deepest every
   depth-least T closed nothing h = omega arith
-  depth-least T closed (by-step {a = a} {w = w} g) h =
+  depth-least T closed (by-item {a = a} {w = w} g) h =
       let p = and-parts (test a) (every test w) h in
       let e = step-rank none (test a) (p .0) in
       let r = depth-least T closed g (p .1) in
@@ -74,12 +74,12 @@ module _ (S : List Sequence) (none : ℕ) (test : Item → Bool) where
       → Given es (depthLook none test T es)
   unfolding depthLook deepest every
   depth-given T reached [] lt = record { list = []; derivation = nothing; passes = refl; depth = omega arith }
-  depth-given T reached (step a ∷ es) lt =
+  depth-given T reached (item a ∷ es) lt =
       let r = depth-given T reached es (omega arith) in
       let d = r .depth in
       record {
         list = a ∷ r .list;
-        derivation = by-step (r .derivation);
+        derivation = by-item (r .derivation);
         passes = and-both (test a) (every test (r .list)) (step-passes none (test a) (omega arith)) (r .passes);
         depth = omega arith;
       }
@@ -130,7 +130,7 @@ module _ (S : List Sequence) (none : ℕ) (test : Item → Bool) where
       where
         entry : (k : ℕ) → suc (suc k) < none → (e : Entry) → entryRank none test T e ≡ suc k → (d : ℕ) × (T d ≡ suc k)
         entry k lt (call d) e = (d, e)
-        entry k lt (step a) e = let z = step-rank none (test a) (step-passes none (test a) (omega arith)) in absurd (omega arith)
+        entry k lt (item a) e = let z = step-rank none (test a) (step-passes none (test a) (omega arith)) in absurd (omega arith)
 
         next : (c k : ℕ) → T c < none → T c ≡ suc (suc k) → (d : ℕ) × (T d ≡ suc k)
         next c k lt e =
@@ -147,7 +147,7 @@ module _ (S : List Sequence) (none : ℕ) (test : Item → Bool) where
       given-ranked : {es : List Entry} {w : List Item} → Gives S es w → every test w ≡ true → depthLook none test T es ≤ length S
       unfolding depthLook every
       given-ranked nothing h = omega arith
-      given-ranked (by-step {a = a} {w = w} g) h =
+      given-ranked (by-item {a = a} {w = w} g) h =
           let p = and-parts (test a) (every test w) h in
           let e = step-rank none (test a) (p .0) in
           let r = given-ranked g (p .1) in

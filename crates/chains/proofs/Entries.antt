@@ -4,9 +4,9 @@ use mathlib.Core.Path.{_≡_, refl, _∙_, ap}
 use mathlib.Core.Logic.{_↔_, ⊎-elim}
 use mathlib.Core.Bool.{Bool, true}
 use mathlib.Core.List.{List, [], _∷_, _++_, List·Memᴰ, List·Memᴰ·head, List·Memᴰ·tail, List·Memᴰ·cases-cons, List·Memᴰ·not-nil}
-use Rattle.library.specs.Library.{Library, Sequence, Entry, step, call}
+use Rattle.library.specs.Library.{Library, Sequence, Entry, item, call, Item}
 use Rattle.general.proofs.Bools.{and-parts, and-both}
-use Rattle.runs.specs.Run.{Item, RunOf, Gives, nothing, by-step, by-call}
+use Rattle.runs.specs.Run.{RunOf, Gives, nothing, by-item, by-call}
 use Rattle.runs.specs.Touch.{Side, last, first, Mark, untouched, itemTouch, decided, Question, untouchedOn, HasOutcome}
 use Rattle.runs.specs.Algebra.{sameMark, sameMark-eq}
 use Rattle.runs.specs.Possible.{hasRun, possibleOutcome}
@@ -45,10 +45,10 @@ module _ (S : List Sequence) (test : Item → Bool) (run : ℕ → Bool) (sound 
   pub passes-given : (es : List Entry) → every (entryPasses test run) es ≡ true → (w : List Item) × Gives S es w × (every test w ≡ true)
   unfolding every
   passes-given [] h = ([], nothing, refl)
-  passes-given (step a ∷ es) h =
+  passes-given (item a ∷ es) h =
       let p = and-parts (test a) (every (entryPasses test run) es) h in
       let r = passes-given es (p .1) in
-      (a ∷ r .0, by-step (r .1), and-both (test a) (every test (r .0)) (p .0) (r .2))
+      (a ∷ r .0, by-item (r .1), and-both (test a) (every test (r .0)) (p .0) (r .2))
   passes-given (call d ∷ es) h =
       let p = and-parts (run d) (every (entryPasses test run) es) h in
       let r = passes-given es (p .1) in
@@ -63,7 +63,7 @@ module _ (S : List Sequence) (test : Item → Bool) (run : ℕ → Bool)
   given-passes : {es : List Entry} {w : List Item} → Gives S es w → every test w ≡ true → every (entryPasses test run) es ≡ true
   unfolding every
   given-passes nothing h = refl
-  given-passes (by-step {a = a} {es = es} {w = w} g) h =
+  given-passes (by-item {a = a} {es = es} {w = w} g) h =
       let p = and-parts (test a) (every test w) h in
       and-both (test a) (every (entryPasses test run) es) (p .0) (given-passes g (p .1))
   given-passes (by-call {c = c} {es = es} {u = u} {v = v} i lt g g′ e) h =

@@ -7,11 +7,11 @@ use lib.ListN.{length}
 use Rattle.general.specs.Tests.{All}
 use Rattle.library.specs.Accepted.{Small}
 use Rattle.reader.specs.Checked.{checked}
-use Rattle.library.specs.Library.{Library, Sequence, Entry, step, call, libraryOf}
+use Rattle.library.specs.Library.{Library, Sequence, Entry, item, call, libraryOf, Item}
 use Rattle.image.specs.declared.answer.Head.{Head}
 use Rattle.image.specs.declared.answer.Checked.the-variants.{Accepted}
 use Rattle.library.proofs.Sizes.{small}
-use Rattle.runs.specs.Run.{Item, alternativesOf, alternativeOf}
+use Rattle.runs.specs.Run.{alternativesOf, alternativeOf}
 use Rattle.runs.specs.Touch.{Question}
 use Rattle.chains.specs.Link.{touchLink, untouchedLink, Chain, Fits}
 use Rattle.chains.specs.Stands.{EntryTouches, entryAt, StandsFor}
@@ -28,7 +28,7 @@ none-fits ls ends = rw ends tt
 module _ (L : Library) (q : Question) (f : ℕ) (size : Small L) where
   after-fits : (ls : Chain) (after : List Item → Type 0) → ((u : List Item) → after u → All Fits ls) → (e : Entry) (u : List Item)
       → EntryTouches L q f ls after e u → All Fits ls
-  after-fits ls after fit (step a) u (ends, one, touch) = none-fits ls ends
+  after-fits ls after fit (item a) u (ends, one, touch) = none-fits ls ends
   after-fits ls after fit (call d) u (about, stands, touch) = fit u stands
 
   stands-fits : (ls : Chain) (w : List Item) → StandsFor L q f ls w → All Fits ls

@@ -10,9 +10,9 @@ use native.Mathlib.Omega.{arith}
 use lib.ListN.{length, take, drop}
 use lib.Dec.{leb}
 use borrow.Author.Tests.{leb-true, le-leb}
-use Rattle.library.specs.Library.{Library, Alternative, Entry, step, call}
+use Rattle.library.specs.Library.{Library, Alternative, Entry, item, call, Item}
 use Rattle.general.proofs.Bools.{and-parts, and-both}
-use Rattle.runs.specs.Run.{Item, alternativesOf, alternativeOf}
+use Rattle.runs.specs.Run.{alternativesOf, alternativeOf}
 use Rattle.runs.specs.Touch.{untouched, itemTouch, Question, HasOutcome}
 use Rattle.runs.specs.Algebra.{sameMark-refl, sameMark-eq}
 use Rattle.runs.proofs.Possible.{alternative-below}
@@ -61,7 +61,7 @@ module _ (L : Library) (q : Question) (f none : ℕ) where
   -- the rank of the entry that touches is at most n, where that of a sequence is
   touching-rank : (T : Ranks) (n : ℕ) (ls : Chain) → ((d : ℕ) (u : List Item) → About d ls → StandsFor L q f ls u → HasOutcome L q f u → T d ≤ n)
       → (e : Entry) (u : List Item) → Touching L q f ls e u → entryRank none (hasMark L q f) T e ≤ n
-  touching-rank T n ls low (step a) u (ends, one, touch) =
+  touching-rank T n ls low (item a) u (ends, one, touch) =
       let e = step-rank none (hasMark L q f a) (rw touch (sameMark-refl (q .mark))) in
       omega arith
   touching-rank T n ls low (call d) u (about, stands, outcome) = low d u about stands outcome
@@ -104,7 +104,7 @@ module _ (L : Library) (q : Question) (f none : ℕ) where
 
   entry-linked : (T : Ranks) → Reached (Linked L q f) none T → (e : Entry) → entryRank none (hasMark L q f) T e < none
       → Entered e (entryRank none (hasMark L q f) T e)
-  entry-linked T reached (step a) lt =
+  entry-linked T reached (item a) lt =
       record {
         links = [];
         given = a ∷ [];
@@ -252,7 +252,7 @@ module _ (L : Library) (q : Question) (f none : ℕ) where
         where
           entry : (k : ℕ) → suc (suc k) < none → (e : Entry) → entryRank none (hasMark L q f) T e ≡ suc k → (d : ℕ) × (T d ≡ suc k)
           entry k lt (call d) e = (d, e)
-          entry k lt (step a) e = let z = step-rank none (hasMark L q f a) (step-passes none (hasMark L q f a) (omega arith)) in absurd (omega arith)
+          entry k lt (item a) e = let z = step-rank none (hasMark L q f a) (step-passes none (hasMark L q f a) (omega arith)) in absurd (omega arith)
 
           next : (c k : ℕ) → T c < none → T c ≡ suc (suc k) → (d : ℕ) × (T d ≡ suc k)
           next c k lt e =

@@ -9,9 +9,9 @@ use native.Mathlib.Omega.{arith}
 use lib.ListN.{length}
 use lib.Dec.{ltb}
 use borrow.Author.Tests.{ltb-true, lt-ltb}
-use Rattle.library.specs.Library.{Sequence, Entry}
+use Rattle.library.specs.Library.{Sequence, Entry, Item}
 use Rattle.general.proofs.Bools.{and-parts, and-both, both-ways}
-use Rattle.runs.specs.Run.{Item, RunOf, Gives, nothing, by-step, by-call, alternativesOf, alternativeOf}
+use Rattle.runs.specs.Run.{RunOf, Gives, nothing, by-item, by-call, alternativesOf, alternativeOf}
 use Rattle.general.specs.Scan.{every}
 use Rattle.chains.specs.Ranks.{Ranks, Closed, Reached, entryPasses, passLook}
 use Rattle.chains.proofs.Depth.{append-passes}
@@ -47,7 +47,7 @@ module _ (S : List Sequence) (none : ℕ) (test : Item → Bool) where
     given-passed : {es : List Entry} {w : List Item} → Gives S es w → every test w ≡ true → every (pass T) es ≡ true
     unfolding every
     given-passed nothing h = refl
-    given-passed (by-step {a = a} {es = es} {w = w} g) h =
+    given-passed (by-item {a = a} {es = es} {w = w} g) h =
         let p = and-parts (test a) (every test w) h in
         and-both (test a) (every (pass T) es) (p .0) (given-passed g (p .1))
     given-passed (by-call {c = c} {es = es} {u = u} {v = v} i lt g g′ e) h =

@@ -7,8 +7,8 @@ use mathlib.Core.List.{List, [], _∷_, _++_, append-assoc}
 use native.Mathlib.Omega.{arith}
 use lib.ListN.{length}
 use lib.Seq.{split-at}
-use Rattle.library.specs.Library.{Library, Alternative, Entry, step, call}
-use Rattle.runs.specs.Run.{Item, Run, Gives, nothing, by-step, by-call, alternativesOf, alternativeOf}
+use Rattle.library.specs.Library.{Library, Alternative, Entry, item, call, Item, step}
+use Rattle.runs.specs.Run.{Run, Gives, nothing, by-item, by-call, alternativesOf, alternativeOf}
 use Rattle.runs.specs.Touch.{Side, last, first, Mark, untouched, itemTouch, decided, Question, untouchedOn, HasOutcome}
 use Rattle.runs.specs.Algebra.{orElse-untouched}
 use Rattle.runs.proofs.Run.{gives-append, call-iff}
@@ -49,8 +49,8 @@ module _ (L : Library) (q : Question) (f : ℕ) where
   -- what the touching entry gives is a list that it gives, with the touch
   entry-given : (ls : Chain) (after : List Item → Type 0) → ((d : ℕ) (u : List Item) → About d ls → after u → Run L d u) → (e : Entry) (u : List Item)
       → EntryTouches L q f ls after e u → Gives (L .sequences) (e ∷ []) u × HasOutcome L q f u
-  entry-given ls after run (step a) u (ends, one, touch) =
-      (rw one (by-step nothing), rw one (decided-one (q .side) (itemTouch L (q .side) f) a ∙ touch))
+  entry-given ls after run (item a) u (ends, one, touch) =
+      (rw one (by-item nothing), rw one (decided-one (q .side) (itemTouch L (q .side) f) a ∙ touch))
   entry-given ls after run (call d) u (about, stands, touch) =
       (call-iff (L .sequences) d u .1 (run d u about stands), touch)
 
@@ -60,7 +60,7 @@ module _ (L : Library) (q : Question) (f : ℕ) where
   stands-run (touchLink d i p ∷ ls) c w about (lt, k) =
       let e = entry-given ls (λ u. StandsFor L q f ls u) (stands-run ls) (entryAt (alternativeOf (L .sequences) d i) p) (k .given) (k .touching) in
       let all : Gives (L .sequences) (alternativeOf (L .sequences) d i) w =
-      rw (split-at (alternativeOf (L .sequences) d i) p (step 0) (k .listed), k .split)
+      rw (split-at (alternativeOf (L .sequences) d i) p (item (step 0)) (k .listed), k .split)
       (gives-append (L .sequences) (k .earlier) (gives-append (L .sequences) (e .0) (k .later))) in
       rw about at (run d i lt all)
     where
@@ -110,7 +110,7 @@ module _ (L : Library) (q : Question) (f : ℕ) where
         empty : (s : Side) → decided s (itemTouch L s f) [] ≡ untouched
         empty last = refl
         empty first = refl
-    found (by-step {a = a} {es = es} {w = w} g) h =
+    found (by-item {a = a} {es = es} {w = w} g) h =
         ⊎-elim
         (λ (here, quiet). record {
           position = 0;
@@ -132,8 +132,8 @@ module _ (L : Library) (q : Question) (f : ℕ) where
           position = suc (r .position);
           links = r .links;
           choices =
-              choices-after (step a) es (r .position) (EntryTouches L q f (r .links) (λ u. StandsFor L q f (r .links) u)) (a ∷ []) w
-              (by-step nothing) quiet (r .choices);
+              choices-after (item a) es (r .position) (EntryTouches L q f (r .links) (λ u. StandsFor L q f (r .links) u)) (a ∷ []) w
+              (by-item nothing) quiet (r .choices);
         })
         (touch-cases (q .side) (itemTouch L (q .side) f) (q .mark) (a ∷ []) w h)
     found (by-call {c = c} {es = es} {u = u} {v = v} i lt g g′ e) h =

@@ -4,7 +4,7 @@ use mathlib.Core.Bool.{true, false}
 use mathlib.Core.List.{List, [], _∷_}
 use lib.ListN.{length, getD}
 use lib.Dec.{leb, ltb}
-use Rattle.library.specs.Library.{Library, Alternative, Sequence, Entry, step, call}
+use Rattle.library.specs.Library.{Library, Alternative, Sequence, Entry, item, call}
 use Rattle.runs.specs.Run.{alternativesOf, alternativeOf}
 use Rattle.runs.specs.Touch.{Mark, present, absent, untouched, Question}
 use Rattle.general.specs.Scan.{firstIndex}
@@ -29,7 +29,7 @@ chosenPosition value k es = firstIndex (λ p. leb (value p) k) (length es)
 
 -- "a step with that touch, which ends the chain, or a sequence, which the next link is about"
 abbrev pub followed : Entry → (ℕ → Chain) → Chain
-followed (step a) next = []
+followed (item a) next = []
 followed (call d) next = next d
 
 module _ (L : Library) (q : Question) (f : ℕ) where

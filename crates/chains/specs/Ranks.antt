@@ -6,8 +6,8 @@ use mathlib.Core.Bool.{Bool, true, false, cond, _&&_}
 use mathlib.Core.List.{List}
 use lib.ListN.{length, getD, take, drop}
 use lib.Dec.{ltb}
-use Rattle.library.specs.Library.{Library, Alternative, Sequence, Entry, step, call}
-use Rattle.runs.specs.Run.{Item, RunOf, alternativesOf, alternativeOf}
+use Rattle.library.specs.Library.{Library, Alternative, Sequence, Entry, item, call, Item}
+use Rattle.runs.specs.Run.{RunOf, alternativesOf, alternativeOf}
 use Rattle.runs.specs.Touch.{Side, last, first, untouched, itemTouch, Question, untouchedOn, HasOutcome}
 use Rattle.runs.specs.Algebra.{sameMark}
 use Rattle.runs.specs.Possible.{hasRun, possibleOutcome}
@@ -59,12 +59,12 @@ unranked L = length (L .sequences) + 2
 
 -- the rank of an entry: 0 for a step that passes the test, the sequence's for a call
 abbrev pub entryRank : ℕ → (Item → Bool) → Ranks → Entry → ℕ
-entryRank none test T (step a) = cond (test a) 0 none
+entryRank none test T (item a) = cond (test a) 0 none
 entryRank none test T (call d) = T d
 
 -- whether an entry passes: a step by one test, a sequence by another
 abbrev pub entryPasses : (Item → Bool) → (ℕ → Bool) → Entry → Bool
-entryPasses test run (step a) = test a
+entryPasses test run (item a) = test a
 entryPasses test run (call d) = run d
 
 -- "1 plus the greatest depth among its entries": the greatest depth among the entries of an alternative

@@ -4,8 +4,8 @@ use mathlib.Core.Path.{_≡_}
 use mathlib.Core.Logic.{_⊎_, _≢_}
 use mathlib.Core.List.{List, [], _∷_}
 use lib.ListN.{length}
-use Rattle.library.specs.Library.{Library}
-use Rattle.runs.specs.Run.{Item, Run, Gives, alternativesOf, alternativeOf}
+use Rattle.library.specs.Library.{Library, Item}
+use Rattle.runs.specs.Run.{Run, Gives, alternativesOf, alternativeOf}
 use Rattle.runs.specs.Touch.{untouched, Question, untouchedOn, HasOutcome}
 use Rattle.chains.specs.Link.{touchLink, untouchedLink, Chain}
 use Rattle.chains.specs.Stands.{About, StandsFor}

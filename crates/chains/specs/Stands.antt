@@ -4,8 +4,8 @@ use mathlib.Core.Path.{_≡_}
 use mathlib.Core.Logic.{_≢_}
 use mathlib.Core.List.{List, [], _∷_, _++_}
 use lib.ListN.{length, getD, take, drop}
-use Rattle.library.specs.Library.{Library, Alternative, Entry, step, call}
-use Rattle.runs.specs.Run.{Item, Gives, alternativesOf, alternativeOf}
+use Rattle.library.specs.Library.{Library, Alternative, Item, step, Entry, item, call}
+use Rattle.runs.specs.Run.{Gives, alternativesOf, alternativeOf}
 use Rattle.runs.specs.Touch.{Side, last, first, untouched, itemTouch, Question, HasOutcome, untouchedOn}
 use Rattle.chains.specs.Link.{touchLink, untouchedLink, Chain, sequenceOf}
 
@@ -24,12 +24,12 @@ quietPart first before after = before
 -- entry gives, ls are the links after, and `after` says which runs they stand for. "the entry at the position is a step with that
 -- touch, which ends the chain, or a sequence, which the next link is about"
 abbrev pub EntryTouches : Library → Question → ℕ → Chain → (List Item → Type 0) → Entry → List Item → Type 0
-EntryTouches L q f ls after (step a) u = (ls ≡ []) × (u ≡ a ∷ []) × (itemTouch L (q .side) f a ≡ q .mark)
+EntryTouches L q f ls after (item a) u = (ls ≡ []) × (u ≡ a ∷ []) × (itemTouch L (q .side) f a ≡ q .mark)
 EntryTouches L q f ls after (call d) u = About d ls × after u × HasOutcome L q f u
 
 -- the entry that a position names
 abbrev pub entryAt : Alternative → ℕ → Entry
-entryAt es p = getD es p (step 0)
+entryAt es p = getD es p (item (step 0))
 
 -- "the runs that its alternative gives with these choices": w is what the entries before the position, the entry at it and those
 -- after it give, in order. "The remaining entries give any run of theirs."

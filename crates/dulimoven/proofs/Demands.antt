@@ -9,12 +9,12 @@ use lib.ListN.{length, getD, drop, length-append, length-drop, List·getD-append
 use lib.Seq.{getD-append-add, getD-drop}
 use Rattle.image.specs.Answer.{checkedAnswer}
 use Rattle.reader.specs.Checked.{checked}
-use Rattle.library.specs.Library.{Library, libraryOf}
+use Rattle.library.specs.Library.{Library, libraryOf, Item}
 use Rattle.image.specs.declared.answer.Head.{Head}
 use Rattle.image.specs.declared.answer.Refusal.{Refusal}
 use Rattle.image.specs.declared.answer.Checked.{Checked}
 use Rattle.library.proofs.Accepted.{faultless, counted}
-use Rattle.runs.specs.Run.{Item, Run}
+use Rattle.runs.specs.Run.{Run}
 use Rattle.runs.specs.Execution.{Fact}
 use Rattle.runs.specs.Touch.{Mark, present, absent, questionOf, HasOutcome, lastSet, lastCleared, lastUntouched, firstSet, firstUntouched}
 use Rattle.runs.proofs.Outcome.{present≢untouched, absent≢untouched}

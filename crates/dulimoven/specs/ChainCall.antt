@@ -6,12 +6,12 @@ use mathlib.Core.List.{List, _++_}
 use lib.ListN.{length, drop}
 use Rattle.reader.specs.Checked.{checked}
 use Rattle.general.specs.Tests.{All}
-use Rattle.library.specs.Library.{libraryOf}
+use Rattle.library.specs.Library.{libraryOf, Item}
 use Rattle.image.specs.declared.answer.Head.{Head}
 use Rattle.image.specs.declared.answer.Refusal.{Refusal}
 use Rattle.image.specs.declared.answer.Refusal.the-variants.{Sequence, Question, Fact, ChainArea}
 use Rattle.image.specs.declared.answer.Checked.{Checked}
-use Rattle.runs.specs.Run.{Item, Run}
+use Rattle.runs.specs.Run.{Run}
 use Rattle.runs.specs.Touch.{questionOf, HasOutcome}
 use Rattle.chains.specs.Link.{Chain, chainWords, Fits}
 use Rattle.chains.specs.Shows.{Shows}

@@ -8,11 +8,11 @@ use lib.ListN.{length, getD}
 use Rattle.image.specs.Word.{payload}
 use Rattle.image.specs.Answer.{checkedAnswer}
 use Rattle.reader.specs.Checked.{checked, firstWord}
-use Rattle.library.specs.Library.{Library, libraryOf}
+use Rattle.library.specs.Library.{Library, libraryOf, Item}
 use Rattle.image.specs.declared.answer.Head.{Head}
 use Rattle.image.specs.declared.answer.Refusal.{Refusal}
 use Rattle.image.specs.declared.answer.Checked.{Checked}
-use Rattle.runs.specs.Run.{Item, Run}
+use Rattle.runs.specs.Run.{Run}
 use Rattle.runs.specs.Execution.{Fact, State, Executes}
 use Rattle.runs.specs.Touch.{questionOf, HasOutcome}
 use Rattle.cards.specs.Card.{cardWords}

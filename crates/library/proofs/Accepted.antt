@@ -18,7 +18,7 @@ use Rattle.rules.specs.Rules.{opened, earlier, mayStand, whereKind, payloadRigh
 use Rattle.rules.specs.Quick.{after}
 use Rattle.reader.specs.Checked.{atWord, scan, allButLast, between, firstWord, lastWord, checked}
 use Rattle.reader.specs.Walk.{walk, opening}
-use Rattle.library.specs.Library.{step, call, factsFrom, stepsFrom, entriesFrom, alternativesFrom, sequencesFrom, beforeSequences, fromSequences, stepsPart, sequencesPart, libraryOf}
+use Rattle.library.specs.Library.{step, item, call, factsFrom, stepsFrom, entriesFrom, alternativesFrom, sequencesFrom, beforeSequences, fromSequences, stepsPart, sequencesPart, libraryOf}
 use Rattle.general.specs.Tests.{All}
 use Rattle.library.specs.Accepted.{Faultless, StepWord, SequenceWord, Parts, Named, Below, Counted}
 use Rattle.image.specs.declared.answer.Head.{Head}
@@ -346,7 +346,7 @@ entries-named h [] a = tt
 entries-named h (w ∷ ws) a = go (isKind 8 w) (isKind 9 w) refl refl (entries-named h ws (a .1))
   where
     go : (b c : Bool) → isKind 8 w ≡ b → isKind 9 w ≡ c → All (Named h) (entriesFrom ws)
-        → All (Named h) (cond b (step (payload w) ∷ entriesFrom ws) (cond c (call (payload w) ∷ entriesFrom ws) []))
+        → All (Named h) (cond b (item (step (payload w)) ∷ entriesFrom ws) (cond c (call (payload w) ∷ entriesFrom ws) []))
     go true c q r rest = (a .0 .step (kind-is 8 w q), rest)
     go false true q r rest = (a .0 .sequence (kind-is 9 w r), rest)
     go false false q r rest = tt

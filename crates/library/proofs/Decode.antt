@@ -15,7 +15,7 @@ use borrow.Author.Tests.{eq-eqb, ne-eqb, eqb-true, eqb-false}
 use mir.Val.{boolByte}
 use Rattle.image.specs.Word.{kind, payload, isKind, isFact}
 use Rattle.rules.specs.Rules.{opened}
-use Rattle.library.specs.Library.{has, Step, step, call, factsFrom, stepsFrom, entriesFrom, alternativesFrom, sequencesFrom, beforeSequences, fromSequences}
+use Rattle.library.specs.Library.{has, Step, step, item, call, factsFrom, stepsFrom, entriesFrom, alternativesFrom, sequencesFrom, beforeSequences, fromSequences}
 
 -- ---- kinds
 
@@ -53,7 +53,7 @@ pub entries-nil : entriesFrom [] ≡ []
 unfolding entriesFrom
 entries-nil = refl
 
-pub entries-step : (w : ℕ) (ws : List ℕ) → kind w ≡ 8 → entriesFrom (w ∷ ws) ≡ step (payload w) ∷ entriesFrom ws
+pub entries-step : (w : ℕ) (ws : List ℕ) → kind w ≡ 8 → entriesFrom (w ∷ ws) ≡ item (step (payload w)) ∷ entriesFrom ws
 unfolding entriesFrom
 entries-step w ws e = simp (is 8 w e)
 

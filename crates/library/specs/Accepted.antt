@@ -9,7 +9,7 @@ use Rattle.image.specs.Word.{kind, payload, headOf}
 use Rattle.image.specs.Answer.{headPayload}
 use Rattle.rules.specs.Rules.{opened, earlier, faultAt}
 use Rattle.reader.specs.Checked.{firstWord}
-use Rattle.library.specs.Library.{Step, Entry, step, call, Library, stepsPart, sequencesPart}
+use Rattle.library.specs.Library.{Step, Entry, step, item, call, Library, stepsPart, sequencesPart}
 use Rattle.image.specs.declared.answer.Head.{Head}
 use Rattle.rules.specs.declared.rules.Fault.the-variants.{Nothing}
 
@@ -55,7 +55,7 @@ pub record Parts (image : List ℕ) (h : Head) : Type 0 where
 
 -- an entry names a step below A or a sequence below C
 abbrev pub Named : Head → Entry → Type 0
-Named h (step a) = a < h .steps
+Named h (item (step a)) = a < h .steps
 Named h (call c) = c < h .sequences
 
 abbrev pub Below : ℕ → Step → Type 0

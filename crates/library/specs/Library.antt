@@ -22,9 +22,13 @@ unfoldable pub has : ℕ → List ℕ → Bool
 has f [] = false
 has f (g ∷ gs) = eqb g f || has f gs
 
--- "Kind 8 is an entry naming a step, kind 9 an entry naming a sequence."
+-- what a run is made of: a step, by its number
+pub data Item : Type 0 where
+  step : ℕ → Item
+
+-- "Kind 8 is an entry naming a step, kind 9 an entry naming a sequence.": an entry is an item, or calls a sequence
 pub data Entry : Type 0 where
-  step : ℕ → Entry
+  item : Item → Entry
   call : ℕ → Entry
 
 -- "Positions count from 0 within the alternative." "Alternatives count from 0 within their sequence."
@@ -55,7 +59,7 @@ stepsFrom (w ∷ ws) =
 unfoldable pub entriesFrom : List ℕ → List Entry
 entriesFrom [] = []
 entriesFrom (w ∷ ws) =
-    cond (isKind 8 w) (step (payload w) ∷ entriesFrom ws) (cond (isKind 9 w) (call (payload w) ∷ entriesFrom ws) [])
+    cond (isKind 8 w) (item (step (payload w)) ∷ entriesFrom ws) (cond (isKind 9 w) (call (payload w) ∷ entriesFrom ws) [])
 
 -- "Kind 7 opens an alternative": those from here to the sequence's end
 unfoldable pub alternativesFrom : List ℕ → List Alternative

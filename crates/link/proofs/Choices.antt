@@ -11,7 +11,7 @@ use lib.Seq.{getD-append-add}
 use lib.Dec.{leb}
 use borrow.Author.Tests.{le-leb, lt-leb, lt-ltb, le-ltb}
 use Rattle.image.specs.Word.{payload, isKind, isEntry}
-use Rattle.library.specs.Library.{Entry, step, call, Alternative, entriesFrom, alternativesFrom}
+use Rattle.library.specs.Library.{Entry, step, item, call, Alternative, entriesFrom, alternativesFrom}
 use Rattle.general.specs.Scan.{every}
 use Rattle.chains.specs.Link.{Link, touchLink}
 use Rattle.chains.specs.Stands.{entryAt}
@@ -55,7 +55,7 @@ module _ (test : Entry → Bool) (part : List ℕ) (at : ℕ) where
 entry-number : (w : ℕ) → entryNumber (entryOf w) ≡ payload w
 entry-number w = go (isKind 8 w)
   where
-    go : (b : Bool) → entryNumber (cond b (step (payload w)) (call (payload w))) ≡ payload w
+    go : (b : Bool) → entryNumber (cond b (item (step (payload w))) (call (payload w))) ≡ payload w
     go true = refl
     go false = refl
 

@@ -11,7 +11,7 @@ use lib.Seq.{set-at, drop-cons}
 use lib.Dec.{eqb, leb, ltb}
 use borrow.Author.Tests.{eq-eqb, ne-eqb, lt-ltb, le-ltb, leb-true}
 use Rattle.image.specs.Word.{payload, isKind, isEntry}
-use Rattle.library.specs.Library.{Entry, step, call, entriesFrom, alternativesFrom}
+use Rattle.library.specs.Library.{Entry, step, item, call, entriesFrom, alternativesFrom}
 use Rattle.question.specs.Answer.{linkCount, told, shownLinks}
 use Rattle.chains.specs.Link.{Link, touchLink, choiceWord, linkWords, chainWords}
 use Rattle.chains.specs.Stands.{entryAt}
@@ -38,7 +38,7 @@ entries-low [] p = omega arith
 entries-low (w ∷ ws) p = go (isKind 8 w) (isKind 9 w) p (entries-low ws)
   where
     go : (a b : Bool) (p : ℕ) → ((p : ℕ) → Low (entryAt (entriesFrom ws) p))
-        → Low (entryAt (cond a (step (payload w) ∷ entriesFrom ws) (cond b (call (payload w) ∷ entriesFrom ws) [])) p)
+        → Low (entryAt (cond a (item (step (payload w)) ∷ entriesFrom ws) (cond b (call (payload w) ∷ entriesFrom ws) [])) p)
     go true b zero rest = omega arith
     go true b (suc p) rest = rest p
     go false true zero rest = omega arith

@@ -11,7 +11,7 @@ use lib.Dec.{eqb}
 use borrow.Author.Tests.{ne-eqb, eq-eqb, eqb-true, eqb-false}
 use mir.Val.{boolByte}
 use Rattle.image.specs.Word.{kind, payload, isKind, isEntry}
-use Rattle.library.specs.Library.{has, Library, Step, Entry, step, call, entriesFrom, alternativesFrom}
+use Rattle.library.specs.Library.{has, Library, Step, Entry, step, item, call, entriesFrom, alternativesFrom}
 use Rattle.general.specs.Tests.{All}
 use Rattle.library.specs.Accepted.{SequenceWord}
 use Rattle.library.specs.Tables.{maskOf}
@@ -25,7 +25,7 @@ use Rattle.runs.specs.Rows as rows
 use Rattle.row.specs.Words.{allFacts, startRow, stepRow, joinRows, orRows, rowIn, isSet, bitRow}
 use Rattle.outcome.specs.Walks.{entryWord, foldWords, alternativeWords, sequenceWords}
 use Rattle.row.specs.declared.words.Row.{Row}
-use Rattle.runs.proofs.Rows.{stepRow-touch, join-agree}
+use Rattle.runs.proofs.Rows.{itemRow-touch, join-agree}
 use Rattle.outcome.proofs.Walks.{fold-cons, united-cons}
 use Rattle.row.proofs.Bits.{join-bits, or-bits, live-bits, start-bits, step-bits}
 
@@ -59,7 +59,7 @@ rowOfStep all s = stepRow all (maskOf (s .needs)) (maskOf (s .sets)) (maskOf (s 
 
 -- the table has the row of each step
 abbrev pub Stepped : Library → List ℕ → Type 0
-Stepped L steps = (a : ℕ) → a < length (L .steps) → rowIn steps a ≡ rowOfStep (allFacts (L .facts)) (stepOf L a)
+Stepped L steps = (a : ℕ) → a < length (L .steps) → rowIn steps a ≡ rowOfStep (allFacts (L .facts)) (stepOf L (step a))
 
 -- what a table of words says of fact f
 abbrev pub tableBits : List ℕ → ℕ → ℕ → rows.Row
@@ -78,10 +78,10 @@ module _ (L : Library) (h : Head) (steps table : List ℕ) (narrow : L .facts �
   Agree X R = (j : ℕ) → j < 8 → bitRow X f j ≡ R j
 
   -- a step's row
-  step-row : (a : ℕ) → a < length (L .steps) → Agree (rowIn steps a) (rows.stepRow L f a)
+  step-row : (a : ℕ) → a < length (L .steps) → Agree (rowIn steps a) (rows.itemRow L f (step a))
   unfolding Agree
   step-row a l j k =
-      let s = stepOf L a in
+      let s = stepOf L (step a) in
       let lt : f < 64 = omega arith in
       ap (λ (r : Row). bitRow r f j) (stepped a l)
       ∙ step-bits (L .facts) (maskOf (s .needs)) (maskOf (s .sets)) (maskOf (s .clears)) f below narrow (mask-lt (s .needs)) (mask-lt (s .sets))
@@ -89,7 +89,7 @@ module _ (L : Library) (h : Head) (steps table : List ℕ) (narrow : L .facts �
       ∙ ap (λ (b : Bool). touchRow b (isSet (maskOf (s .sets)) f) (isSet (maskOf (s .clears)) f) j) (mask-set (s .needs) f lt)
       ∙ ap (λ (b : Bool). touchRow (has f (s .needs)) b (isSet (maskOf (s .clears)) f) j) (mask-set (s .sets) f lt)
       ∙ ap (λ (b : Bool). touchRow (has f (s .needs)) (has f (s .sets)) b j) (mask-set (s .clears) f lt)
-      ∙ sym (stepRow-touch L f a j)
+      ∙ sym (itemRow-touch L f (step a) j)
 
   -- rows that agree before an entry agree after it
   join-entry : (X : Row) (R : rows.Row) (Y : Row) (S : rows.Row) → Agree X R → Agree Y S → Agree (joinRows X Y) (joinRow R S)
@@ -127,10 +127,10 @@ module _ (L : Library) (h : Head) (steps table : List ℕ) (narrow : L .facts �
       go (opens-alternative e) rest = out (omega arith)
       go (names-step e) rest =
           let eight = eq-eqb (kind w) 8 e in
-          on (rowIn steps (payload w)) (rows.stepRow L f (payload w)) (step (payload w)) (ap (λ (b : Bool). b || isKind 9 w) eight)
+          on (rowIn steps (payload w)) (rows.itemRow L f (step (payload w))) (item (step (payload w))) (ap (λ (b : Bool). b || isKind 9 w) eight)
           (ap (λ (b : Bool). cond b (rowIn steps (payload w)) (rowIn table (payload w))) eight)
           (step-row (payload w) (omega (arith, a .0 .step e))) refl (entries-step w ws e)
-          (rest (rowIn steps (payload w)) (rows.stepRow L f (payload w)))
+          (rest (rowIn steps (payload w)) (rows.itemRow L f (step (payload w))))
       go (names-sequence e) rest =
           let eight = ne-eqb (kind w) 8 (λ q. omega arith) in
           on (rowIn table (payload w)) (tableBits table f (payload w)) (call (payload w)) (ap₂ _||_ eight (eq-eqb (kind w) 9 e))

@@ -13,7 +13,7 @@ use lib.ListN.{length, getD, drop, List·getD-eq-default}
 use lib.Seq.{drop-cons, drop-length}
 use borrow.Author.Tests.{eqb-true, ne-eqb}
 use Rattle.image.specs.Word.{kind, payload, isKind, isEntry}
-use Rattle.library.specs.Library.{Entry, step, call, Alternative, entriesFrom, alternativesFrom}
+use Rattle.library.specs.Library.{Entry, step, item, call, Alternative, entriesFrom, alternativesFrom}
 use Rattle.general.proofs.Bools.{or-cases}
 use Rattle.library.proofs.Decode.{entries-nil, alternatives-nil}
 use Rattle.chains.specs.Stands.{entryAt}
@@ -26,8 +26,8 @@ pub entries-cons : (w : ℕ) (ws : List ℕ) (b : Bool) → isEntry w ≡ b → 
 unfolding entriesFrom
 entries-cons w ws b e = go (isKind 8 w) (isKind 9 w) (entriesFrom ws) ∙ ap (λ (c : Bool). cond c (entryOf w ∷ entriesFrom ws) []) e
   where
-    go : (x y : Bool) (es : List Entry) → cond x (step (payload w) ∷ es) (cond y (call (payload w) ∷ es) [])
-        ≡ cond (x || y) (cond x (step (payload w)) (call (payload w)) ∷ es) []
+    go : (x y : Bool) (es : List Entry) → cond x (item (step (payload w)) ∷ es) (cond y (call (payload w) ∷ es) [])
+        ≡ cond (x || y) (cond x (item (step (payload w))) (call (payload w)) ∷ es) []
     go true y es = refl
     go false true es = refl
     go false false es = refl

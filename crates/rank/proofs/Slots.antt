@@ -10,7 +10,7 @@ use lib.ListN.{length, getD, set, length-set}
 use lib.Seq.{getD-take, getD-drop, getD-set-same, getD-set-other}
 use borrow.Author.Tests.{eqb-true, eqb-false}
 use Rattle.image.specs.Word.{kind, payload, isKind, isEntry}
-use Rattle.library.specs.Library.{step, call}
+use Rattle.library.specs.Library.{step, item, call}
 use Rattle.image.proofs.Entries.{entry-kinds}
 use Rattle.rank.specs.Tables.{entryOf, slotOf, rankIn, Within, markOf, stepMark, stepRank, Stepped, Steppable}
 use Rattle.question.specs.declared.asked.Asked.{Asked}
@@ -32,7 +32,7 @@ module _ (none w : ℕ) (T : List ℕ) (e : isEntry w ≡ true) (within : Within
       p : ℕ
       p = payload w
 
-      go : (b : Bool) → isKind 8 w ≡ b → getD T (p + cond b none 0) 0 ≡ rankIn none past T (cond b (step p) (call p))
+      go : (b : Bool) → isKind 8 w ≡ b → getD T (p + cond b none 0) 0 ≡ rankIn none past T (cond b (item (step p)) (call p))
       go true k =
           let swap : p + none ≡ none + p = omega arith in
           ap (λ (n : ℕ). getD T n 0) swap ∙ getD-inside T (none + p) 0 past (within .step (eqb-true (kind w) 8 k)) ∙ sym (getD-drop none T p past)

@@ -9,8 +9,8 @@ use native.Mathlib.Omega.{arith}
 use lib.ListN.{length, getD, take, drop}
 use lib.Dec.{leb, ltb}
 use borrow.Author.Tests.{leb-true, le-leb, lt-leb, ltb-true, lt-ltb}
-use Rattle.library.specs.Library.{Alternative, Sequence, Entry}
-use Rattle.runs.specs.Run.{Item, alternativesOf, alternativeOf}
+use Rattle.library.specs.Library.{Alternative, Sequence, Entry, Item}
+use Rattle.runs.specs.Run.{alternativesOf, alternativeOf}
 use Rattle.general.proofs.Bools.{and-parts, both-ways}
 use Rattle.general.specs.Scan.{every, leastBelow, greatest, firstIndex}
 use Rattle.chains.specs.Stands.{entryAt}

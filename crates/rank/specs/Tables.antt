@@ -9,8 +9,7 @@ use lib.ListN.{length, getD, set, take, drop}
 use lib.Dec.{eqb, ltb}
 use Rattle.column.specs.Sets.{inColumn}
 use Rattle.image.specs.Word.{kind, payload, isKind}
-use Rattle.library.specs.Library.{Alternative, Entry, step, call, entriesFrom, alternativesFrom}
-use Rattle.runs.specs.Run.{Item}
+use Rattle.library.specs.Library.{Alternative, Entry, step, item, call, entriesFrom, alternativesFrom, Item}
 use Rattle.settling.specs.Passes.{Pass}
 use Rattle.general.specs.Scan.{every, total}
 use Rattle.chains.specs.Ranks.{Ranks}
@@ -21,10 +20,10 @@ use Rattle.rank.specs.declared.read.Read.{Read}
 
 -- the entry that a word names, and the number that it has
 abbrev pub entryOf : ℕ → Entry
-entryOf w = cond (isKind 8 w) (step (payload w)) (call (payload w))
+entryOf w = cond (isKind 8 w) (item (step (payload w))) (call (payload w))
 
 abbrev pub entryNumber : Entry → ℕ
-entryNumber (step a) = a
+entryNumber (item (step a)) = a
 entryNumber (call d) = d
 
 -- ---- a table of ranks
@@ -39,7 +38,7 @@ inRanks none T d = getD (take none T) d none
 
 -- the rank of an entry, where `past` is that of a step past the table
 abbrev pub rankIn : ℕ → ℕ → List ℕ → Entry → ℕ
-rankIn none past T (step a) = getD (drop none T) a past
+rankIn none past T (item (step a)) = getD (drop none T) a past
 rankIn none past T (call d) = inRanks none T d
 
 -- an entry that has a rank; a step past the table touches nothing and runs
@@ -94,7 +93,7 @@ stepMark q masks a =
     (markOf (q .fact) (getD masks (3 * a + 1) 0) (getD masks (3 * a + 2) 0))
 
 -- the step has the mark asked for, or any will do
-abbrev pub markIn : Bool → Asked → List ℕ → Item → Bool
+abbrev pub markIn : Bool → Asked → List ℕ → ℕ → Bool
 markIn any q masks a = any || eqb (stepMark q masks a) (q .mark)
 
 abbrev pub stepRank : Bool → Asked → List ℕ → ℕ → ℕ

@@ -4,9 +4,9 @@ use mathlib.Core.Path.{_≡_, refl, sym, _∙_, ap, subst}
 use mathlib.Core.Logic.{_↔_, _≢_, _⊎_, inl, inr, ⊎-elim, by-cases}
 use mathlib.Core.Bool.{Bool, true, false, not, false≢true, true≢false}
 use mathlib.Core.List.{List, [], _∷_}
-use Rattle.library.specs.Library.{Library}
+use Rattle.library.specs.Library.{Library, Item}
 use Rattle.general.proofs.Bools.{and-parts, and-both, or-cases, or-left, or-right, passes-or-not}
-use Rattle.runs.specs.Run.{Item, Run}
+use Rattle.runs.specs.Run.{Run}
 use Rattle.runs.specs.Touch.{Question, questionNumber, questionOf, rival, untouchedOn, otherTouch, HasOutcome, itemTouch}
 use Rattle.runs.specs.Touch.{outcomeOf, Mark, present, absent, untouched, Side, last, first}
 use Rattle.runs.specs.Algebra.{outcome, emptyAlgebra, sideAlgebra, sameMark, sameMark-refl, sameMark-eq}

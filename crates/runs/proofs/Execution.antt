@@ -4,9 +4,8 @@ use mathlib.Core.Logic.{_⊎_, inl, inr, ⊎-elim}
 use mathlib.Core.Bool.{Bool, true, false, not, _&&_, _||_, cond, false≢true, true≢false}
 use mathlib.Core.List.{List, [], _∷_}
 use native.Mathlib.Bridge.{le-prop}
-use Rattle.library.specs.Library.{has, Library}
+use Rattle.library.specs.Library.{has, Library, Item}
 use Rattle.general.proofs.Bools.{and-parts, or-cases}
-use Rattle.runs.specs.Run.{Item}
 use Rattle.runs.specs.Execution.{Fact, State, apply, stepOf, Executes, end}
 use Rattle.runs.specs.Touch.{Mark, present, absent, untouched, orElse, last, first, touch, decided, outcomeOf, HasOutcome}
 use Rattle.runs.specs.Touch.{lastSet, lastCleared}

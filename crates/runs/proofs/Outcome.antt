@@ -3,7 +3,7 @@ use mathlib.Core.Path.{_≡_, refl, sym, _∙_, ap}
 use mathlib.Core.Logic.{_⊎_, inl, inr, ⊎-elim, _≢_, _↔_}
 use mathlib.Core.Bool.{false≢true}
 use mathlib.Core.List.{List, [], _∷_, _++_, List·Memᴰ, List·Memᴰ·head, List·Memᴰ·tail, List·Memᴰ·not-nil, List·Memᴰ·cases-cons}
-use Rattle.runs.specs.Run.{Item}
+use Rattle.library.specs.Library.{Item}
 use Rattle.runs.specs.Touch.{Mark, present, absent, untouched, orElse, Side, last, first, decided}
 use Rattle.runs.specs.Algebra.{Algebra, outcome, sideAlgebra, joinMarks, joinMarks-left, sameMark}
 

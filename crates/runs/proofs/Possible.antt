@@ -11,9 +11,9 @@ use native.Mathlib.Decide.{decLt}
 use lib.ListN.{length, List·getD-eq-default}
 use lib.Dec.{eqb}
 use borrow.Author.Tests.{eqb-true, eq-eqb}
-use Rattle.library.specs.Library.{Sequence, Entry, step, call}
+use Rattle.library.specs.Library.{Sequence, Entry, item, call, Item}
 use Rattle.general.proofs.Bools.{and-parts, and-both, both-ways}
-use Rattle.runs.specs.Run.{Item, alternativesOf, alternativeOf, Gives, nothing, by-step, by-call}
+use Rattle.runs.specs.Run.{alternativesOf, alternativeOf, Gives, nothing, by-item, by-call}
 use Rattle.runs.specs.Algebra.{Algebra, outcome}
 use Rattle.runs.specs.Possible.{Table, can, look, Key, key, sameKey, keysBelow, lookAt, possible}
 use Rattle.runs.specs.Table.{Part, whole, Occurs, Sound, Closed}
@@ -77,9 +77,9 @@ module _ (S : List Sequence) (A : Algebra) (mark : Item → A .Outcome) where
         → (w : List Item) × Gives S es w × (A .join x (outcome A mark w) ≡ m)
     unfolding can outcome
     can-sound T sound [] x m h e = ([], nothing, A .unit-right x ∙ A .same-eq x m e)
-    can-sound T sound (step a ∷ es) x m h e =
+    can-sound T sound (item a ∷ es) x m h e =
         let r = can-sound T sound es (A .join x (mark a)) m h e in
-        (a ∷ r .0, by-step (r .1), sym (A .assoc x (mark a) (outcome A mark (r .0))) ∙ r .2)
+        (a ∷ r .0, by-item (r .1), sym (A .assoc x (mark a) (outcome A mark (r .0))) ∙ r .2)
     can-sound T sound (call c ∷ es) x m h e =
         let f = some-found (λ y. T c y && can A mark T es (A .join x y) m) (A .all) e in
         let y = f .0 in
@@ -103,7 +103,7 @@ module _ (S : List Sequence) (A : Algebra) (mark : Item → A .Outcome) where
         → D .holds m → A .join x (outcome A mark w) ≡ m → can A mark T es x m ≡ true
     unfolding can outcome
     can-complete T closed nothing x m h q = rw (sym q ∙ A .unit-right x) (A .same-refl x)
-    can-complete T closed (by-step {a = a} {w = w} g) x m h q =
+    can-complete T closed (by-item {a = a} {w = w} g) x m h q =
         can-complete T closed g (A .join x (mark a)) m h (A .assoc x (mark a) (outcome A mark w) ∙ q)
     can-complete T closed (by-call {c = c} {es = es} {u = u} {v = v} i lt g g′ e) x m h q =
         let y = outcome A mark u in

@@ -6,8 +6,8 @@ use mathlib.Core.Bool.{Bool, true, false, cond, false≢true, true≢false}
 use mathlib.Core.List.{List, [], _∷_}
 use native.Mathlib.Omega.{arith}
 use lib.ListN.{getD, List·getD-map}
-use Rattle.library.specs.Library.{has, Library, Step}
-use Rattle.runs.specs.Run.{Item, Run}
+use Rattle.library.specs.Library.{has, Library, Step, Item, step}
+use Rattle.runs.specs.Run.{Run}
 use Rattle.runs.specs.Refinement.{Refines}
 use Rattle.runs.specs.Execution.{Fact, State, noStep, stepOf, apply, Executes, end}
 use Rattle.runs.specs.Touch.{Mark, present, absent, untouched, orElse, last, first, touch, decided, outcomeOf, HasOutcome}
@@ -23,7 +23,7 @@ use Rattle.runs.proofs.Execution.{after, end-after, after-gained, after
 
 -- the steps of the relaxation
 relaxed-step : (L : Library) (x : Item) → stepOf (relaxed L) x ≡ relaxedStep (stepOf L x)
-relaxed-step L x = List·getD-map relaxedStep (L .steps) x noStep
+relaxed-step L (step x) = List·getD-map relaxedStep (L .steps) x noStep
 
 -- every list of steps executes from every state
 relaxed-executes : (L : Library) (w : List Item) (s : State L) → Executes (relaxed L) w s
@@ -88,8 +88,8 @@ first-required L f (x ∷ w) e =
     (suc (r .0), omega arith, r .2, λ (j, below, set). later (r .0) unset (r .3) j below set))
     (needed-first (has (f .0) (stepOf L x .needs)) (has (f .0) (stepOf L x .sets)) (outcomeOf L first (f .0) w) e)
   where
-    later : (i : ℕ) → has (f .0) (stepOf L x .sets) ≡ false → ¬ ((j : ℕ) × (j < i) × (has (f .0) (stepOf L (getD w j 0) .sets) ≡ true))
-        → (j : ℕ) → j < suc i → has (f .0) (stepOf L (getD (x ∷ w) j 0) .sets) ≡ true → ⊥
+    later : (i : ℕ) → has (f .0) (stepOf L x .sets) ≡ false → ¬ ((j : ℕ) × (j < i) × (has (f .0) (stepOf L (getD w j (step 0)) .sets) ≡ true))
+        → (j : ℕ) → j < suc i → has (f .0) (stepOf L (getD (x ∷ w) j (step 0)) .sets) ≡ true → ⊥
     later i unset none-before zero below set = false≢true (sym unset ∙ set)
     later i unset none-before (suc j) below set = none-before (j, omega arith, set)
 

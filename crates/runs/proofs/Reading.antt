@@ -5,10 +5,9 @@ use mathlib.Core.Path.{_≡_, refl, sym, _∙_, subst}
 use mathlib.Core.Logic.{⊎-elim, _≢_}
 use mathlib.Core.Bool.{Bool, true, false, _&&_, _||_, false≢true, and-false, or-false}
 use mathlib.Core.List.{List, [], _∷_}
-use Rattle.library.specs.Library.{Entry, step, call}
+use Rattle.library.specs.Library.{Entry, item, call, Item}
 use Rattle.general.specs.Tests.{some}
 use Rattle.general.proofs.Bools.{and-parts, and-both, or-cases, or-left, or-right, both-ways, passes-or-not}
-use Rattle.runs.specs.Run.{Item}
 use Rattle.runs.specs.Touch.{Mark, present, absent, untouched, Side, last, first}
 use Rattle.runs.specs.Algebra.{Algebra, sideAlgebra, anyAlgebra, emptyAlgebra, joinMarks, sameMark, sameMark-refl}
 use Rattle.runs.specs.Possible.{Table, can}
@@ -44,14 +43,14 @@ module _ (A : Algebra) (mark : Item → A .Outcome) (T : Table A) where
   can-entry : (e : Entry) (es : List Entry) (x y m : A .Outcome) → entryOutcomes A mark T e y ≡ true → can A mark T es (A .join x y) m ≡ true
       → can A mark T (e ∷ es) x m ≡ true
   unfolding can
-  can-entry (step a) es x y m p q = rw (A .same-eq (mark a) y p) q
+  can-entry (item a) es x y m p q = rw (A .same-eq (mark a) y p) q
   can-entry (call c) es x y m p q =
       some-intro (λ z. T c z && can A mark T es (A .join x z) m) (A .listed y) (and-both (T c y) (can A mark T es (A .join x y) m) p q)
 
   entry-can : (e : Entry) (es : List Entry) (x m : A .Outcome) → can A mark T (e ∷ es) x m ≡ true
       → (y : A .Outcome) × (entryOutcomes A mark T e y ≡ true) × (can A mark T es (A .join x y) m ≡ true)
   unfolding can
-  entry-can (step a) es x m q = (mark a, A .same-refl (mark a), q)
+  entry-can (item a) es x m q = (mark a, A .same-refl (mark a), q)
   entry-can (call c) es x m q =
       let f = some-found (λ z. T c z && can A mark T es (A .join x z) m) (A .all) q in
       let p = and-parts (T c (f .0)) (can A mark T es (A .join x (f .0)) m) (f .2) in
@@ -148,13 +147,13 @@ joined-joinSets first X Y x y p q m = joined-swap X Y m ∙ joined-laterSets Y X
 -- every sequence called has a run, by the column given
 unfoldable pub allRun : (ℕ → Bool) → List Entry → Bool
 allRun R [] = true
-allRun R (step a ∷ es) = allRun R es
+allRun R (item a ∷ es) = allRun R es
 allRun R (call c ∷ es) = R c && allRun R es
 
 -- there is no step, and every sequence called has an empty run, by the column given
 unfoldable pub allEmpty : (ℕ → Bool) → List Entry → Bool
 allEmpty R [] = true
-allEmpty R (step a ∷ es) = false
+allEmpty R (item a ∷ es) = false
 allEmpty R (call c ∷ es) = R c && allEmpty R es
 
 -- the outcomes after the entries on a side, by the formulas, where those of what stands before them are X
@@ -201,7 +200,7 @@ module _ (s : Side) (t : Item → Mark) (R : ℕ → Bool) (T : Table (sideAlgeb
   read-sets : (es : List Entry) → Reads es
   unfolding Reads read readSets allRun
   read-sets [] X x p m = refl
-  read-sets (step a ∷ es) X x p m = read-live (step a) es (t a) (sameMark-refl (t a)) (read-sets es) X x p m
+  read-sets (item a ∷ es) X x p m = read-live (item a) es (t a) (sameMark-refl (t a)) (read-sets es) X x p m
   read-sets (call c ∷ es) X x p m =
       ⊎-elim
       (λ e. let y = some-found (T c) (sideAlgebra s .all) (alike c ∙ e) in rw e (read-live (call c) es (y .0) (y .2) (read-sets es) X x p m))
@@ -217,7 +216,7 @@ module _ (s : Side) (t : Item → Mark) (R : ℕ → Bool) (T : Table (sideAlgeb
   sets-live : (es : List Entry) (X : Mark → Bool) (x : Mark) → X x ≡ true → allRun R es ≡ true → (m : Mark) × (readSets s t T X es m ≡ true)
   unfolding readSets allRun
   sets-live [] X x p e = (x, p)
-  sets-live (step a ∷ es) X x p e =
+  sets-live (item a ∷ es) X x p e =
       sets-live es (joinSets s X (sameMark (t a))) (joinMarks s x (t a)) (joinSets-some X (sameMark (t a)) x (t a) p (sameMark-refl (t a))) e
   sets-live (call c ∷ es) X x p e =
       let b = and-parts (R c) (allRun R es) e in
@@ -237,18 +236,18 @@ module _ (s : Side) (t : Item → Mark) (R : ℕ → Bool) (T : Table (sideAlgeb
 pub run-can : (mark : Item → Unit {0}) (R : ℕ → Bool) (es : List Entry) → can anyAlgebra mark (λ c m. R c) es tt tt ≡ allRun R es
 unfolding can allRun some
 run-can mark R [] = refl
-run-can mark R (step a ∷ es) = run-can mark R es
+run-can mark R (item a ∷ es) = run-can mark R es
 run-can mark R (call c ∷ es) = rw (or-false, run-can mark R es)
 
 -- and an empty run where it has no step and every sequence it calls has an empty run
 item-not-empty : (T : Table emptyAlgebra) (es : List Entry) → can emptyAlgebra (λ x. false) T es false true ≡ false
 unfolding can some
 item-not-empty T [] = refl
-item-not-empty T (step a ∷ es) = item-not-empty T es
+item-not-empty T (item a ∷ es) = item-not-empty T es
 item-not-empty T (call c ∷ es) = rw (item-not-empty T es, and-false (T c true), and-false (T c false))
 
 pub empty-can : (R : ℕ → Bool) (es : List Entry) → can emptyAlgebra (λ x. false) (λ c b. R c) es true true ≡ allEmpty R es
 unfolding can allEmpty some
 empty-can R [] = refl
-empty-can R (step a ∷ es) = item-not-empty (λ c b. R c) es
+empty-can R (item a ∷ es) = item-not-empty (λ c b. R c) es
 empty-can R (call c ∷ es) = rw (item-not-empty (λ d b. R d) es, and-false (R c), or-false, empty-can R es)

@@ -3,8 +3,8 @@ use Prim.Native.Nat.{ℕ}
 use mathlib.Core.Path.{refl}
 use mathlib.Core.Logic.{_↔_}
 use mathlib.Core.List.{List, [], _∷_, _++_, map, map-append, append-assoc, append-nil}
-use Rattle.library.specs.Library.{Library, Sequence, Entry, step, call}
-use Rattle.runs.specs.Run.{Item, Run, Gives, nothing, by-step, by-call, alternativeOf}
+use Rattle.library.specs.Library.{Library, Sequence, Entry, item, call, Item}
+use Rattle.runs.specs.Run.{Run, Gives, nothing, by-item, by-call, alternativeOf}
 use Rattle.runs.specs.Refinement.{Network, Decomposes, Transforms, by-none, by-method, Refines}
 use Rattle.runs.proofs.Run.{gives-append, gives-split, call-iff}
 
@@ -21,22 +21,22 @@ module _ (S : List Sequence) where
   transformed-gives (by-method d t) g = decomposed-gives d (transformed-gives t g)
 
   -- steps give themselves
-  steps-give : (w : List Item) → Gives S (map step w) w
+  steps-give : (w : List Item) → Gives S (map item w) w
   steps-give [] = nothing
-  steps-give (a ∷ w) = by-step (steps-give w)
+  steps-give (a ∷ w) = by-item (steps-give w)
 
   -- entries are transformed into what they give, wherever they stand in a network
   gives-transforms : {es : List Entry} {w : List Item} → Gives S es w → (before after : Network) {tn : Network}
-      → Transforms S (before ++ (map step w ++ after)) tn → Transforms S (before ++ (es ++ after)) tn
+      → Transforms S (before ++ (map item w ++ after)) tn → Transforms S (before ++ (es ++ after)) tn
   gives-transforms nothing before after t = t
-  gives-transforms (by-step {a = a} {es = es} {w = w} g) before after t =
-      rw (← append-assoc before (step a ∷ []) (es ++ after))
-      (gives-transforms g (before ++ (step a ∷ [])) after (rw (append-assoc before (step a ∷ []) (map step w ++ after)) t))
+  gives-transforms (by-item {a = a} {es = es} {w = w} g) before after t =
+      rw (← append-assoc before (item a ∷ []) (es ++ after))
+      (gives-transforms g (before ++ (item a ∷ [])) after (rw (append-assoc before (item a ∷ []) (map item w ++ after)) t))
   gives-transforms (by-call {es = es} {u = u} {v = v} i lt g h e) before after {tn} t =
       by-method {tn₃ = tn} (record { method = lt; before = before; after = es ++ after; task = refl; decomposed = refl })
       (gives-transforms g before (es ++ after)
-      (rw (← append-assoc before (map step u) (es ++ after))
-      (gives-transforms h (before ++ map step u) after (simp append-assoc (simp (e, map-append, append-assoc) at t)))))
+      (rw (← append-assoc before (map item u) (es ++ after))
+      (gives-transforms h (before ++ map item u) after (simp append-assoc (simp (e, map-append, append-assoc) at t)))))
 
 -- a primitive refinement of c is a run of c, and a run of c a primitive refinement
 pub refinement-run : (L : Library) (c : ℕ) (w : List Item) → Refines L c w ↔ Run L c w

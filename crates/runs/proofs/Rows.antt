@@ -8,17 +8,17 @@ use mathlib.Core.List.{List, [], _∷_}
 use native.Mathlib.Omega.{arith}
 use lib.ListN.{length}
 use borrow.Author.Count.{below-none, below-more}
-use Rattle.library.specs.Library.{has, Library, Entry, step, call}
+use Rattle.library.specs.Library.{has, Library, Entry, item, call, Item}
 use Rattle.general.specs.Tests.{some}
 use Rattle.general.proofs.Bools.{and-parts, and-both, and-implied, or-cases, or-left, or-right}
 use Rattle.runs.specs.Execution.{stepOf}
-use Rattle.runs.specs.Run.{Item, alternativesOf, alternativeOf}
+use Rattle.runs.specs.Run.{alternativesOf, alternativeOf}
 use Rattle.runs.specs.Touch.{Mark, present, absent, untouched, Side, last, first, itemTouch}
 use Rattle.runs.specs.Algebra.{sideAlgebra, anyAlgebra, emptyAlgebra, sameMark}
 use Rattle.runs.specs.Possible.{Table, Column, columnOf, runColumn, emptyColumn, questionColumn, columnPossible, columnHas, can}
 use Rattle.runs.specs.Table.{whole, noItem, Occurs, Sound, Closed}
 use Rattle.runs.specs.Reading.{entryOutcomes}
-use Rattle.runs.specs.Rows.{Row, rowOf, columnNumber, rowSide, joinSets, joinRow, startRow, stepRow, touchRow, entryRow}
+use Rattle.runs.specs.Rows.{Row, rowOf, columnNumber, rowSide, joinSets, joinRow, startRow, itemRow, touchRow, entryRow}
 use Rattle.runs.specs.Rows.{foldRow, readRow, OccursIn, GoodRow, GoodRows, ClosedRows}
 use Rattle.general.proofs.Tests.{some-or}
 use Rattle.runs.proofs.Possible.{look-place, alternative-sound, table-possible}
@@ -84,9 +84,9 @@ touch-row false true false j = refl
 touch-row false false true j = refl
 touch-row false false false j = refl
 
-pub stepRow-touch : (L : Library) (f : ℕ) (a : Item) (j : ℕ)
-    → stepRow L f a j ≡ touchRow (has f (stepOf L a .needs)) (has f (stepOf L a .sets)) (has f (stepOf L a .clears)) j
-stepRow-touch L f a j = touch-row (has f (stepOf L a .needs)) (has f (stepOf L a .sets)) (has f (stepOf L a .clears)) j
+pub itemRow-touch : (L : Library) (f : ℕ) (a : Item) (j : ℕ)
+    → itemRow L f a j ≡ touchRow (has f (stepOf L a .needs)) (has f (stepOf L a .sets)) (has f (stepOf L a .clears)) j
+itemRow-touch L f a j = touch-row (has f (stepOf L a .needs)) (has f (stepOf L a .sets)) (has f (stepOf L a .clears)) j
 
 -- a blank row is good, and so is one with the columns of two
 pub none-good : (L : Library) (f c : ℕ) → GoodRow L f c (λ j. false)
@@ -106,20 +106,20 @@ module _ (L : Library) (f : ℕ) (B : ℕ → Row) where
   fold-run : (X : Row) (es : List Entry) → foldRow L f B X es 0 ≡ (X 0 && allRun (λ d. B d 0) es)
   unfolding foldRow allRun
   fold-run X [] = sym (and-true (X 0))
-  fold-run X (step a ∷ es) = fold-run (joinRow X (stepRow L f a)) es ∙ rw (and-true (X 0))
+  fold-run X (item a ∷ es) = fold-run (joinRow X (itemRow L f a)) es ∙ rw (and-true (X 0))
   fold-run X (call c ∷ es) = fold-run (joinRow X (B c)) es ∙ and-assoc (X 0) (B c 0) (allRun (λ d. B d 0) es)
 
   fold-empty : (X : Row) (es : List Entry) → foldRow L f B X es 1 ≡ (X 1 && allEmpty (λ d. B d 1) es)
   unfolding foldRow allEmpty
   fold-empty X [] = sym (and-true (X 1))
-  fold-empty X (step a ∷ es) = fold-empty (joinRow X (stepRow L f a)) es ∙ rw (and-false (X 1))
+  fold-empty X (item a ∷ es) = fold-empty (joinRow X (itemRow L f a)) es ∙ rw (and-false (X 1))
   fold-empty X (call c ∷ es) = fold-empty (joinRow X (B c)) es ∙ and-assoc (X 1) (B c 1) (allEmpty (λ d. B d 1) es)
 
   abbrev sideTable : (s : Side) → Table (sideAlgebra s)
   sideTable s c m = rowSide s (B c) m
 
   entry-side : (s : Side) (e : Entry) → rowSide s (entryRow L f B e) ≡ entryOutcomes (sideAlgebra s) (itemTouch L s f) (sideTable s) e
-  entry-side s (step a) = fun-ext (λ m. rowOf-side true false (λ s′ n. sameMark (itemTouch L s′ f a) n) s m)
+  entry-side s (item a) = fun-ext (λ m. rowOf-side true false (λ s′ n. sameMark (itemTouch L s′ f a) n) s m)
   entry-side s (call c) = refl
 
   fold-side : (s : Side) (X : Row) (es : List Entry) (m : Mark)
@@ -147,7 +147,7 @@ module _ (L : Library) (f : ℕ) (B : ℕ → Row) where
     empty-runs : (es : List Entry) → allEmpty (λ d. B d 1) es ≡ true → allRun (λ d. B d 0) es ≡ true
     unfolding allEmpty allRun
     empty-runs [] e = refl
-    empty-runs (step a ∷ es) e = absurd (false≢true e)
+    empty-runs (item a ∷ es) e = absurd (false≢true e)
     empty-runs (call c ∷ es) e =
         let p = and-parts (B c 1) (allEmpty (λ d. B d 1) es) e in
         and-both (B c 0) (allRun (λ d. B d 0) es) (good c .empty (p .0)) (empty-runs es (p .1))

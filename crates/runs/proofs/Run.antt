@@ -5,22 +5,22 @@ use mathlib.Core.Logic.{_↔_, ⊎-elim}
 use mathlib.Core.List.{List, [], _∷_, _++_, append-assoc, append-nil, List·Memᴰ, List·Memᴰ·cases-cons, List·Memᴰ·not-nil}
 use native.Mathlib.Omega.{arith}
 use lib.ListN.{length}
-use Rattle.library.specs.Library.{Sequence, Entry, step, call}
-use Rattle.runs.specs.Run.{Item, RunOf, Gives, nothing, by-step, by-call, alternativesOf, alternativeOf}
+use Rattle.library.specs.Library.{Sequence, Entry, item, call, Item}
+use Rattle.runs.specs.Run.{RunOf, Gives, nothing, by-item, by-call, alternativesOf, alternativeOf}
 
 -- entries joined give the lists joined, and nothing else
 pub gives-append : (S : List Sequence) {es fs : List Entry} {u v : List Item} → Gives S es u → Gives S fs v → Gives S (es ++ fs) (u ++ v)
 gives-append S nothing h = h
-gives-append S (by-step g) h = by-step (gives-append S g h)
+gives-append S (by-item g) h = by-item (gives-append S g h)
 gives-append S {v = z} (by-call {u = u} {v = v} i lt g g′ e) h =
     by-call i lt g (gives-append S g′ h) (ap (λ l. l ++ z) e ∙ append-assoc u v z)
 
 pub gives-split : (S : List Sequence) (es : List Entry) {fs : List Entry} {w : List Item} → Gives S (es ++ fs) w
     → (u : List Item) × (v : List Item) × Gives S es u × Gives S fs v × (w ≡ u ++ v)
 gives-split S [] {w = w} g = ([], w, nothing, g, refl)
-gives-split S (step a ∷ es) (by-step g) =
+gives-split S (item a ∷ es) (by-item g) =
     let r = gives-split S es g in
-    (a ∷ r .0, r .1, by-step (r .2), r .3, ap (λ l. a ∷ l) (r .4))
+    (a ∷ r .0, r .1, by-item (r .2), r .3, ap (λ l. a ∷ l) (r .4))
 gives-split S (call c ∷ es) (by-call {u = u} i lt g g′ e) =
     let r = gives-split S es g′ in
     (u ++ r .0, r .1, by-call i lt g (r .2) refl, r .3, e ∙ (ap (λ l. u ++ l) (r .4) ∙ sym (append-assoc u (r .0) (r .1))))
@@ -36,8 +36,8 @@ call-iff S c w = (there, λ r. by-call (r .alternative) (r .listed) (r .given) n
 pub called-run : (S : List Sequence) {es : List Entry} {w : List Item} → Gives S es w → (d : ℕ) → List·Memᴰ (call d) es
     → (u : List Item) × RunOf S d u
 called-run S nothing d m = absurd (List·Memᴰ·not-nil m)
-called-run S (by-step {a = a} g) d m =
-    ⊎-elim (λ (e : call d ≡ step a). absurd (let z : _≡_ {A = ℕ} 0 1 = cc in omega arith)) (called-run S g d) (List·Memᴰ·cases-cons m)
+called-run S (by-item {a = a} g) d m =
+    ⊎-elim (λ (e : call d ≡ item a). absurd (let z : _≡_ {A = ℕ} 0 1 = cc in omega arith)) (called-run S g d) (List·Memᴰ·cases-cons m)
 called-run S (by-call {c = c} {u = u} i lt g h q) d m =
     ⊎-elim (λ (e : call d ≡ call c). let z : c ≡ d = cc in (u, rw z at (run i lt g))) (called-run S h d) (List·Memᴰ·cases-cons m)
   where
@@ -58,8 +58,8 @@ module _ (S : List Sequence) (P : ℕ → Type 0)
     (calls : (c : ℕ) → P c → (i : ℕ) → i < length (alternativesOf S c) → (d : ℕ) × List·Memᴰ (call d) (alternativeOf S c i) × P d) where
   given-endless : {es : List Entry} {w : List Item} → Gives S es w → (d : ℕ) → List·Memᴰ (call d) es → P d → ⊥
   given-endless nothing d m p = List·Memᴰ·not-nil m
-  given-endless (by-step {a = a} g) d m p =
-      ⊎-elim (λ (e : call d ≡ step a). let z : _≡_ {A = ℕ} 0 1 = cc in omega arith) (λ m′. given-endless g d m′ p) (List·Memᴰ·cases-cons m)
+  given-endless (by-item {a = a} g) d m p =
+      ⊎-elim (λ (e : call d ≡ item a). let z : _≡_ {A = ℕ} 0 1 = cc in omega arith) (λ m′. given-endless g d m′ p) (List·Memᴰ·cases-cons m)
   given-endless (by-call {c = c} i lt g h q) d m p =
       ⊎-elim
       (λ (e : call d ≡ call c). let z : d ≡ c = cc in let n = calls c (rw z at p) i lt in given-endless g (n .0) (n .1) (n .2))

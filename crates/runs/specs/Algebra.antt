@@ -3,7 +3,7 @@
 use mathlib.Core.Path.{_≡_, refl, sym}
 use mathlib.Core.Bool.{Bool, true, false, _&&_, and-assoc, and-true, Bool·beq, false≢true}
 use mathlib.Core.List.{List, [], _∷_, List·Memᴰ, List·Memᴰ·head, List·Memᴰ·tail}
-use Rattle.runs.specs.Run.{Item}
+use Rattle.library.specs.Library.{Item}
 use Rattle.runs.specs.Touch.{Mark, present, absent, untouched, orElse, Side, last, first}
 
 -- a finite monoid of marks with a Boolean equality

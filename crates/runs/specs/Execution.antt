@@ -4,8 +4,7 @@ use mathlib.Core.Path.{_≡_}
 use mathlib.Core.Bool.{Bool, true, not, _&&_, _||_}
 use mathlib.Core.List.{List, [], _∷_}
 use lib.ListN.{getD}
-use Rattle.library.specs.Library.{has, Library, Step}
-use Rattle.runs.specs.Run.{Item}
+use Rattle.library.specs.Library.{has, Library, Step, Item, step}
 
 -- a fact of the library: a number below F
 abbrev pub Fact : Library → Type 0
@@ -21,7 +20,7 @@ noStep = record { needs = []; sets = []; clears = [] }
 
 -- the step that an item of a run is
 abbrev pub stepOf : Library → Item → Step
-stepOf L x = getD (L .steps) x noStep
+stepOf L (step a) = getD (L .steps) a noStep
 
 -- "an action a ∈ A is applicable in a state s ∈ 2^F if prec(a) ⊆ s" (000); "each step's needs stand when it comes" (document 01)
 abbrev pub Applicable : (L : Library) → Step → State L → Type 0

@@ -5,9 +5,9 @@ use mathlib.Core.Bool.{Bool, true, false, not, _&&_, _||_}
 use mathlib.Core.List.{List, [], _∷_, _++_, map}
 use lib.ListN.{length, getD}
 use lib.Dec.{eqb}
-use Rattle.library.specs.Library.{Library, Sequence, Entry, step, call}
+use Rattle.library.specs.Library.{Library, Sequence, Entry, item, call, Item}
 use Rattle.general.specs.Tests.{some}
-use Rattle.runs.specs.Run.{Item, alternativesOf}
+use Rattle.runs.specs.Run.{alternativesOf}
 use Rattle.runs.specs.Touch.{Question, rival, untouchedOn, lastSet, lastCleared, lastUntouched, firstNeeded, firstSet}
 use Rattle.runs.specs.Touch.{firstUntouched, itemTouch}
 use Rattle.runs.specs.Algebra.{Algebra, sideAlgebra, anyAlgebra, emptyAlgebra}
@@ -22,7 +22,7 @@ module _ (A : Algebra) (mark : Item → A .Outcome) where
   unfoldable pub can : Table A → List Entry → A .Outcome → A .Outcome → Bool
   unfolding some
   can T [] x m = A .same x m
-  can T (step a ∷ es) x m = can T es (A .join x (mark a)) m
+  can T (item a ∷ es) x m = can T es (A .join x (mark a)) m
   can T (call c ∷ es) x m = some (λ y. let rest : Bool = can T es (A .join x y) m in T c y && rest) (A .all)
 
   -- one look at sequence c: one of its alternatives can have outcome m

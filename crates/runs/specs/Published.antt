@@ -14,8 +14,7 @@ use mathlib.Core.Path.{_≡_}
 use mathlib.Core.Bool.{true}
 use mathlib.Core.List.{List, [], map}
 use lib.ListN.{length, getD}
-use Rattle.library.specs.Library.{has, Library, Step}
-use Rattle.runs.specs.Run.{Item}
+use Rattle.library.specs.Library.{has, Library, Step, Item, step}
 use Rattle.runs.specs.Refinement.{Refines}
 use Rattle.runs.specs.Execution.{Fact, State, stepOf, Executes, end}
 
@@ -101,8 +100,8 @@ poss-eff*∅- L c f = poss-eff*- (relaxed L) c f
 -- i, j ∈ {0 .. n}" (Definitions 6 and 7), of a refinement <a_0 .. a_n>
 abbrev pub Required : (L : Library) → List Item → Fact L → Type 0
 Required L w f =
-    (i : ℕ) × (i < length w) × (has (f .0) (stepOf L (getD w i 0) .needs) ≡ true)
-    × ¬ ((j : ℕ) × (j < i) × (has (f .0) (stepOf L (getD w j 0) .sets) ≡ true))
+    (i : ℕ) × (i < length w) × (has (f .0) (stepOf L (getD w i (step 0)) .needs) ≡ true)
+    × ¬ ((j : ℕ) × (j < i) × (has (f .0) (stepOf L (getD w j (step 0)) .sets) ≡ true))
 
 -- Definition 6 (Executability-Relaxed Precondition). "We call a fact f an executability-relaxed precondition of c if and only if for
 -- all primitive refinements (i.e., ignoring executability) <a_0 .. a_n> of c there exists an action a_i with f ∈ prec(a_i) and there

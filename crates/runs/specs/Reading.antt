@@ -2,9 +2,8 @@
 -- joined to it.
 use mathlib.Core.Bool.{Bool, _&&_}
 use mathlib.Core.List.{List, [], _∷_}
-use Rattle.library.specs.Library.{Entry, step, call}
+use Rattle.library.specs.Library.{Entry, item, call, Item}
 use Rattle.general.specs.Tests.{some}
-use Rattle.runs.specs.Run.{Item}
 use Rattle.runs.specs.Algebra.{Algebra}
 use Rattle.runs.specs.Possible.{Table}
 
@@ -16,7 +15,7 @@ joined A X Y m = some (λ x. some (λ y. X x && (Y y && A .same (A .join x y) m)
 module _ (A : Algebra) (mark : Item → A .Outcome) where
   -- the outcomes of an entry, by the table
   abbrev pub entryOutcomes : Table A → Entry → A .Outcome → Bool
-  entryOutcomes T (step a) m = A .same (mark a) m
+  entryOutcomes T (item a) m = A .same (mark a) m
   entryOutcomes T (call c) m = T c m
 
   -- the outcomes after the entries, where those of what stands before them are X

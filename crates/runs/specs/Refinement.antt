@@ -7,8 +7,8 @@ use Prim.Native.Nat.{ℕ, _<_}
 use mathlib.Core.Path.{_≡_}
 use mathlib.Core.List.{List, [], _∷_, _++_, map}
 use lib.ListN.{length}
-use Rattle.library.specs.Library.{Library, Sequence, Entry, step, call}
-use Rattle.runs.specs.Run.{Item, alternativesOf, alternativeOf}
+use Rattle.library.specs.Library.{Library, Sequence, Entry, item, call, Item}
+use Rattle.runs.specs.Run.{alternativesOf, alternativeOf}
 
 -- "t.o. task networks tn, which are (possibly empty) finite sequences of tasks t̄ = <t_0 .. t_n> ∈ T*", where "A ∪ C =: T"
 abbrev pub Network : Type 0
@@ -31,4 +31,4 @@ pub data Transforms (S : List Sequence) : Network → Network → Type 0 where
 -- c → ā, of a compound task c and "a sequence of actions ā" (Definition 1): from "<c>", which is "A task network containing only one
 -- task" (source document 000), to a task network that is "primitive", of steps alone.
 abbrev pub Refines : Library → ℕ → List Item → Type 0
-Refines L c w = Transforms (L .sequences) (call c ∷ []) (map step w)
+Refines L c w = Transforms (L .sequences) (call c ∷ []) (map item w)

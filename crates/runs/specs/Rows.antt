@@ -5,9 +5,9 @@ use mathlib.Core.Path.{_≡_}
 use mathlib.Core.Bool.{Bool, true, false, not, _&&_, _||_}
 use mathlib.Core.List.{List, [], _∷_}
 use lib.ListN.{length, getD}
-use Rattle.library.specs.Library.{Library, Entry, step, call}
+use Rattle.library.specs.Library.{Library, Entry, item, call, Item}
 use Rattle.general.specs.Tests.{some}
-use Rattle.runs.specs.Run.{Item, alternativesOf, alternativeOf}
+use Rattle.runs.specs.Run.{alternativesOf, alternativeOf}
 use Rattle.runs.specs.Touch.{Mark, present, absent, untouched, Side, last, first, itemTouch}
 use Rattle.runs.specs.Algebra.{sideAlgebra, sameMark}
 use Rattle.runs.specs.Possible.{columnOf}
@@ -55,8 +55,8 @@ joinRow X Y = rowOf (X 0 && Y 0) (X 1 && Y 1) (λ s m. joinSets s (rowSide s X) 
 abbrev pub startRow : Row
 startRow = rowOf true true (λ s m. sameMark untouched m)
 
-abbrev pub stepRow : Library → ℕ → Item → Row
-stepRow L f a = rowOf true false (λ s m. sameMark (itemTouch L s f a) m)
+abbrev pub itemRow : Library → ℕ → Item → Row
+itemRow L f a = rowOf true false (λ s m. sameMark (itemTouch L s f a) m)
 
 -- the row of a step by whether it needs, sets and clears the fact
 abbrev pub touchRow : Bool → Bool → Bool → Row
@@ -67,7 +67,7 @@ touchRow needs sets clears j =
 
 -- the row of an entry, by the rows of the sequences
 abbrev pub entryRow : Library → ℕ → (ℕ → Row) → Entry → Row
-entryRow L f B (step a) = stepRow L f a
+entryRow L f B (item a) = itemRow L f a
 entryRow L f B (call c) = B c
 
 -- the row after the entries, where that of what stands before them is X

@@ -5,11 +5,7 @@ use Prim.Native.Nat.{ℕ, _<_}
 use mathlib.Core.Path.{_≡_}
 use mathlib.Core.List.{List, [], _∷_, _++_}
 use lib.ListN.{length, getD}
-use Rattle.library.specs.Library.{Library, Alternative, Sequence, Entry, step, call}
-
--- an item of a run: a run is a "finite list of steps", each by its number
-abbrev pub Item : Type 0
-Item = ℕ
+use Rattle.library.specs.Library.{Library, Alternative, Sequence, Item, Entry, item, call}
 
 -- the alternatives of sequence c, none where c is not the number of a sequence
 abbrev pub alternativesOf : List Sequence → ℕ → List Alternative
@@ -23,7 +19,7 @@ alternativeOf S c i = getD (alternativesOf S c) i []
 -- The run u of the sequence called is given by its alternative i.
 pub data Gives (S : List Sequence) : List Entry → List Item → Type 0 where
   nothing : Gives S [] []
-  by-step : {a : ℕ} {es : List Entry} {w : List Item} → Gives S es w → Gives S (step a ∷ es) (a ∷ w)
+  by-item : {a : Item} {es : List Entry} {w : List Item} → Gives S es w → Gives S (item a ∷ es) (a ∷ w)
   by-call : {c : ℕ} {es : List Entry} {u v w : List Item} (i : ℕ) → i < length (alternativesOf S c) → Gives S (alternativeOf S c i) u
       → Gives S es v → w ≡ u ++ v → Gives S (call c ∷ es) w
 

@@ -3,9 +3,9 @@ use Prim.Native.Nat.{ℕ}
 use mathlib.Core.Path.{_≡_}
 use mathlib.Core.Bool.{true}
 use mathlib.Core.List.{List}
-use Rattle.library.specs.Library.{Sequence}
+use Rattle.library.specs.Library.{Sequence, Item}
 use Rattle.general.proofs.Bools.{and-parts}
-use Rattle.runs.specs.Run.{Item, RunOf}
+use Rattle.runs.specs.Run.{RunOf}
 use Rattle.runs.specs.Algebra.{Algebra, outcome, emptyAlgebra}
 use Rattle.runs.specs.Possible.{Table, look}
 

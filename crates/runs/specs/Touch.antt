@@ -4,8 +4,7 @@ use mathlib.Core.Path.{_≡_}
 use mathlib.Core.Bool.{cond}
 use mathlib.Core.List.{List, [], _∷_}
 use lib.ListN.{getD}
-use Rattle.library.specs.Library.{has, Library, Step}
-use Rattle.runs.specs.Run.{Item}
+use Rattle.library.specs.Library.{has, Library, Step, Item}
 use Rattle.runs.specs.Execution.{stepOf}
 
 -- "Last side", "First side"
