@@ -1,7 +1,12 @@
 // What the calls answer with: the head, the refusals of document 01, and the 64-bit numbers that the C side gets.
+use crate::word::SEQUENCES_FROM;
+use crate::word::STEPS_FROM;
 ghost use mathlib.Core.Path.{_≡_};
-ghost use Prim.Native.Nat.{_≤_};
+ghost use Prim.Native.Nat.{_^_, _<_};
 ghost use Rattle.image.specs.Answer.{refusalNumber, refusalPosition, refusalAnswer, headPayload, checkedAnswer};
+
+// A refusal's number stands above its position, which is below 2^32.
+const POSITIONS: u64 = 0x100000000;
 
 // What the head counts: facts (F), steps (A) and sequences (C).
 pub struct Head {
@@ -46,7 +51,7 @@ pub enum Checked {
 
 // Document 01's number of a refusal.
 pub fn number(refusal: Refusal) -> u64
-    ensures { λ r. ⌜ (r ≡ refusalNumber refusal) × (r ≤ 12) ⌝ }
+    ensures { λ r. ⌜ (r ≡ refusalNumber refusal) × (r < 2 ^ 32) ⌝ }
 {
     match refusal {
         Refusal::Length => 1,
@@ -88,14 +93,14 @@ pub fn position(refusal: Refusal) -> u32
 pub fn refusal_answer(refusal: Refusal) -> u64
     ensures { λ r. ⌜ r ≡ refusalAnswer refusal ⌝ }
 {
-    number(refusal) * 4294967296 + position(refusal) as u64
+    number(refusal) * POSITIONS + position(refusal) as u64
 }
 
 // The payload of a head.
 fn head_payload(h: Head) -> u64
     ensures { λ r. ⌜ r ≡ headPayload h ⌝ }
 {
-    h.facts as u64 + h.steps as u64 * 128 + h.sequences as u64 * 262144
+    h.facts as u64 + h.steps as u64 * STEPS_FROM as u64 + h.sequences as u64 * SEQUENCES_FROM as u64
 }
 
 // The 64-bit answer that stands for what the check finds: the head's payload, or the refusal.

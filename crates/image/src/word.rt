@@ -3,41 +3,77 @@ use crate::answer::Head;
 ghost use mathlib.Core.Path.{_≡_};
 ghost use Rattle.image.specs.Word.{kind, payload, isFact, isEntry, isKind, wrappedSum, folded, sumRight, headOf, headRight};
 
+// A payload is below this, 2^28; the kind is what stands above it.
+pub const PAYLOADS: u32 = 0x10000000;
+
+// The kinds of words, of an image and of a chain's links.
+pub const KIND_HEAD: u32 = 1;
+pub const KIND_NEEDS: u32 = 2;
+pub const KIND_SETS: u32 = 3;
+pub const KIND_CLEARS: u32 = 4;
+pub const KIND_STEP: u32 = 5;
+pub const KIND_SEQUENCE: u32 = 6;
+pub const KIND_ALTERNATIVE: u32 = 7;
+pub const KIND_STEP_ENTRY: u32 = 8;
+pub const KIND_SEQUENCE_ENTRY: u32 = 9;
+pub const KIND_CHOICE: u32 = 10;
+pub const KIND_POSITION: u32 = 11;
+pub const KIND_UNTOUCHED: u32 = 12;
+pub const KIND_SUM: u32 = 15;
+
+// An alternative's opener: its payload is 0.
+pub const ALTERNATIVE_WORD: u32 = 0x70000000;
+
+// The most words of an image, and the most that its head counts.
+pub const MOST_WORDS: usize = 8192;
+pub const MOST_FACTS: u32 = 64;
+pub const MOST_STEPS: u32 = 1024;
+pub const MOST_SEQUENCES: u32 = 256;
+
+// The head's payload: F in bits 0 to 6, A in bits 7 to 17, C in bits 18 to 26. A field is what the payload has from its first bit on, below a
+// power of two; nothing stands from bit 27 on.
+pub const FACTS_BELOW: u32 = 0x80;
+pub const STEPS_FROM: u32 = 0x80;
+pub const STEPS_BELOW: u32 = 0x800;
+pub const SEQUENCES_FROM: u32 = 0x40000;
+pub const SEQUENCES_BELOW: u32 = 0x200;
+pub const HEAD_END: u32 = 0x8000000;
+
 // Bits 31 to 28.
 pub fn kind_of(w: u32) -> u32
     ensures { λ r. ⌜ r ≡ kind w ⌝ }
 {
-    w / 268435456
+    w / PAYLOADS
 }
 
 // The low 28 bits.
 pub fn payload_of(w: u32) -> u32
     ensures { λ r. ⌜ r ≡ payload w ⌝ }
 {
-    w % 268435456
+    w % PAYLOADS
 }
 
 // Whether a word is of kind `k`.
 pub fn is_kind(k: u32, w: u32) -> bool
     ensures { λ r. ⌜ r ≡ isKind k w ⌝ }
 {
-    w / 268435456 == k
+    w / PAYLOADS == k
 }
 
 // A fact word: kind 2, 3 or 4.
 pub fn is_fact(w: u32) -> bool
     ensures { λ r. ⌜ r ≡ isFact w ⌝ }
 {
-    let k = w / 268435456;
-    (k == 2) | (k == 3) | (k == 4)
+    let k = w / PAYLOADS;
+    (k == KIND_NEEDS) | (k == KIND_SETS) | (k == KIND_CLEARS)
 }
 
 // An entry: kind 8 or 9.
 pub fn is_entry(w: u32) -> bool
     ensures { λ r. ⌜ r ≡ isEntry w ⌝ }
 {
-    let k = w / 268435456;
-    (k == 8) | (k == 9)
+    let k = w / PAYLOADS;
+    (k == KIND_STEP_ENTRY) | (k == KIND_SEQUENCE_ENTRY)
 }
 
 // The words' sum with wrap at 2^32.
@@ -57,7 +93,7 @@ fn wrapped_sum(words: &[u32]) -> u32
 fn fold(s: u32) -> u32
     ensures { λ r. ⌜ r ≡ folded s ⌝ }
 {
-    std::num::wrapping_add_u32(s, s / 268435456) % 268435456
+    std::num::wrapping_add_u32(s, s / PAYLOADS) % PAYLOADS
 }
 
 // The payload of the sum word after these words.
@@ -72,18 +108,18 @@ pub fn sum_right(earlier: &[u32], w: u32) -> bool
     ensures { λ r. ⌜ r ≡ sumRight (now (earlier .entry)) w ⌝ }
 {
     let s = sum_of(earlier);
-    (w / 268435456 == 15) & (w % 268435456 == s)
+    (w / PAYLOADS == KIND_SUM) & (w % PAYLOADS == s)
 }
 
 // What the head counts.
 pub fn head_of(w: u32) -> Head
     ensures { λ r. ⌜ r ≡ headOf w ⌝ }
 {
-    let p = w % 268435456;
+    let p = w % PAYLOADS;
     Head {
-        facts: p % 128,
-        steps: p / 128 % 2048,
-        sequences: p / 262144 % 512,
+        facts: p % FACTS_BELOW,
+        steps: p / STEPS_FROM % STEPS_BELOW,
+        sequences: p / SEQUENCES_FROM % SEQUENCES_BELOW,
     }
 }
 
@@ -91,11 +127,11 @@ pub fn head_of(w: u32) -> Head
 pub fn head_right(w: u32) -> bool
     ensures { λ r. ⌜ r ≡ headRight w ⌝ }
 {
-    let p = w % 268435456;
-    let f = p % 128;
-    (w / 268435456 == 1)
-        & ((1 <= f) & (f <= 64))
-        & (p / 128 % 2048 <= 1024)
-        & (p / 262144 % 512 <= 256)
-        & (p / 134217728 == 0)
+    let p = w % PAYLOADS;
+    let f = p % FACTS_BELOW;
+    (w / PAYLOADS == KIND_HEAD)
+        & ((1 <= f) & (f <= MOST_FACTS))
+        & (p / STEPS_FROM % STEPS_BELOW <= MOST_STEPS)
+        & (p / SEQUENCES_FROM % SEQUENCES_BELOW <= MOST_SEQUENCES)
+        & (p / HEAD_END == 0)
 }

@@ -1,4 +1,5 @@
 // The two parts of an accepted image: the steps' part and the sequences' part, each a slice that begins where they begin.
+use image::word::KIND_SEQUENCE;
 use image::word::is_kind;
 ghost use mathlib.Core.Path.{_≡_};
 ghost use mathlib.Core.Bool.{true};
@@ -13,10 +14,10 @@ pub fn none_opens(words: &[u32], at: usize) -> bool
     requires { ⌜ at + 4 ≤ length (now words) ⌝ }
     ensures { λ r. ⌜ (r ≡ true → NoneOpens (now (words .entry)) at) ⌝ }
 {
-    let a = is_kind(6, words[at]);
-    let b = is_kind(6, words[at + 1]);
-    let c = is_kind(6, words[at + 2]);
-    let d = is_kind(6, words[at + 3]);
+    let a = is_kind(KIND_SEQUENCE, words[at]);
+    let b = is_kind(KIND_SEQUENCE, words[at + 1]);
+    let c = is_kind(KIND_SEQUENCE, words[at + 2]);
+    let d = is_kind(KIND_SEQUENCE, words[at + 3]);
     !(a | b | c | d)
 }
 
@@ -40,7 +41,7 @@ fn first_sequence(words: &[u32]) -> usize
 {
     let mut i = pass_fours(words);
     while i < words.len() {
-        if is_kind(6, words[i]) {
+        if is_kind(KIND_SEQUENCE, words[i]) {
             return i;
         }
         i += 1;

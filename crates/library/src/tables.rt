@@ -2,6 +2,10 @@
 // last word to the first, since a step's facts stand after its opener.
 use crate::parts::none_opens;
 use image::answer::Head;
+use image::word::KIND_NEEDS;
+use image::word::KIND_SEQUENCE;
+use image::word::KIND_SETS;
+use image::word::KIND_STEP;
 use image::word::is_kind;
 use image::word::payload_of;
 ghost use mathlib.Core.Path.{_≡_};
@@ -25,14 +29,14 @@ fn with_word(m: Masks, w: u32) -> Masks
     ensures { λ r. ⌜ r ≡ withWord m w ⌝ }
 {
     let f = payload_of(w);
-    if is_kind(2, w) {
+    if is_kind(KIND_NEEDS, w) {
         return Masks {
             needs: column::with_fact(m.needs, f),
             sets: m.sets,
             clears: m.clears,
         };
     }
-    if is_kind(3, w) {
+    if is_kind(KIND_SETS, w) {
         return Masks {
             needs: m.needs,
             sets: column::with_fact(m.sets, f),
@@ -71,7 +75,7 @@ pub fn write_masks(h: Head, part: &[u32], area: &mut [u64])
     while 0 < i {
         i -= 1;
         let w = part[i];
-        if is_kind(5, w) {
+        if is_kind(KIND_STEP, w) {
             write_row(area, payload_of(w), m);
             m = Masks {
                 needs: 0,
@@ -109,7 +113,7 @@ pub fn write_places(h: Head, part: &[u32], area: &mut [u32])
         let at = i - 1;
         let w = part[at];
         i = pass_back(part, at);
-        if is_kind(6, w) {
+        if is_kind(KIND_SEQUENCE, w) {
             area[payload_of(w) as usize] = at as u32;
         }
     }

@@ -2,6 +2,9 @@
 use image::answer::Checked;
 use image::answer::Head;
 use image::answer::Refusal;
+use image::word::KIND_SEQUENCE;
+use image::word::KIND_STEP;
+use image::word::MOST_WORDS;
 use image::word::head_of;
 use image::word::head_right;
 use image::word::is_kind;
@@ -63,7 +66,7 @@ fn read_facts(h: Head, last: u32, part: &[u32], at: usize) -> Body
     ensures { λ r. ⌜ FactsRead h (now (part .entry)) last at r ⌝ }
 {
     let mut l = last;
-    if !is_kind(5, l) {
+    if !is_kind(KIND_STEP, l) {
         return Body { last: l, next: at };
     }
     let mut low = 0;
@@ -93,7 +96,7 @@ fn read_steps(h: Head, first: u32, part: &[u32]) -> Steps
     let mut i = 0;
     while i < part.len() {
         let w = part[i];
-        if is_kind(6, w) {
+        if is_kind(KIND_SEQUENCE, w) {
             return Steps::End(e, i);
         }
         if let Fault::Found(r) = step_fault(h, e, (1 + i) as u32, w) {
@@ -200,7 +203,7 @@ pub fn check(image: &[u32]) -> Checked
     if n < 2 {
         return Checked::Refused(Refusal::Length);
     }
-    if 8192 < n {
+    if MOST_WORDS < n {
         return Checked::Refused(Refusal::Length);
     }
     let last = n - 1;

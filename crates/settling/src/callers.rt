@@ -4,6 +4,8 @@ use column::sets::holds;
 use column::sets::union;
 use column::sets::without;
 use column::with_fact;
+use image::word::KIND_SEQUENCE;
+use image::word::KIND_SEQUENCE_ENTRY;
 use image::word::is_kind;
 use image::word::payload_of;
 ghost use mathlib.Core.Path.{_≡_};
@@ -66,11 +68,11 @@ fn add_calls(part: &[u32], at: usize, callers: &mut [u64], c: usize)
     let mut i = at;
     while i < part.len() {
         let w = part[i];
-        if is_kind(6, w) {
+        if is_kind(KIND_SEQUENCE, w) {
             return;
         }
         i += 1;
-        if is_kind(9, w) {
+        if is_kind(KIND_SEQUENCE_ENTRY, w) {
             add(callers, w, c);
         }
     }
