@@ -18,6 +18,7 @@ use Rattle.image.specs.declared.answer.Checked.{Checked}
 use Rattle.library.proofs.Accepted.{faultless, counted}
 use Rattle.outcome.specs.Area.{outcomes}
 use Rattle.cards.specs.Card.{cardWords, cards}
+use Rattle.row.specs.Words.{rowWords}
 use Rattle.row.specs.Card.{tableCards}
 use Rattle.card.specs.Answer.{cardsGiven, cardsOf, areaWith, Called}
 use Rattle.card.specs.declared.answer.Cards.{Cards}
@@ -36,18 +37,18 @@ call-refused image area r e = called image area (Checked.Refused r) (Cards.Refus
 
 module _ (image area : List ℕ) (h : Head) (accepted : checked image ≡ Checked.Accepted h) where
   -- 8
-  pub call-short : length area < 7 * h .sequences → Called image area (Cards.Refused CardArea) area
+  pub call-short : length area < cardWords * h .sequences → Called image area (Cards.Refused CardArea) area
   call-short l =
       called image area (Checked.Accepted h) (Cards.Refused CardArea) area accepted
-      (ap (λ (b : Bool). cond b (Cards.Refused CardArea) (Cards.Filled (h .sequences))) (lt-ltb (length area) (7 * h .sequences) l)) refl
+      (ap (λ (b : Bool). cond b (Cards.Refused CardArea) (Cards.Filled (h .sequences))) (lt-ltb (length area) (cardWords * h .sequences) l)) refl
 
   -- the outcome table of an accepted image has at most 256 rows
-  pub call-rows : 8 * h .sequences ≤ 2048
+  pub call-rows : rowWords * h .sequences ≤ 2048
   call-rows = omega (arith, faultless image h accepted .sequences-high)
 
   -- the cards of the outcome table
   pub cards-written : (table rest after : List ℕ) → table ≡ outcomes (libraryOf image) ++ rest
-      → after ≡ tableCards table 0 (h .sequences) ++ drop (7 * h .sequences) area → after ≡ cards (libraryOf image) ++ drop (7 * h .sequences) area
+      → after ≡ tableCards table 0 (h .sequences) ++ drop (cardWords * h .sequences) area → after ≡ cards (libraryOf image) ++ drop (cardWords * h .sequences) area
   cards-written table rest after t w =
       let L = libraryOf image in
       let has : Counted L h = counted image h accepted in
@@ -56,13 +57,13 @@ module _ (image area : List ℕ) (h : Head) (accepted : checked image ≡ Checke
       let high : L .facts ≤ 64 = omega (arith, has .facts, right .facts-high) in
       let written : tableCards table 0 (h .sequences) ≡ cards L =
       ap₂ (λ (x : List ℕ) (n : ℕ). tableCards x 0 n) t (sym (has .sequences)) ∙ table-cards L low high rest in
-      w ∙ ap (λ (x : List ℕ). x ++ drop (7 * h .sequences) area) written
+      w ∙ ap (λ (x : List ℕ). x ++ drop (cardWords * h .sequences) area) written
 
-  pub call-filled : 7 * h .sequences ≤ length area → (after : List ℕ) → after ≡ cards (libraryOf image) ++ drop (7 * h .sequences) area
+  pub call-filled : cardWords * h .sequences ≤ length area → (after : List ℕ) → after ≡ cards (libraryOf image) ++ drop (cardWords * h .sequences) area
       → Called image area (Cards.Filled (h .sequences)) after
   call-filled l after w =
       called image area (Checked.Accepted h) (Cards.Filled (h .sequences)) after accepted
-      (ap (λ (b : Bool). cond b (Cards.Refused CardArea) (Cards.Filled (h .sequences))) (le-ltb (length area) (7 * h .sequences) l)) w
+      (ap (λ (b : Bool). cond b (Cards.Refused CardArea) (Cards.Filled (h .sequences))) (le-ltb (length area) (cardWords * h .sequences) l)) w
 
 -- where the call answers a count, the image is accepted with that count, and the area has room
 pub filled : (found : Checked) (room n : ℕ) → cardsGiven found room ≡ Cards.Filled n

@@ -18,6 +18,7 @@ use Rattle.runs.specs.Touch.{Question, rival, untouchedOn, lastSet, lastCleared
 use Rattle.runs.specs.Possible.{columnPossible, possibleOutcome, hasRun}
 use Rattle.outcome.specs.Area.{outcomeWord, outcomeRows, outcomes}
 use Rattle.cards.specs.Card.{may, always, changeable, flags, card, cardsFrom, cards}
+use Rattle.row.specs.Words.{rowWords}
 use Rattle.row.specs.Card.{flagsOf, alwaysOf, rowCard, tableCards}
 
 module _ (L : Library) (low : 1 ≤ L .facts) (high : L .facts ≤ 64) (c : ℕ) where
@@ -54,14 +55,14 @@ module _ (L : Library) (low : 1 ≤ L .facts) (high : L .facts ≤ 64) (c : ℕ)
       ∷ always-word lastCleared i ∷ []
 
 module _ (L : Library) (low : 1 ≤ L .facts) (high : L .facts ≤ 64) (rest : List ℕ) where
-  rows-cards : (table : List ℕ) (c n : ℕ) → drop (8 * c) table ≡ outcomeRows L c n ++ rest → tableCards table c n ≡ cardsFrom L c n
+  rows-cards : (table : List ℕ) (c n : ℕ) → drop (rowWords * c) table ≡ outcomeRows L c n ++ rest → tableCards table c n ≡ cardsFrom L c n
   unfolding tableCards cardsFrom outcomeRows
   rows-cards table c zero e = refl
   rows-cards table c (suc n) e =
-      let eight : 8 * c + 8 ≡ 8 * suc c = omega arith in
-      let next : drop (8 * suc c) table ≡ outcomeRows L (suc c) n ++ rest =
-      ap (λ (i : ℕ). drop i table) (sym eight) ∙ sym (drop-drop 8 (8 * c) table) ∙ ap (drop 8) e in
-      ap₂ (λ (x y : List ℕ). x ++ y) (ap (λ (r : List ℕ). rowCard (take 8 r)) e ∙ row-card L low high c) (rows-cards table (suc c) n next)
+      let eight : rowWords * c + rowWords ≡ rowWords * suc c = omega arith in
+      let next : drop (rowWords * suc c) table ≡ outcomeRows L (suc c) n ++ rest =
+      ap (λ (i : ℕ). drop i table) (sym eight) ∙ sym (drop-drop rowWords (rowWords * c) table) ∙ ap (drop rowWords) e in
+      ap₂ (λ (x y : List ℕ). x ++ y) (ap (λ (r : List ℕ). rowCard (take rowWords r)) e ∙ row-card L low high c) (rows-cards table (suc c) n next)
 
   -- the cards of the outcome table, whatever stands after it
   pub table-cards : tableCards (outcomes L ++ rest) 0 (length (L .sequences)) ≡ cards L

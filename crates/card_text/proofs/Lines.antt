@@ -6,6 +6,7 @@ use mathlib.Core.Path.{_≡_, sym, ap, ap₂, _∙_, subst}
 use mathlib.Core.List.{List, [], _∷_, _++_}
 use lib.ListN.{length, take, drop, getD, length-take}
 use lib.Seq.{drop-cons, drop-length}
+use Rattle.cards.specs.Card.{cardWords}
 use Rattle.card_text.specs.Text.{InFront, PutWithin}
 use Rattle.card_text.specs.Number.{numeral}
 use Rattle.card_text.specs.Writers.{NumeralAsked}
@@ -121,22 +122,22 @@ module _ (cards a₀ : List ℕ) (at n : ℕ) where
     pub lines-room : 130 * n ≤ at → at ≤ length a₀ → (130 ≤ start) × (start ≤ length a)
     lines-room fits within = omega (arith, p .below, p .within, p .put .room, p .put .long)
 
-    pub lines-next : (k : ℕ) → k ≡ 7 → (a′ : List ℕ) (start′ : ℕ)
-        → (let card = take k (drop (7 * (c - 1)) cards) in PutWithin (17 * length card + 11) a start a′ start′ (cardLine (c - 1) card))
+    pub lines-next : (k : ℕ) → k ≡ cardWords → (a′ : List ℕ) (start′ : ℕ)
+        → (let card = take k (drop (cardWords * (c - 1)) cards) in PutWithin (17 * length card + 11) a start a′ start′ (cardLine (c - 1) card))
         → LinesAt cards a₀ at n a′ start′ (c - 1)
     unfolding linesFrom
     lines-next k seven a′ start′ q =
         let j = c - 1 in
         let back : c ≡ suc j = omega arith in
         let more : suc (n - c) ≡ n - j = omega (arith, p .below) in
-        let same : cardLine j (take k (drop (7 * j) cards)) ++ linesFrom cards c (n - c) ≡ linesFrom cards j (n - j) =
-        ap₂ (λ (i d : ℕ). cardLine j (take i (drop (7 * j) cards)) ++ linesFrom cards d (n - c)) seven back ∙ ap (linesFrom cards j) more in
+        let same : cardLine j (take k (drop (cardWords * j) cards)) ++ linesFrom cards c (n - c) ≡ linesFrom cards j (n - j) =
+        ap₂ (λ (i d : ℕ). cardLine j (take i (drop (cardWords * j) cards)) ++ linesFrom cards d (n - c)) seven back ∙ ap (linesFrom cards j) more in
         record {
           below = omega (arith, p .below);
           put =
               subst (InFront a₀ at a′ start′) same
-              (front-join a₀ at a start (linesFrom cards c (n - c)) a′ start′ (cardLine j (take k (drop (7 * j) cards))) (p .put) (q .put));
-          within = omega (arith, p .below, p .within, q .within, length-take k (drop (7 * j) cards));
+              (front-join a₀ at a start (linesFrom cards c (n - c)) a′ start′ (cardLine j (take k (drop (cardWords * j) cards))) (p .put) (q .put));
+          within = omega (arith, p .below, p .within, q .within, length-take k (drop (cardWords * j) cards));
         }
 
   pub lines-end : (a : List ℕ) (start c : ℕ) → c ≤ 0 → LinesAt cards a₀ at n a start c → InFront a₀ at a start (cardLines cards n)

@@ -15,7 +15,7 @@ use Rattle.library.specs.Accepted.{Counted}
 use Rattle.image.specs.declared.answer.Refusal.the-variants.{CardArea}
 use Rattle.image.specs.declared.answer.Checked.{Checked}
 use Rattle.library.proofs.Accepted.{faultless, counted}
-use Rattle.cards.specs.Card.{cards}
+use Rattle.cards.specs.Card.{cardWords, cards}
 use Rattle.card.specs.Answer.{cardsGiven, areaWith, Called}
 use Rattle.card.specs.declared.answer.Cards.{Cards}
 use Rattle.cards.proofs.Area.{length-cards}
@@ -39,13 +39,13 @@ pub words-part : (bytes rest words : List ℕ) (n : ℕ) → n ≡ length bytes 
 words-part bytes rest words n e w = ap (take n) w ∙ take-at (wordsOf bytes) rest n (length-words bytes ∙ sym e)
 
 -- what stands past the cards is not printed
-lines-prefix : (xs ys : List ℕ) (c n : ℕ) → 7 * (c + n) ≤ length xs → linesFrom (xs ++ ys) c n ≡ linesFrom xs c n
+lines-prefix : (xs ys : List ℕ) (c n : ℕ) → cardWords * (c + n) ≤ length xs → linesFrom (xs ++ ys) c n ≡ linesFrom xs c n
 unfolding linesFrom
 lines-prefix xs ys c zero l = refl
 lines-prefix xs ys c (suc n) l =
-    let here : take 7 (drop (7 * c) (xs ++ ys)) ≡ take 7 (drop (7 * c) xs) =
-    ap (take 7) (drop-append-le (7 * c) xs ys (omega arith))
-    ∙ take-append-le 7 (drop (7 * c) xs) ys (omega (arith, length-drop (7 * c) xs)) in
+    let here : take cardWords (drop (cardWords * c) (xs ++ ys)) ≡ take cardWords (drop (cardWords * c) xs) =
+    ap (take cardWords) (drop-append-le (cardWords * c) xs ys (omega arith))
+    ∙ take-append-le cardWords (drop (cardWords * c) xs) ys (omega (arith, length-drop (cardWords * c) xs)) in
     ap₂ (λ (x y : List ℕ). cardLine c x ++ y) here (lines-prefix xs ys (suc c) n (omega arith))
 
 module _ (image area : List ℕ) (room : 1792 ≤ length area) where
@@ -58,9 +58,9 @@ module _ (image area : List ℕ) (room : 1792 ≤ length area) where
       let L = libraryOf image in
       let has : Counted L h = counted image h e in
       let few = faultless image h e .sequences-high in
-      let enough = le-ltb (length area) (7 * h .sequences) (omega arith) in
+      let enough = le-ltb (length area) (cardWords * h .sequences) (omega arith) in
       ap (λ (a : Cards). answerText a (areaWith a image area)) (ap (λ (b : Bool). cond b (Cards.Refused CardArea) (Cards.Filled (h .sequences))) enough)
-      ∙ lines-prefix (cards L) (drop (7 * h .sequences) area) 0 (h .sequences) (omega (arith, length-cards L, has .sequences))
+      ∙ lines-prefix (cards L) (drop (cardWords * h .sequences) area) 0 (h .sequences) (omega (arith, length-cards L, has .sequences))
 
   module _ (found : Cards) (after : List ℕ) (call : Called image area found after) where
     pub answer-asked : (text : List ℕ) (at : ℕ) → length after ≡ length area → 33280 ≤ at → at ≤ length text → AnswerAsked text at found after

@@ -2,6 +2,7 @@
 use Prim.Native.Nat.{ℕ, zero, suc, _*_}
 use mathlib.Core.List.{List, [], _∷_, _++_}
 use lib.ListN.{take, drop}
+use Rattle.cards.specs.Card.{cardWords}
 use Rattle.card_text.specs.Number.{numeral}
 
 -- "then the seven card words in hexadecimal .., one space between": each word after a space
@@ -16,7 +17,7 @@ cardLine c card = numeral 10 c ++ (spaced card ++ (10 ∷ []))
 -- the lines of n sequences from sequence c on, their cards in one list
 unfoldable pub linesFrom : List ℕ → ℕ → ℕ → List ℕ
 linesFrom cards c zero = []
-linesFrom cards c (suc n) = cardLine c (take 7 (drop (7 * c) cards)) ++ linesFrom cards (suc c) n
+linesFrom cards c (suc n) = cardLine c (take cardWords (drop (cardWords * c) cards)) ++ linesFrom cards (suc c) n
 
 unfoldable pub cardLines : List ℕ → ℕ → List ℕ
 cardLines cards n = linesFrom cards 0 n

@@ -4,6 +4,7 @@ use mathlib.Core.Path.{_≡_}
 use mathlib.Core.List.{List}
 use lib.ListN.{length}
 use Rattle.image.specs.Answer.{refusalNumber, refusalPosition}
+use Rattle.cards.specs.Card.{cardWords}
 use Rattle.card.specs.declared.answer.Cards.{Cards}
 use Rattle.card_text.specs.Number.{numeral}
 use Rattle.card_text.specs.Line.{cardLines, refusalLine}
@@ -22,6 +23,6 @@ pub record NumeralAsked (area : List ℕ) (at b n : ℕ) : Type 0 where
 
 -- what the writer of an answer asks: the words of the cards, at most 256, and room in front of the text that begins at `at`
 pub record AnswerAsked (area : List ℕ) (at : ℕ) (found : Cards) (words : List ℕ) : Type 0 where
-  pub filled : (n : ℕ) → found ≡ Cards.Filled n → (n ≤ 256) × (7 * n ≤ length words)
+  pub filled : (n : ℕ) → found ≡ Cards.Filled n → (n ≤ 256) × (cardWords * n ≤ length words)
   pub room : 33280 ≤ at
   pub within : at ≤ length area

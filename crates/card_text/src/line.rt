@@ -2,9 +2,11 @@
 use crate::bytes::put_byte;
 use crate::bytes::put_bytes;
 use crate::number::put_numeral;
+use row::card::CARD_WORDS;
 ghost use mathlib.Core.List.{_∷_};
 ghost use Prim.Native.Nat.{_+_, _*_, _≤_};
 ghost use lib.ListN.{length};
+ghost use Rattle.cards.specs.Card.{cardWords};
 ghost use Rattle.card_text.specs.Text.{InFront, PutWithin};
 ghost use Rattle.card_text.specs.Number.{numeral};
 ghost use Rattle.card_text.specs.Line.{spaced, cardLine, cardLines, refusalLine};
@@ -44,15 +46,15 @@ pub fn put_line(text: &mut [u8], at: usize, sequence: u32, card: &[u64]) -> usiz
 
 // Puts the lines of the first `n` sequences, whose cards stand one after the other, in front of the text that begins at `at`.
 pub fn put_lines(text: &mut [u8], at: usize, n: u32, cards: &[u64]) -> usize
-    requires { ⌜ (130 * n ≤ at) × (at ≤ length (now text)) × (7 * n ≤ length (now cards)) ⌝ }
+    requires { ⌜ (130 * n ≤ at) × (at ≤ length (now text)) × (cardWords * n ≤ length (now cards)) ⌝ }
     ensures { λ r. ⌜ InFront (now (text .entry)) at (now (text .exit)) r (cardLines (now (cards .entry)) n) ⌝ }
 {
     let mut c = n;
     let mut begin = at;
     while 0 < c {
         c -= 1;
-        let from = 7 * c as usize;
-        let to = from + 7;
+        let from = CARD_WORDS * c as usize;
+        let to = from + CARD_WORDS;
         begin = put_line(text, begin, c, &cards[from..to]);
     }
     begin

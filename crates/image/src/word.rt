@@ -8,17 +8,29 @@ pub const PAYLOADS: u32 = 0x10000000;
 
 // The kinds of words, of an image and of a chain's links.
 pub const KIND_HEAD: u32 = 1;
+
 pub const KIND_NEEDS: u32 = 2;
+
 pub const KIND_SETS: u32 = 3;
+
 pub const KIND_CLEARS: u32 = 4;
+
 pub const KIND_STEP: u32 = 5;
+
 pub const KIND_SEQUENCE: u32 = 6;
+
 pub const KIND_ALTERNATIVE: u32 = 7;
+
 pub const KIND_STEP_ENTRY: u32 = 8;
+
 pub const KIND_SEQUENCE_ENTRY: u32 = 9;
+
 pub const KIND_CHOICE: u32 = 10;
+
 pub const KIND_POSITION: u32 = 11;
+
 pub const KIND_UNTOUCHED: u32 = 12;
+
 pub const KIND_SUM: u32 = 15;
 
 // An alternative's opener: its payload is 0.
@@ -26,17 +38,25 @@ pub const ALTERNATIVE_WORD: u32 = 0x70000000;
 
 // The most words of an image, and the most that its head counts.
 pub const MOST_WORDS: usize = 8192;
+
 pub const MOST_FACTS: u32 = 64;
+
 pub const MOST_STEPS: u32 = 1024;
+
 pub const MOST_SEQUENCES: u32 = 256;
 
 // The head's payload: F in bits 0 to 6, A in bits 7 to 17, C in bits 18 to 26. A field is what the payload has from its first bit on, below a
 // power of two; nothing stands from bit 27 on.
 pub const FACTS_BELOW: u32 = 0x80;
+
 pub const STEPS_FROM: u32 = 0x80;
+
 pub const STEPS_BELOW: u32 = 0x800;
+
 pub const SEQUENCES_FROM: u32 = 0x40000;
+
 pub const SEQUENCES_BELOW: u32 = 0x200;
+
 pub const HEAD_END: u32 = 0x8000000;
 
 // Bits 31 to 28.

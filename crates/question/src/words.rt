@@ -4,11 +4,21 @@ ghost use Prim.Native.Nat.{_+_, _^_, _≤_, _<_};
 ghost use lib.ListN.{length, set};
 ghost use Rattle.chains.specs.Link.{choiceWord};
 
+// The first word of a link, which has the sequence from bit 0 on and the alternative from bit 8 on.
+const CHOICE_WORD: u32 = 0xa0000000;
+
+const ALTERNATIVE_FROM: u32 = 0x100;
+
+// The second word, which has the position of an entry, or says that there is none.
+pub const POSITION_WORD: u32 = 0xb0000000;
+
+pub const UNTOUCHED_WORD: u32 = 0xc0000000;
+
 // Writes the two words of a link: "kind 10 (bits 0 to 7 the sequence, bits 8 to 20 the alternative, the rest 0)", and the word for its place.
 pub fn put_link(area: &mut [u32], at: usize, c: u32, alternative: u32, place: u32)
     requires { ⌜ (at + 2 ≤ length (now area)) × (c < 2 ^ 28) × (alternative ≤ 8192) ⌝ }
     ensures { λ _. ⌜ now (area .exit) ≡ set (set (now (area .entry)) at (choiceWord c alternative)) (at + 1) place ⌝ }
 {
-    area[at] = 2684354560 + (alternative * 256 + c);
+    area[at] = CHOICE_WORD + (alternative * ALTERNATIVE_FROM + c);
     area[at + 1] = place;
 }

@@ -13,7 +13,7 @@ use Rattle.column.proofs.Bits.{bit-le, bit-or, bit-and, bit-not, bit-none}
 use Rattle.runs.specs.Touch.{Mark, present, absent, untouched, Side, last, first}
 use Rattle.runs.specs.Rows as rows
 use Rattle.runs.specs.Rows.{columnNumber, joinRow, touchRow}
-use Rattle.row.specs.Words.{allFacts, startRow, notWord, stepRow, joinRows, orRows, liveRow, isSet, bitRow}
+use Rattle.row.specs.Words.{rowWords, allFacts, startRow, notWord, stepRow, joinRows, orRows, liveRow, isSet, bitRow}
 use Rattle.row.specs.declared.words.Row.{Row}
 use Rattle.runs.proofs.Rows.{by-column}
 
@@ -64,7 +64,7 @@ none-set f = ap (λ (n : ℕ). eqb n 1) (bit-none f)
 -- ---- rows, bit by bit
 
 -- what either row has
-pub or-bits : (x y : Row) (f j : ℕ) → j < 8 → bitRow (orRows x y) f j ≡ (bitRow x f j || bitRow y f j)
+pub or-bits : (x y : Row) (f j : ℕ) → j < rowWords → bitRow (orRows x y) f j ≡ (bitRow x f j || bitRow y f j)
 or-bits x y f =
     by-column (λ (j : ℕ). bitRow (orRows x y) f j ≡ (bitRow x f j || bitRow y f j)) (or-set (x .run) (y .run) f) (or-set (x .empty) (y .empty) f) side
   where
@@ -77,7 +77,7 @@ or-bits x y f =
     side first untouched = or-set (x .first .untouched) (y .first .untouched) f
 
 -- the row where it has a run
-pub live-bits : (x : Row) (f j : ℕ) → j < 8 → bitRow (liveRow x) f j ≡ (bitRow x f 0 && bitRow x f j)
+pub live-bits : (x : Row) (f j : ℕ) → j < rowWords → bitRow (liveRow x) f j ≡ (bitRow x f 0 && bitRow x f j)
 live-bits x f =
     by-column (λ (j : ℕ). bitRow (liveRow x) f j ≡ (bitRow x f 0 && bitRow x f j)) (and-set (x .run) (x .run) f) (and-set (x .run) (x .empty) f) side
   where
@@ -93,7 +93,7 @@ live-bits x f =
 later-set : (a b c f : ℕ) → isSet (bitOr (bitAnd a b) c) f ≡ (isSet a f && isSet b f || isSet c f)
 later-set a b c f = or-set (bitAnd a b) c f ∙ ap (λ (t : Bool). t || isSet c f) (and-set a b f)
 
-pub join-bits : (x y : Row) (f j : ℕ) → j < 8 → bitRow (joinRows x y) f j ≡ joinRow (bitRow x f) (bitRow y f) j
+pub join-bits : (x y : Row) (f j : ℕ) → j < rowWords → bitRow (joinRows x y) f j ≡ joinRow (bitRow x f) (bitRow y f) j
 join-bits x y f =
     by-column (λ (j : ℕ). bitRow (joinRows x y) f j ≡ joinRow (bitRow x f) (bitRow y f) j) (and-set (x .run) (y .run) f)
     (and-set (x .empty) (y .empty) f) side
@@ -113,7 +113,7 @@ all-set n f l =
     ∙ ap (λ (k : ℕ). eqb k 1) (bit-not n 0 f (pow-pos n) l ∙ ap (λ (k : ℕ). 1 - k) (bit-none f))
 
 -- no entry
-pub start-bits : (n f : ℕ) → f < n → (j : ℕ) → j < 8 → bitRow (startRow (allFacts n)) f j ≡ rows.startRow j
+pub start-bits : (n f : ℕ) → f < n → (j : ℕ) → j < rowWords → bitRow (startRow (allFacts n)) f j ≡ rows.startRow j
 start-bits n f l =
     by-column (λ (j : ℕ). bitRow (startRow (allFacts n)) f j ≡ rows.startRow j) (all-set n f l) (all-set n f l) side
   where
@@ -135,7 +135,7 @@ module _ (n one other f : ℕ) (l : f < n) (u : n ≤ 64) (a : one < 2 ^ 64) (b 
       and-set (allFacts n) (notWord (bitOr one other)) f ∙ ap (λ (t : Bool). t && isSet (notWord (bitOr one other)) f) (all-set n f l)
       ∙ not-set (bitOr one other) f (or-lt 64 one other a b) (omega arith) ∙ ap not (or-set one other f)
 
-pub step-bits : (n needs sets clears f : ℕ) → f < n → n ≤ 64 → needs < 2 ^ 64 → sets < 2 ^ 64 → clears < 2 ^ 64 → (j : ℕ) → j < 8
+pub step-bits : (n needs sets clears f : ℕ) → f < n → n ≤ 64 → needs < 2 ^ 64 → sets < 2 ^ 64 → clears < 2 ^ 64 → (j : ℕ) → j < rowWords
     → bitRow (stepRow (allFacts n) needs sets clears) f j ≡ touchRow (isSet needs f) (isSet sets f) (isSet clears f) j
 step-bits n needs sets clears f l u a b c =
     by-column (λ (j : ℕ). bitRow (stepRow (allFacts n) needs sets clears) f j ≡ touchRow (isSet needs f) (isSet sets f) (isSet clears f) j)

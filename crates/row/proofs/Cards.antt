@@ -8,24 +8,26 @@ use mathlib.Core.Path.{_≡_, refl, sym, ap, ap₂, _∙_}
 use mathlib.Core.List.{List, [], _∷_, _++_, append-assoc, append-nil}
 use lib.ListN.{length, take, drop, set, length-append, length-drop, drop-of-length-le}
 use lib.Seq.{take-at, drop-at, drop-drop, sets-eq}
+use Rattle.cards.specs.Card.{cardWords}
+use Rattle.row.specs.Words.{rowWords}
 use Rattle.row.specs.Card.{rowCard, rowAt, tableCards}
 
 -- ---- one card
 
 -- seven stores into a part of seven words leave just what was stored
-pub seven-stores : (l : List ℕ) (a b c d e f g : ℕ) → length l ≡ 7
+pub seven-stores : (l : List ℕ) (a b c d e f g : ℕ) → length l ≡ cardWords
     → set (set (set (set (set (set (set l 0 a) 1 b) 2 c) 3 d) 4 e) 5 f) 6 g ≡ a ∷ b ∷ c ∷ d ∷ e ∷ f ∷ g ∷ []
 seven-stores l a b c d e f g n =
     sets-eq (a ∷ b ∷ c ∷ d ∷ e ∷ f ∷ g ∷ []) l 0 (omega arith)
-    ∙ ap (λ (r : List ℕ). a ∷ b ∷ c ∷ d ∷ e ∷ f ∷ g ∷ r) (drop-of-length-le l {i = 7} (omega arith))
+    ∙ ap (λ (r : List ℕ). a ∷ b ∷ c ∷ d ∷ e ∷ f ∷ g ∷ r) (drop-of-length-le l {i = cardWords} (omega arith))
 
 -- ---- all cards
 
-length-card : (row : List ℕ) → length (rowCard row) ≡ 7
+length-card : (row : List ℕ) → length (rowCard row) ≡ cardWords
 unfolding rowCard
 length-card row = refl
 
-length-cards : (table : List ℕ) (c n : ℕ) → length (tableCards table c n) ≡ 7 * n
+length-cards : (table : List ℕ) (c n : ℕ) → length (tableCards table c n) ≡ cardWords * n
 unfolding tableCards
 length-cards table c zero = refl
 length-cards table c (suc n) =
@@ -42,9 +44,9 @@ cards-snoc table c (suc n) =
 -- the cards of the sequences below c are written, and the words past them stay
 pub record CardsAt (table area₀ area : List ℕ) (n c : ℕ) : Type 0 where
   pub within : c ≤ n
-  pub written : area ≡ tableCards table 0 c ++ drop (7 * c) area₀
+  pub written : area ≡ tableCards table 0 c ++ drop (cardWords * c) area₀
 
-module _ (table area₀ : List ℕ) (n : ℕ) (room : 7 * n ≤ length area₀) where
+module _ (table area₀ : List ℕ) (n : ℕ) (room : cardWords * n ≤ length area₀) where
   pub cards-start : CardsAt table area₀ area₀ n 0
   unfolding tableCards
   cards-start = record { within = omega arith; written = refl }
@@ -55,29 +57,29 @@ module _ (table area₀ : List ℕ) (n : ℕ) (room : 7 * n ≤ length area₀) 
 
     pub cards-long : length area ≡ length area₀
     unfolding done
-    cards-long = omega (arith, ap length (at .written), length-append done (drop (7 * c) area₀), length-cards table 0 c, length-drop (7 * c) area₀, at .within)
+    cards-long = omega (arith, ap length (at .written), length-append done (drop (cardWords * c) area₀), length-cards table 0 c, length-drop (cardWords * c) area₀, at .within)
 
     -- the next card in its part: the words before the part are the cards so far, and those after it stay
-    pub cards-next : c < n → (j k : ℕ) (part : List ℕ) → j ≡ 8 → k ≡ 7 → part ≡ rowCard (take j (drop (8 * c) table))
-        → CardsAt table area₀ (take (7 * c) area ++ (part ++ drop k (drop (7 * c) area))) n (c + 1)
+    pub cards-next : c < n → (j k : ℕ) (part : List ℕ) → j ≡ rowWords → k ≡ cardWords → part ≡ rowCard (take j (drop (rowWords * c) table))
+        → CardsAt table area₀ (take (cardWords * c) area ++ (part ++ drop k (drop (cardWords * c) area))) n (c + 1)
     unfolding done
     cards-next l j k part eight seven new =
-        let before : take (7 * c) area ≡ done = ap (take (7 * c)) (at .written) ∙ take-at done (drop (7 * c) area₀) (7 * c) (length-cards table 0 c) in
+        let before : take (cardWords * c) area ≡ done = ap (take (cardWords * c)) (at .written) ∙ take-at done (drop (cardWords * c) area₀) (cardWords * c) (length-cards table 0 c) in
         let here : part ≡ rowCard (rowAt table (0 + c)) =
-        new ∙ ap₂ (λ (i d : ℕ). rowCard (take i (drop (8 * d) table))) eight (sym (zero-add c)) in
-        let seam : 7 * c + 7 ≡ 7 * (c + 1) = omega arith in
-        let past : drop k (drop (7 * c) area) ≡ drop (7 * (c + 1)) area₀ =
-        ap₂ drop seven (ap (drop (7 * c)) (at .written) ∙ drop-at done (drop (7 * c) area₀) (7 * c) (length-cards table 0 c))
-        ∙ drop-drop 7 (7 * c) area₀ ∙ ap (λ (i : ℕ). drop i area₀) seam in
+        new ∙ ap₂ (λ (i d : ℕ). rowCard (take i (drop (rowWords * d) table))) eight (sym (zero-add c)) in
+        let seam : cardWords * c + cardWords ≡ cardWords * (c + 1) = omega arith in
+        let past : drop k (drop (cardWords * c) area) ≡ drop (cardWords * (c + 1)) area₀ =
+        ap₂ drop seven (ap (drop (cardWords * c)) (at .written) ∙ drop-at done (drop (cardWords * c) area₀) (cardWords * c) (length-cards table 0 c))
+        ∙ drop-drop cardWords (cardWords * c) area₀ ∙ ap (λ (i : ℕ). drop i area₀) seam in
         record {
           within = omega arith;
           written =
               ap₂ (λ (x y : List ℕ). x ++ y) before (ap₂ (λ (x y : List ℕ). x ++ y) here past)
-              ∙ sym (append-assoc done (rowCard (rowAt table (0 + c))) (drop (7 * (c + 1)) area₀))
-              ∙ ap (λ (x : List ℕ). x ++ drop (7 * (c + 1)) area₀) (sym (cards-snoc table 0 c) ∙ ap (tableCards table 0) (sym (add-one c)));
+              ∙ sym (append-assoc done (rowCard (rowAt table (0 + c))) (drop (cardWords * (c + 1)) area₀))
+              ∙ ap (λ (x : List ℕ). x ++ drop (cardWords * (c + 1)) area₀) (sym (cards-snoc table 0 c) ∙ ap (tableCards table 0) (sym (add-one c)));
         }
 
-    pub cards-end : n ≤ c → area ≡ tableCards table 0 n ++ drop (7 * n) area₀
+    pub cards-end : n ≤ c → area ≡ tableCards table 0 n ++ drop (cardWords * n) area₀
     cards-end l =
         let all : c ≡ n = omega (arith, at .within) in
-        at .written ∙ ap (λ (k : ℕ). tableCards table 0 k ++ drop (7 * k) area₀) all
+        at .written ∙ ap (λ (k : ℕ). tableCards table 0 k ++ drop (cardWords * k) area₀) all

@@ -5,6 +5,7 @@ use lib.ListN.{getD, take, drop}
 use lib.Bits.{bitOr}
 use lib.Count.{ones}
 use Rattle.column.specs.Sets.{difference}
+use Rattle.row.specs.Words.{rowWords}
 
 -- the flags from the columns "a run exists", "an empty run exists", "last set" and "last cleared"
 abbrev pub flagsOf : ℕ → ℕ → ℕ → ℕ → ℕ
@@ -26,7 +27,7 @@ rowCard row =
 
 -- row c of a table
 abbrev pub rowAt : List ℕ → ℕ → List ℕ
-rowAt table c = take 8 (drop (8 * c) table)
+rowAt table c = take rowWords (drop (rowWords * c) table)
 
 -- the cards of n rows from row c on
 unfoldable pub tableCards : List ℕ → ℕ → ℕ → List ℕ

@@ -10,6 +10,10 @@ use Rattle.column.specs.Column.{bit}
 use Rattle.row.specs.declared.words.Marks.{Marks}
 use Rattle.row.specs.declared.words.Row.{Row}
 
+-- a row's words in a table
+abbrev pub rowWords : ℕ
+rowWords = 8
+
 -- all facts below F
 abbrev pub allFacts : ℕ → ℕ
 allFacts facts = 2 ^ facts - 1
@@ -103,19 +107,19 @@ sameRows x y =
 abbrev pub rowIn : List ℕ → ℕ → Row
 rowIn table c =
     record {
-      run = getD table (8 * c) 0;
-      empty = getD table (8 * c + 1) 0;
+      run = getD table (rowWords * c) 0;
+      empty = getD table (rowWords * c + 1) 0;
       last =
           record {
-            present = getD table (8 * c + 2) 0;
-            absent = getD table (8 * c + 3) 0;
-            untouched = getD table (8 * c + 4) 0;
+            present = getD table (rowWords * c + 2) 0;
+            absent = getD table (rowWords * c + 3) 0;
+            untouched = getD table (rowWords * c + 4) 0;
           };
       first =
           record {
-            present = getD table (8 * c + 5) 0;
-            absent = getD table (8 * c + 6) 0;
-            untouched = getD table (8 * c + 7) 0;
+            present = getD table (rowWords * c + 5) 0;
+            absent = getD table (rowWords * c + 6) 0;
+            untouched = getD table (rowWords * c + 7) 0;
           };
     }
 
@@ -126,11 +130,11 @@ withRow table c r =
     (set
     (set
     (set
-    (set (set (set (set table (8 * c) (r .run)) (8 * c + 1) (r .empty)) (8 * c + 2) (r .last .present)) (8 * c + 3) (r .last .absent))
-    (8 * c + 4) (r .last .untouched))
-    (8 * c + 5) (r .first .present))
-    (8 * c + 6) (r .first .absent))
-    (8 * c + 7) (r .first .untouched)
+    (set (set (set (set table (rowWords * c) (r .run)) (rowWords * c + 1) (r .empty)) (rowWords * c + 2) (r .last .present)) (rowWords * c + 3) (r .last .absent))
+    (rowWords * c + 4) (r .last .untouched))
+    (rowWords * c + 5) (r .first .present))
+    (rowWords * c + 6) (r .first .absent))
+    (rowWords * c + 7) (r .first .untouched)
 
 -- the words of a row in the order of the columns
 abbrev pub wordsOf : Row → List ℕ

@@ -1,4 +1,13 @@
 // The card writer: a card from a row of the outcome table, and the cards of all sequences.
+use crate::words::EMPTY_RUN;
+use crate::words::FIRST_NEEDED;
+use crate::words::FIRST_SET;
+use crate::words::FIRST_UNTOUCHED;
+use crate::words::LAST_CLEARED;
+use crate::words::LAST_SET;
+use crate::words::LAST_UNTOUCHED;
+use crate::words::ROW_WORDS;
+use crate::words::RUN;
 use column::sets::count;
 use column::sets::union;
 use column::sets::without;
@@ -6,14 +15,36 @@ ghost use mathlib.Core.Path.{_≡_};
 ghost use mathlib.Core.List.{_++_};
 ghost use Prim.Native.Nat.{_*_, _≤_};
 ghost use lib.ListN.{length, drop};
+ghost use Rattle.cards.specs.Card.{cardWords};
+ghost use Rattle.row.specs.Words.{rowWords};
 ghost use Rattle.row.specs.Card.{flagsOf, alwaysOf, rowCard, tableCards};
+
+// The words of a card, in their order.
+pub const FLAGS: usize = 0;
+
+pub const ALWAYS_NEEDED: usize = 1;
+
+pub const MAY_NEED: usize = 2;
+
+pub const MAY_SET: usize = 3;
+
+pub const MAY_CLEAR: usize = 4;
+
+pub const ALWAYS_SET: usize = 5;
+
+pub const ALWAYS_CLEARED: usize = 6;
+
+pub const CARD_WORDS: usize = 7;
+
+// The number of changeable facts stands in the flags from bit 8 on.
+const COUNT_FROM: u64 = 0x100;
 
 // The flags word: a run exists, an empty run exists, and the number of facts that some run sets or clears last.
 fn flags(run: u64, empty: u64, set: u64, cleared: u64) -> u64
     ensures { λ r. ⌜ r ≡ flagsOf run empty set cleared ⌝ }
 {
     let changeable = count(union(set, cleared));
-    run % 2 + 2 * (empty % 2) + 256 * changeable as u64
+    run % 2 + 2 * (empty % 2) + COUNT_FROM * changeable as u64
 }
 
 // An "always" column: a run exists, and neither of the two rival outcomes is possible.
@@ -25,33 +56,33 @@ fn always(run: u64, rival: u64, untouched: u64) -> u64
 
 // Writes a sequence's card into its own part of the card area, from its row of the outcome table.
 pub fn write_card(row: &[u64], part: &mut [u64])
-    requires { ⌜ (length (now row) ≡ 8) × (length (now part) ≡ 7) ⌝ }
+    requires { ⌜ (length (now row) ≡ rowWords) × (length (now part) ≡ cardWords) ⌝ }
     ensures { λ _. ⌜ now (part .exit) ≡ rowCard (now (row .entry)) ⌝ }
 {
-    let run = row[0];
-    let set = row[2];
-    let cleared = row[3];
-    let untouched = row[4];
-    part[0] = flags(run, row[1], set, cleared);
-    part[1] = always(run, row[6], row[7]);
-    part[2] = row[5];
-    part[3] = set;
-    part[4] = cleared;
-    part[5] = always(run, cleared, untouched);
-    part[6] = always(run, set, untouched);
+    let run = row[RUN];
+    let set = row[LAST_SET];
+    let cleared = row[LAST_CLEARED];
+    let untouched = row[LAST_UNTOUCHED];
+    part[FLAGS] = flags(run, row[EMPTY_RUN], set, cleared);
+    part[ALWAYS_NEEDED] = always(run, row[FIRST_SET], row[FIRST_UNTOUCHED]);
+    part[MAY_NEED] = row[FIRST_NEEDED];
+    part[MAY_SET] = set;
+    part[MAY_CLEAR] = cleared;
+    part[ALWAYS_SET] = always(run, cleared, untouched);
+    part[ALWAYS_CLEARED] = always(run, set, untouched);
 }
 
 // Writes the cards of the first `n` sequences, sequence 0 first. Words past them stay.
 pub fn write_cards(n: usize, table: &[u64], area: &mut [u64])
-    requires { ⌜ (8 * n ≤ length (now table)) × (7 * n ≤ length (now area)) ⌝ }
-    ensures { λ _. ⌜ now (area .exit) ≡ tableCards (now (table .entry)) 0 n ++ drop (7 * n) (now (area .entry)) ⌝ }
+    requires { ⌜ (rowWords * n ≤ length (now table)) × (cardWords * n ≤ length (now area)) ⌝ }
+    ensures { λ _. ⌜ now (area .exit) ≡ tableCards (now (table .entry)) 0 n ++ drop (cardWords * n) (now (area .entry)) ⌝ }
 {
     let mut c = 0;
     while c < n {
-        let row = 8 * c;
-        let row_end = row + 8;
-        let at = 7 * c;
-        let end = at + 7;
+        let row = ROW_WORDS * c;
+        let row_end = row + ROW_WORDS;
+        let at = CARD_WORDS * c;
+        let end = at + CARD_WORDS;
         write_card(&table[row..row_end], &mut area[at..end]);
         c += 1;
     }

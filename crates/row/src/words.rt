@@ -1,9 +1,32 @@
 // A row of the outcome table: what is possible of one sequence, or of the entries read so far, for all facts at once. Bit f of each word says
 // it of fact f.
+use image::word::MOST_FACTS;
 ghost use mathlib.Core.Path.{_≡_};
 ghost use Prim.Native.Nat.{_+_, _-_, _*_, _≤_};
 ghost use lib.ListN.{length};
-ghost use Rattle.row.specs.Words.{allFacts, noRow, startRow, stepMarks, stepRow, laterMarks, joinRows, orMarks, orRows, liveMarks, liveRow, sameMarks, sameRows, rowIn, withRow};
+ghost use Rattle.row.specs.Words.{rowWords, allFacts, noRow, startRow, stepMarks, stepRow, laterMarks, joinRows, orMarks, orRows, liveMarks, liveRow, sameMarks, sameRows, rowIn, withRow};
+
+// The words of a row in a table, in their order.
+pub const RUN: usize = 0;
+
+pub const EMPTY_RUN: usize = 1;
+
+pub const LAST_SET: usize = 2;
+
+pub const LAST_CLEARED: usize = 3;
+
+pub const LAST_UNTOUCHED: usize = 4;
+
+pub const FIRST_NEEDED: usize = 5;
+
+pub const FIRST_SET: usize = 6;
+
+pub const FIRST_UNTOUCHED: usize = 7;
+
+pub const ROW_WORDS: usize = 8;
+
+// A word of which every bit is set.
+pub const ALL_BITS: u64 = 0xffffffffffffffff;
 
 // The outcomes on one side. On the last side `present` is "sets" and `absent` is "clears"; on the first side `present` is "needs" and
 // `absent` is "sets".
@@ -26,7 +49,7 @@ pub fn all_facts(facts: u32) -> u64
     requires { ⌜ (1 ≤ facts) × (facts ≤ 64) ⌝ }
     ensures { λ r. ⌜ r ≡ allFacts facts ⌝ }
 {
-    18446744073709551615u64 >> (64 - facts)
+    ALL_BITS >> (MOST_FACTS - facts)
 }
 
 // Nothing is possible.
@@ -189,42 +212,42 @@ pub fn same(x: Row, y: Row) -> bool
     (x.run == y.run) & (x.empty == y.empty) & last & first
 }
 
-// Row `c` of a table of eight words a row.
+// Row `c` of a table.
 pub fn row_at(table: &[u64], c: usize) -> Row
-    requires { ⌜ 8 * c + 8 ≤ length (now table) ⌝ }
+    requires { ⌜ rowWords * c + rowWords ≤ length (now table) ⌝ }
     ensures { λ r. ⌜ r ≡ rowIn (now (table .entry)) c ⌝ }
 {
-    let at = 8 * c;
+    let at = ROW_WORDS * c;
     Row {
         run: table[at],
-        empty: table[at + 1],
+        empty: table[at + EMPTY_RUN],
         last: Marks {
-            present: table[at + 2],
-            absent: table[at + 3],
-            untouched: table[at + 4],
+            present: table[at + LAST_SET],
+            absent: table[at + LAST_CLEARED],
+            untouched: table[at + LAST_UNTOUCHED],
         },
         first: Marks {
-            present: table[at + 5],
-            absent: table[at + 6],
-            untouched: table[at + 7],
+            present: table[at + FIRST_NEEDED],
+            absent: table[at + FIRST_SET],
+            untouched: table[at + FIRST_UNTOUCHED],
         },
     }
 }
 
 // Writes row `c` of a table.
 pub fn put_row(table: &mut [u64], c: usize, r: Row)
-    requires { ⌜ 8 * c + 8 ≤ length (now table) ⌝ }
+    requires { ⌜ rowWords * c + rowWords ≤ length (now table) ⌝ }
     ensures { λ _. ⌜ now (table .exit) ≡ withRow (now (table .entry)) c r ⌝ }
 {
-    let at = 8 * c;
+    let at = ROW_WORDS * c;
     let last = r.last;
     let first = r.first;
     table[at] = r.run;
-    table[at + 1] = r.empty;
-    table[at + 2] = last.present;
-    table[at + 3] = last.absent;
-    table[at + 4] = last.untouched;
-    table[at + 5] = first.present;
-    table[at + 6] = first.absent;
-    table[at + 7] = first.untouched;
+    table[at + EMPTY_RUN] = r.empty;
+    table[at + LAST_SET] = last.present;
+    table[at + LAST_CLEARED] = last.absent;
+    table[at + LAST_UNTOUCHED] = last.untouched;
+    table[at + FIRST_NEEDED] = first.present;
+    table[at + FIRST_SET] = first.absent;
+    table[at + FIRST_UNTOUCHED] = first.untouched;
 }

@@ -19,6 +19,7 @@ ghost use Rattle.rules.specs.Quick.{entryRight, alternativeRight, bodyRi
 
 // Added with wrap, these take 8 × 2^28 and 9 × 2^28 away: what is left of an entry is its payload.
 const LESS_STEP_ENTRY: u32 = 0x80000000;
+
 const LESS_SEQUENCE_ENTRY: u32 = 0x70000000;
 
 // What the rules ask of the words before a word: how many steps and sequences they open, and the word right before it.
@@ -40,11 +41,13 @@ fn may_stand(h: Head, e: Earlier, w: u32) -> bool
 {
     let k = w / PAYLOADS;
     let l = e.last / PAYLOADS;
-    ((k == KIND_NEEDS) | (k == KIND_SETS) | (k == KIND_CLEARS)) & ((l == KIND_STEP) | ((l == KIND_NEEDS) | (l == KIND_SETS) | (l == KIND_CLEARS)))
+    ((k == KIND_NEEDS) | (k == KIND_SETS) | (k == KIND_CLEARS))
+        & ((l == KIND_STEP) | ((l == KIND_NEEDS) | (l == KIND_SETS) | (l == KIND_CLEARS)))
         | (k == KIND_STEP) & (e.sequences == 0)
         | (k == KIND_SEQUENCE) & (h.steps <= e.steps)
         | (k == KIND_ALTERNATIVE) & (0 < e.sequences)
-        | ((k == KIND_STEP_ENTRY) | (k == KIND_SEQUENCE_ENTRY)) & ((l == KIND_ALTERNATIVE) | ((l == KIND_STEP_ENTRY) | (l == KIND_SEQUENCE_ENTRY)))
+        | ((k == KIND_STEP_ENTRY) | (k == KIND_SEQUENCE_ENTRY))
+            & ((l == KIND_ALTERNATIVE) | ((l == KIND_STEP_ENTRY) | (l == KIND_SEQUENCE_ENTRY)))
 }
 
 // Refusal 5: whether the payload keeps the rule of its kind.
@@ -67,7 +70,9 @@ fn in_order(e: Earlier, w: u32) -> bool
 {
     let k = w / PAYLOADS;
     let l = e.last / PAYLOADS;
-    !(((k == KIND_NEEDS) | (k == KIND_SETS) | (k == KIND_CLEARS)) & ((l == KIND_NEEDS) | (l == KIND_SETS) | (l == KIND_CLEARS))) | (e.last < w)
+    !(((k == KIND_NEEDS) | (k == KIND_SETS) | (k == KIND_CLEARS))
+        & ((l == KIND_NEEDS) | (l == KIND_SETS) | (l == KIND_CLEARS)))
+        | (e.last < w)
 }
 
 // Whether a word of kind 8 or 9 is right: an entry after a kind 7 or another entry that names what the head counts.
@@ -78,7 +83,8 @@ fn entry_right(h: Head, last: u32, w: u32) -> bool
     let p = w % PAYLOADS;
     let l = last / PAYLOADS;
     ((l == KIND_ALTERNATIVE) | ((l == KIND_STEP_ENTRY) | (l == KIND_SEQUENCE_ENTRY)))
-        & (((k == KIND_STEP_ENTRY) & (p < h.steps)) | ((k == KIND_SEQUENCE_ENTRY) & (p < h.sequences)))
+        & (((k == KIND_STEP_ENTRY) & (p < h.steps))
+            | ((k == KIND_SEQUENCE_ENTRY) & (p < h.sequences)))
 }
 
 // Whether a word of kind 7 is right.
