@@ -85,7 +85,7 @@ enum dulimoven_refusal {
     /* a step's fact word that is not greater, as a 32-bit number, than the fact
      * word before it; its position */
     DULIMOVEN_FACT_ORDER = 6,
-    /* fewer steps or sequences than the head counts; the last word's position */
+    /* fewer steps or sequences than the head counts; the last word's place */
     DULIMOVEN_MISSING = 7,
     /* the card area has fewer than 7 words of 64 bits for each sequence */
     DULIMOVEN_CARD_AREA = 8,
@@ -117,7 +117,7 @@ enum dulimoven_refusal {
  *   4  DULIMOVEN_KIND        a word of a kind that may not stand there
  *   5  DULIMOVEN_PAYLOAD     a payload that breaks the rule of its kind
  *   6  DULIMOVEN_FACT_ORDER  fact words of a step that do not ascend
- *   7  DULIMOVEN_MISSING     steps or sequences that the head counts are missing
+ *   7  DULIMOVEN_MISSING     fewer steps or sequences than the head counts
  * with its position (dulimoven_refusal_of, dulimoven_position_of).
  */
 uint64_t dulimoven_check(const uint32_t *image, size_t image_len);
@@ -258,7 +258,7 @@ enum dulimoven_link_word {
  *   4   DULIMOVEN_KIND        a word of a kind that may not stand there
  *   5   DULIMOVEN_PAYLOAD     a payload that breaks the rule of its kind
  *   6   DULIMOVEN_FACT_ORDER  fact words of a step that do not ascend
- *   7   DULIMOVEN_MISSING     steps or sequences of the head's count are missing
+ *   7   DULIMOVEN_MISSING     fewer steps or sequences than the head counts
  * then the question, with position 0:
  *   9   DULIMOVEN_SEQUENCE    sequence is not below C
  *   10  DULIMOVEN_QUESTION    question is above 5
