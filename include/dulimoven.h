@@ -4,7 +4,7 @@
  * C11, C++17 and C++20. Link with libdulimoven.a.
  *
  * A library image is an array of 32-bit words. Bits 31 to 28 of a word are its
- * kind, the low 28 bits its payload. README.md has an image word by word.
+ * kind, the low 28 bits its payload. docs/IMAGES.md has one word by word.
  *
  * A call answers one 64-bit number: N * 2^32 + P for refusal N at word position
  * P, counted from 0, and below 2^32 what the call is for. All arrays are the
