@@ -27,7 +27,7 @@ static void write_image(const char *name)
     hold(path, fclose(file) == 0);
 }
 
-/* An alternative with its entries; steps are entries by name below. */
+/* An alternative with its entries. Entries that are steps have names below. */
 #define TAKES(...) ALTERNATIVE, __VA_ARGS__
 #define CALL(sequence) ENTRY_SEQUENCE(sequence)
 
@@ -41,21 +41,22 @@ static void write_image(const char *name)
 #define UNIT ENTRY_STEP(1)
 #define RELEASE ENTRY_STEP(2)
 #define MEASURE ENTRY_STEP(3)
-#define SETUP_STEPS(released)                        \
-    STEP(0), SETS(0), STEP(1), NEEDS(0), SETS(1),    \
-        STEP(2), NEEDS(0), CLEARS(released), STEP(3), \
-        NEEDS(0), NEEDS(1), SETS(2)
-#define SETUP_SEQUENCES                                          \
-    SEQUENCE(0), TAKES(REQUEST, UNIT, RELEASE), ALTERNATIVE,     \
+#define SETUP_WORDS(released)                                    \
+    HEAD(3, 4, 4),                                               \
+        STEP(0), SETS(0),                                        \
+        STEP(1), NEEDS(0), SETS(1),                              \
+        STEP(2), NEEDS(0), CLEARS(released),                     \
+        STEP(3), NEEDS(0), NEEDS(1), SETS(2),                    \
+        SEQUENCE(0), TAKES(REQUEST, UNIT, RELEASE), ALTERNATIVE, \
         SEQUENCE(1), TAKES(REQUEST, UNIT, RELEASE),              \
         SEQUENCE(2), TAKES(CALL(0), REQUEST, MEASURE, RELEASE),  \
         SEQUENCE(3), TAKES(CALL(1), REQUEST, MEASURE, RELEASE)
 
 static void write_setup(void)
 {
-    BUILD(HEAD(3, 4, 4), SETUP_STEPS(0), SETUP_SEQUENCES);
+    BUILD(SETUP_WORDS(0));
     write_image("setup");
-    BUILD(HEAD(3, 4, 4), SETUP_STEPS(3), SETUP_SEQUENCES);
+    BUILD(SETUP_WORDS(3));
     write_image("refused");
 }
 
@@ -72,10 +73,10 @@ static void write_setup(void)
 static void write_poll(void)
 {
     BUILD(HEAD(3, 4, 4),
-          /* steps */
-          STEP(0), NEEDS(1), STEP(1), NEEDS(1), SETS(0), STEP(2), CLEARS(1),
-          CLEARS(2), STEP(3), SETS(2), CLEARS(2),
-          /* sequences */
+          STEP(0), NEEDS(1),
+          STEP(1), NEEDS(1), SETS(0),
+          STEP(2), CLEARS(1), CLEARS(2),
+          STEP(3), SETS(2), CLEARS(2),
           SEQUENCE(0), TAKES(POLL, CALL(0)), TAKES(SEE_READY),
           SEQUENCE(1), TAKES(CALL(0), UNLOCK), TAKES(CALL(2)),
           SEQUENCE(2), TAKES(POLL, CALL(2)),
@@ -97,10 +98,11 @@ static void write_poll(void)
 static void write_calls(void)
 {
     BUILD(HEAD(3, 5, 13),
-          /* steps */
-          STEP(0), SETS(0), STEP(1), CLEARS(0), STEP(2), NEEDS(0), SETS(1),
-          STEP(3), SETS(2), STEP(4),
-          /* sequences */
+          STEP(0), SETS(0),
+          STEP(1), CLEARS(0),
+          STEP(2), NEEDS(0), SETS(1),
+          STEP(3), SETS(2),
+          STEP(4),
           SEQUENCE(0), TAKES(ARM), TAKES(WAIT),
           SEQUENCE(1), TAKES(CALL(0), CALL(0)),
           SEQUENCE(2), TAKES(LOG),

@@ -12,7 +12,7 @@
 #include <pthread.h>
 
 /* The libraries: L, and a ring of sequences, each of which calls the next. */
-enum { LIBRARIES = 2, RING = 100, RING_WORDS = 5 + 5 * RING + 1 };
+enum { LIBRARIES = 2, RING = 100, RING_WORDS = 5 + 5 * RING + 1, BEGINS = 16 };
 static struct library {
     uint32_t image[RING_WORDS];
     size_t words;
@@ -20,7 +20,6 @@ static struct library {
 } libraries[LIBRARIES];
 
 /* What a thread lends to the calls: from word `begin` of each array on. */
-enum { BEGINS = 16 };
 struct lent {
     size_t begin;
     uint32_t image[BEGINS + RING_WORDS];
