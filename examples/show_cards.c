@@ -157,6 +157,13 @@ static int is_first_side(int question)
     return question >= DULIMOVEN_FIRST_NEEDED;
 }
 
+/* The question on the same side that asks for no touch. */
+static int untouched_beside(int question)
+{
+    return is_first_side(question) ? DULIMOVEN_FIRST_UNTOUCHED
+                                   : DULIMOVEN_LAST_UNTOUCHED;
+}
+
 /*
  * Whether an entry is a sequence that can touch the reason's fact on its side.
  * On the first side that is to need or to set it; a run that sets it anywhere
@@ -165,10 +172,11 @@ static int is_first_side(int question)
  */
 static int can_touch(const struct reason *reason, uint32_t entry)
 {
-    const uint64_t *card = cards + DULIMOVEN_CARD_WORDS * number_of(entry);
+    const uint64_t *card;
     uint64_t touched;
     if (kind_of(entry) != SEQUENCE_ENTRY)
         return 0;
+    card = cards + DULIMOVEN_CARD_WORDS * number_of(entry);
     touched = card[DULIMOVEN_MAY_SET] | card[DULIMOVEN_MAY_CLEAR];
     if (is_first_side(reason->question))
         touched |= card[DULIMOVEN_MAY_NEED];
@@ -191,17 +199,15 @@ static void add_entries(struct reason *reason, struct entries entries);
 /* Adds how a sequence stays untouched: its link, and then those it calls. */
 static void add_untouched(struct reason *reason, uint32_t sequence)
 {
-    uint64_t question = is_first_side(reason->question)
-                            ? DULIMOVEN_FIRST_UNTOUCHED
-                            : DULIMOVEN_LAST_UNTOUCHED;
+    int question = untouched_beside(reason->question);
     uint32_t *link = reason->links[reason->count];
     if (has_untouched(reason, sequence))
         return;
     reason->cut = reason->untouched == MOST_UNTOUCHED;
     if (reason->cut)
         return;
-    dulimoven_chain(image, words, sequence, question, reason->fact, link,
-                    DULIMOVEN_LINK_WORDS);
+    dulimoven_chain(image, words, sequence, (uint64_t)question, reason->fact,
+                    link, DULIMOVEN_LINK_WORDS);
     reason->untouched++;
     reason->count++;
     add_entries(reason, entries_of(link));
@@ -287,13 +293,12 @@ static int print_called(const struct reason *reason, struct entries entries)
     return count;
 }
 
-/* What a link of kind 12 says: the alternative, and what of it asks on. */
+/* What a link of kind 12 says: what the alternative calls, or why it ends. */
 static void print_untouched(const struct reason *reason, const uint32_t *link,
                             const char *it)
 {
     struct entries entries = entries_of(link);
-    int question = is_first_side(reason->question) ? DULIMOVEN_FIRST_UNTOUCHED
-                                                   : DULIMOVEN_LAST_UNTOUCHED;
+    int question = untouched_beside(reason->question);
     if (entries.begin == entries.end)
         printf(", which is empty");
     else if (print_called(reason, entries) == 0)
