@@ -1,12 +1,26 @@
 /*
- * Prints the cards of a library image in words. Behind a card it prints, for
- * each fact that is missing from an "always" column, the chains of runs that
- * break the column's rule.
+ * Prints the cards of a library image in words, and behind a card why it does
+ * not say "always": for the facts that the sequence may need, set or clear and
+ * does not always, how a run comes to do otherwise.
  *
  *     rt staticlib dulimoven
  *     gcc -Iinclude examples/show_cards.c \
  *         target/staticlib/libdulimoven.a -o target/show_cards
- *     target/show_cards examples/l.image
+ *     target/show_cards examples/setup.image
+ *
+ * One run is reason enough. It is one that leaves the fact untouched where
+ * there is such a run, since no column of the card tells of it, and otherwise
+ * one with the other touch. Facts with the same reason share it.
+ *
+ * A chain to a step is printed link by link. Where a link says that a sequence
+ * leaves the fact untouched, the question goes on: the same is asked of the
+ * sequences that its alternative calls, down to alternatives that are empty or
+ * never touch the fact. It goes on too where a link to a step asks this of
+ * other entries: of those after its position on the last side, of those before
+ * it on the first. A called sequence that never touches the fact is passed
+ * over, as a step is. Of the others each has one line in a reason, however
+ * often it is called, and after 16 such lines the asking stops with "and so
+ * on".
  *
  * A file that cannot be read, and an image that is refused, get a line on
  * standard error and exit status 1.
@@ -14,29 +28,66 @@
 #include "dulimoven.h"
 
 #include <stdio.h>
+#include <string.h>
 
 /* The words of a card after its flags, in their order. */
 static const char *const names[DULIMOVEN_CARD_WORDS] = {
     "",          "always needed", "may need",      "may set",
     "may clear", "always set",    "always cleared"};
 
-/* The "always" columns, and the two questions whose chains break the rule. */
+/*
+ * The "always" columns, each with the "may" column beside it and the two
+ * questions whose chains break its rule, in the order in which they are asked.
+ */
+enum { COLUMNS = 3 };
+static const struct column {
+    int always, may, questions[2];
+} columns[COLUMNS] = {
+    {DULIMOVEN_ALWAYS_NEEDED,
+     DULIMOVEN_MAY_NEED,
+     {DULIMOVEN_FIRST_UNTOUCHED, DULIMOVEN_FIRST_SET}},
+    {DULIMOVEN_ALWAYS_SET,
+     DULIMOVEN_MAY_SET,
+     {DULIMOVEN_LAST_UNTOUCHED, DULIMOVEN_LAST_CLEARED}},
+    {DULIMOVEN_ALWAYS_CLEARED,
+     DULIMOVEN_MAY_CLEAR,
+     {DULIMOVEN_LAST_UNTOUCHED, DULIMOVEN_LAST_SET}}};
+
+/*
+ * By question: what a run with that outcome does, and what is done where the
+ * asking ends, by a step or by an alternative.
+ */
 static const struct {
-    int word;
-    int questions[2];
-} always[3] = {
-    {DULIMOVEN_ALWAYS_NEEDED, {DULIMOVEN_FIRST_SET, DULIMOVEN_FIRST_UNTOUCHED}},
-    {DULIMOVEN_ALWAYS_SET, {DULIMOVEN_LAST_CLEARED, DULIMOVEN_LAST_UNTOUCHED}},
-    {DULIMOVEN_ALWAYS_CLEARED, {DULIMOVEN_LAST_SET, DULIMOVEN_LAST_UNTOUCHED}}};
+    const char *run, *when, *end;
+} outcomes[6] = {{"sets", " last", "sets"},
+                 {"clears", " last", "clears"},
+                 {"neither sets nor clears", "", "never sets or clears"},
+                 {"needs", " first", "needs"},
+                 {"sets", " first", "sets"},
+                 {"neither needs nor sets", "", "never needs or sets"}};
 
-/* What the step at the end of a chain does, by the question. */
-static const char *const touches[6] = {"sets it",  "clears it", "",
-                                       "needs it", "sets it",   ""};
+/* The kinds of the words that a library's sequences are made of. */
+enum { SEQUENCE = 6, ALTERNATIVE = 7, STEP_ENTRY = 8, SEQUENCE_ENTRY = 9 };
 
+/* The library and its cards. */
 static uint32_t image[DULIMOVEN_MOST_IMAGE_WORDS];
 static size_t words;
 static uint64_t cards[DULIMOVEN_MOST_CARD_WORDS];
-static uint32_t chain[DULIMOVEN_MOST_CHAIN_WORDS];
+
+/*
+ * Why a sequence does not always touch a fact: the question that has a chain,
+ * and links. A chain to a step has its links here, each followed by those of
+ * kind 12 for the other entries that it asks to leave the fact untouched. Of
+ * kind 12 there are `untouched`, and where `cut` there would be more.
+ */
+enum { MOST_UNTOUCHED = 16 };
+enum { MOST_LINKS = DULIMOVEN_MOST_SEQUENCES + MOST_UNTOUCHED };
+static struct reason {
+    uint32_t fact;
+    int question, untouched, cut;
+    size_t count;
+    uint32_t links[MOST_LINKS][DULIMOVEN_LINK_WORDS];
+} reasons[DULIMOVEN_MOST_FACTS];
 
 /*
  * Reads the words of an image, each as four bytes with the lowest first. A file
@@ -62,10 +113,281 @@ static int read_image(const char *name)
     return !bad;
 }
 
+static uint32_t kind_of(uint32_t word)
+{
+    return word >> 28;
+}
+
+/* The number of the step or sequence that a word opens or an entry names. */
+static uint32_t number_of(uint32_t word)
+{
+    return word & 0xfffffffu;
+}
+
+static int is_entry(uint32_t word)
+{
+    return kind_of(word) == STEP_ENTRY || kind_of(word) == SEQUENCE_ENTRY;
+}
+
+/* Entries in a row. */
+struct entries {
+    const uint32_t *begin, *end;
+};
+
+/* The entries of the alternative that a link takes. */
+static struct entries entries_of(const uint32_t *link)
+{
+    struct entries entries;
+    const uint32_t *word = image;
+    uint32_t alternatives = dulimoven_link_alternative(link) + 1;
+    while (kind_of(*word) != SEQUENCE ||
+           number_of(*word) != dulimoven_link_sequence(link))
+        word++;
+    for (; alternatives > 0; word++)
+        if (kind_of(*word) == ALTERNATIVE)
+            alternatives--;
+    entries.begin = entries.end = word;
+    while (is_entry(*entries.end))
+        entries.end++;
+    return entries;
+}
+
+static int is_first_side(int question)
+{
+    return question >= DULIMOVEN_FIRST_NEEDED;
+}
+
+/* The question on the same side that asks for no touch. */
+static int untouched_beside(int question)
+{
+    return is_first_side(question) ? DULIMOVEN_FIRST_UNTOUCHED
+                                   : DULIMOVEN_LAST_UNTOUCHED;
+}
+
+/*
+ * Whether an entry is a sequence that can touch the reason's fact on its side.
+ * On the first side that is to need or to set it; a run that sets it anywhere
+ * ends with it set or cleared, so the columns miss none. They count one that
+ * only clears it too, of which a line then says that it does neither.
+ */
+static int can_touch(const struct reason *reason, uint32_t entry)
+{
+    const uint64_t *card;
+    uint64_t touched;
+    if (kind_of(entry) != SEQUENCE_ENTRY)
+        return 0;
+    card = cards + DULIMOVEN_CARD_WORDS * number_of(entry);
+    touched = card[DULIMOVEN_MAY_SET] | card[DULIMOVEN_MAY_CLEAR];
+    if (is_first_side(reason->question))
+        touched |= card[DULIMOVEN_MAY_NEED];
+    return dulimoven_has_fact(touched, reason->fact);
+}
+
+/* Whether the reason has the link that says how a sequence stays untouched. */
+static int has_untouched(const struct reason *reason, uint32_t sequence)
+{
+    size_t i;
+    for (i = 0; i < reason->count; i++)
+        if (dulimoven_link_untouched(reason->links[i]) &&
+            dulimoven_link_sequence(reason->links[i]) == sequence)
+            return 1;
+    return 0;
+}
+
+static void add_entries(struct reason *reason, struct entries entries);
+
+/* Adds how a sequence stays untouched: its link, and then those it calls. */
+static void add_untouched(struct reason *reason, uint32_t sequence)
+{
+    int question = untouched_beside(reason->question);
+    uint32_t *link = reason->links[reason->count];
+    if (has_untouched(reason, sequence))
+        return;
+    reason->cut = reason->untouched == MOST_UNTOUCHED;
+    if (reason->cut)
+        return;
+    dulimoven_chain(image, words, sequence, (uint64_t)question, reason->fact,
+                    link, DULIMOVEN_LINK_WORDS);
+    reason->untouched++;
+    reason->count++;
+    add_entries(reason, entries_of(link));
+}
+
+static void add_entries(struct reason *reason, struct entries entries)
+{
+    for (; entries.begin < entries.end; entries.begin++)
+        if (can_touch(reason, *entries.begin))
+            add_untouched(reason, number_of(*entries.begin));
+}
+
+/* Adds a link to a step or a sequence, and the entries it asks to stay so. */
+static void add_link(struct reason *reason, const uint32_t *link)
+{
+    struct entries entries = entries_of(link);
+    const uint32_t *entry = entries.begin + dulimoven_link_position(link);
+    memcpy(reason->links[reason->count++], link, sizeof reason->links[0]);
+    if (is_first_side(reason->question))
+        entries.end = entry;
+    else
+        entries.begin = entry + 1;
+    add_entries(reason, entries);
+}
+
+/* Finds why a sequence with a run does not always touch a fact as a column
+ * says: one of the column's two questions has a chain. */
+static void find_reason(struct reason *reason, uint32_t sequence,
+                        const struct column *column, uint32_t fact)
+{
+    uint32_t chain[DULIMOVEN_MOST_CHAIN_WORDS];
+    const uint32_t *link = chain;
+    uint64_t links = 0;
+    int i;
+    reason->fact = fact;
+    reason->untouched = reason->cut = 0;
+    reason->count = 0;
+    for (i = 0; i < 2 && links == 0; i++) {
+        reason->question = column->questions[i];
+        links = dulimoven_chain(image, words, sequence,
+                                (uint64_t)reason->question, fact, chain,
+                                DULIMOVEN_MOST_CHAIN_WORDS);
+    }
+    if (dulimoven_link_untouched(chain))
+        add_untouched(reason, sequence);
+    else
+        for (; links > 0; links--, link += DULIMOVEN_LINK_WORDS)
+            add_link(reason, link);
+}
+
+/* Whether two reasons are the same. Where one is cut, that cannot be told. */
+static int same_reason(const struct reason *one, const struct reason *other)
+{
+    return !one->cut && !other->cut && one->question == other->question &&
+           one->count == other->count &&
+           memcmp(one->links, other->links,
+                  one->count * sizeof one->links[0]) == 0;
+}
+
+/* Prints the facts of a column. */
+static void print_facts(uint64_t column)
+{
+    uint32_t fact;
+    for (fact = 0; fact < DULIMOVEN_MOST_FACTS; fact++)
+        if (dulimoven_has_fact(column, fact))
+            printf(" %u", fact);
+}
+
+/* Prints which sequences an alternative calls that can touch the fact, each
+ * once, and answers how many. */
+static int print_called(const struct reason *reason, struct entries entries)
+{
+    char seen[DULIMOVEN_MOST_SEQUENCES] = {0};
+    int count = 0;
+    for (; entries.begin < entries.end; entries.begin++) {
+        uint32_t called = number_of(*entries.begin);
+        if (!can_touch(reason, *entries.begin) || seen[called])
+            continue;
+        seen[called] = 1;
+        printf(count == 0 ? ", which calls sequence %u" : ", %u", called);
+        count++;
+    }
+    return count;
+}
+
+/* What a link of kind 12 says: what the alternative calls, or why it ends. */
+static void print_untouched(const struct reason *reason, const uint32_t *link,
+                            const char *it)
+{
+    struct entries entries = entries_of(link);
+    int question = untouched_beside(reason->question);
+    if (entries.begin == entries.end)
+        printf(", which is empty");
+    else if (print_called(reason, entries) == 0)
+        printf(", which %s %s", outcomes[question].end, it);
+}
+
+/* What a link of kind 11 says: the entry that gives the touch. */
+static void print_touch(const struct reason *reason, const uint32_t *link,
+                        const char *it)
+{
+    uint32_t position = dulimoven_link_position(link);
+    uint32_t entry = entries_of(link).begin[position];
+    printf(", where position %u", position);
+    if (kind_of(entry) == SEQUENCE_ENTRY)
+        printf(" calls sequence %u", number_of(entry));
+    else
+        printf(", step %u, %s %s", number_of(entry),
+               outcomes[reason->question].end, it);
+}
+
+/* The lines of a reason. What a link asks of other entries stands under it. */
+static void print_links(const struct reason *reason, const char *it)
+{
+    int to_step = !dulimoven_link_untouched(reason->links[0]);
+    const char *beside = is_first_side(reason->question) ? "      before that, "
+                                                         : "      after that, ";
+    size_t i;
+    for (i = 0; i < reason->count; i++) {
+        const uint32_t *link = reason->links[i];
+        int untouched = dulimoven_link_untouched(link);
+        printf("%ssequence %u takes alternative %u",
+               untouched && to_step ? beside : "    ",
+               dulimoven_link_sequence(link), dulimoven_link_alternative(link));
+        if (untouched)
+            print_untouched(reason, link, it);
+        else
+            print_touch(reason, link, it);
+        printf("\n");
+    }
+    if (reason->cut)
+        printf("%sand so on\n", to_step ? "      " : "    ");
+}
+
+/* A reason, with the facts that have it missing from a column. */
+static void print_reason(const struct reason *reason, int always,
+                         uint64_t facts)
+{
+    const char *it = facts == UINT64_C(1) << reason->fact ? "it" : "them";
+    printf("  not %s", names[always]);
+    print_facts(facts);
+    printf(": a run %s %s%s\n", outcomes[reason->question].run, it,
+           outcomes[reason->question].when);
+    print_links(reason, it);
+}
+
+/* The reason's fact, and those of a column that have the same reason. */
+static uint64_t facts_with(const struct reason *reason, uint64_t column)
+{
+    uint64_t facts = UINT64_C(1) << reason->fact;
+    uint32_t fact;
+    for (fact = 0; fact < DULIMOVEN_MOST_FACTS; fact++)
+        if (dulimoven_has_fact(column, fact) &&
+            same_reason(reason, reasons + fact))
+            facts |= UINT64_C(1) << fact;
+    return facts;
+}
+
+/* Why facts that a "may" column has are missing from its "always" column. */
+static void print_reasons(uint32_t sequence, const uint64_t *card,
+                          const struct column *column)
+{
+    uint64_t missing = card[column->may] & ~card[column->always];
+    uint32_t fact;
+    for (fact = 0; fact < DULIMOVEN_MOST_FACTS; fact++)
+        if (dulimoven_has_fact(missing, fact))
+            find_reason(reasons + fact, sequence, column, fact);
+    for (fact = 0; fact < DULIMOVEN_MOST_FACTS; fact++)
+        if (dulimoven_has_fact(missing, fact)) {
+            uint64_t facts = facts_with(reasons + fact, missing);
+            print_reason(reasons + fact, column->always, facts);
+            missing &= ~facts;
+        }
+}
+
+/* A card in words. */
 static void print_card(uint32_t sequence, const uint64_t *card)
 {
     uint32_t count = dulimoven_changeable(card);
-    uint32_t word, fact;
+    int word;
     printf("sequence %u: ", sequence);
     if (!dulimoven_has_run(card))
         printf("no run");
@@ -73,62 +395,19 @@ static void print_card(uint32_t sequence, const uint64_t *card)
         printf("%s%u %s can change",
                dulimoven_has_empty_run(card) ? "may be empty; " : "", count,
                count == 1 ? "fact" : "facts");
-    for (word = 1; word < DULIMOVEN_CARD_WORDS; word++) {
-        if (card[word] != 0)
+    for (word = 1; word < DULIMOVEN_CARD_WORDS; word++)
+        if (card[word] != 0) {
             printf("; %s", names[word]);
-        for (fact = 0; fact < DULIMOVEN_MOST_FACTS; fact++)
-            if (dulimoven_has_fact(card[word], fact))
-                printf(" %u", fact);
-    }
+            print_facts(card[word]);
+        }
     printf("\n");
-}
-
-/* A chain link by link. The next link is about the sequence that one calls. */
-static void print_chain(uint64_t links, int question)
-{
-    const uint32_t *link = chain;
-    for (; links > 0; links--, link += DULIMOVEN_LINK_WORDS) {
-        printf("sequence %u, alternative %u", dulimoven_link_sequence(link),
-               dulimoven_link_alternative(link));
-        if (dulimoven_link_untouched(link))
-            printf(": leaves it untouched\n");
-        else if (links > 1)
-            printf(", position %u: calls sequence %u; ",
-                   dulimoven_link_position(link),
-                   dulimoven_link_sequence(link + DULIMOVEN_LINK_WORDS));
-        else
-            printf(", position %u: %s\n", dulimoven_link_position(link),
-                   touches[question]);
-    }
-}
-
-/* Why facts are missing from the "always" columns of a sequence with a run. */
-static void print_reasons(uint32_t sequence, const uint64_t *card,
-                          uint32_t facts)
-{
-    uint32_t fact;
-    int i, j;
-    for (i = 0; i < 3; i++)
-        for (fact = 0; fact < facts; fact++)
-            for (j = 0; j < 2; j++) {
-                int question = always[i].questions[j];
-                uint64_t links;
-                if (dulimoven_has_fact(card[always[i].word], fact))
-                    continue;
-                links = dulimoven_chain(image, words, sequence,
-                                        (uint64_t)question, fact, chain,
-                                        DULIMOVEN_MOST_CHAIN_WORDS);
-                if (links == 0)
-                    continue; /* no run has this outcome */
-                printf("  fact %u not %s: ", fact, names[always[i].word]);
-                print_chain(links, question);
-            }
 }
 
 int main(int count, char **arguments)
 {
     uint64_t checked;
     uint32_t sequence;
+    int column;
     if (count != 2) {
         fprintf(stderr, "usage: show_cards IMAGE\n");
         return 1;
@@ -148,8 +427,8 @@ int main(int count, char **arguments)
     for (sequence = 0; sequence < dulimoven_sequences(checked); sequence++) {
         const uint64_t *card = cards + DULIMOVEN_CARD_WORDS * sequence;
         print_card(sequence, card);
-        if (dulimoven_has_run(card))
-            print_reasons(sequence, card, dulimoven_facts(checked));
+        for (column = 0; column < COLUMNS; column++)
+            print_reasons(sequence, card, columns + column);
     }
     return 0;
 }

@@ -1,15 +1,22 @@
 /*
  * Dulimoven: cards for stimulus sequences.
  *
- * C11 and C++17. Link with libdulimoven.a.
+ * C11, C++17 and C++20. Link with libdulimoven.a.
  *
  * A library image is an array of 32-bit words. Bits 31 to 28 of a word are its
- * kind, the low 28 bits its payload. README.md has an image word by word.
+ * kind, the low 28 bits its payload. docs/IMAGES.md has one word by word.
  *
  * A call answers one 64-bit number: N * 2^32 + P for refusal N at word position
  * P, counted from 0, and below 2^32 what the call is for. All arrays are the
  * caller's, before a call and after it: a call takes over none of them, and has
  * nothing that must be given back.
+ *
+ * Threads: calls may run in several threads at once. A call uses what it is
+ * lent and its own stack, and nothing that outlasts it. Calls at the same time
+ * may share an image, since no call writes it, and may not share an area.
+ *
+ * Alignment: an image is aligned as uint32_t is, a card area as uint64_t, a
+ * chain area as uint32_t. No more is asked.
  */
 #ifndef DULIMOVEN_H
 #define DULIMOVEN_H
@@ -21,19 +28,42 @@
 extern "C" {
 #endif
 
-/* Bounds: arrays of these sizes are enough for every library. */
-enum dulimoven_most {
-    /* words of an image */
-    DULIMOVEN_MOST_IMAGE_WORDS = 8192,
-    /* facts, steps and sequences */
-    DULIMOVEN_MOST_FACTS = 64,
-    DULIMOVEN_MOST_STEPS = 1024,
-    DULIMOVEN_MOST_SEQUENCES = 256,
-    /* words of 64 bits of all cards: 7 for each sequence */
-    DULIMOVEN_MOST_CARD_WORDS = 1792,
-    /* words of 32 bits of a chain: 2 for each sequence */
-    DULIMOVEN_MOST_CHAIN_WORDS = 512
-};
+/*
+ * The format is how the words of an image and of a card are laid out. Its
+ * number rises with every change of either, so that a program that was written
+ * for one layout can tell. The version is 1,000 times the format, plus the
+ * number of changes since that leave the format as it is, such as a new call.
+ *
+ * The numbers from here to the refusals are plain numbers and no enumerators,
+ * since they are multiplied and added with one another.
+ */
+#define DULIMOVEN_FORMAT 1
+#define DULIMOVEN_VERSION (DULIMOVEN_FORMAT * 1000 + 0)
+
+/* How many words of 64 bits a card has, and how many of 32 bits a link. */
+#define DULIMOVEN_CARD_WORDS 7
+#define DULIMOVEN_LINK_WORDS 2
+
+/* Bounds: the most words of an image, facts, steps and sequences. */
+#define DULIMOVEN_MOST_IMAGE_WORDS 8192
+#define DULIMOVEN_MOST_FACTS 64
+#define DULIMOVEN_MOST_STEPS 1024
+#define DULIMOVEN_MOST_SEQUENCES 256
+
+/* Areas of so many words are enough for all cards, and for every chain. */
+#define DULIMOVEN_MOST_CARD_WORDS \
+    (DULIMOVEN_MOST_SEQUENCES * DULIMOVEN_CARD_WORDS)
+#define DULIMOVEN_MOST_CHAIN_WORDS \
+    (DULIMOVEN_MOST_SEQUENCES * DULIMOVEN_LINK_WORDS)
+
+/*
+ * The stack: no call takes more bytes of it, below its caller's frame, than its
+ * number here, whatever it is handed. That is measured, and not proved. A call
+ * takes no memory from the heap.
+ */
+#define DULIMOVEN_STACK_CHECK 1024
+#define DULIMOVEN_STACK_CARDS 131072
+#define DULIMOVEN_STACK_CHAIN 65536
 
 /*
  * The refusals. Of those that apply a call answers the first in this order; of
@@ -55,7 +85,7 @@ enum dulimoven_refusal {
     /* a step's fact word that is not greater, as a 32-bit number, than the fact
      * word before it; its position */
     DULIMOVEN_FACT_ORDER = 6,
-    /* fewer steps or sequences than the head counts; the last word's position */
+    /* fewer steps or sequences than the head counts; the last word's place */
     DULIMOVEN_MISSING = 7,
     /* the card area has fewer than 7 words of 64 bits for each sequence */
     DULIMOVEN_CARD_AREA = 8,
@@ -87,7 +117,7 @@ enum dulimoven_refusal {
  *   4  DULIMOVEN_KIND        a word of a kind that may not stand there
  *   5  DULIMOVEN_PAYLOAD     a payload that breaks the rule of its kind
  *   6  DULIMOVEN_FACT_ORDER  fact words of a step that do not ascend
- *   7  DULIMOVEN_MISSING     steps or sequences that the head counts are missing
+ *   7  DULIMOVEN_MISSING     fewer steps or sequences than the head counts
  * with its position (dulimoven_refusal_of, dulimoven_position_of).
  */
 uint64_t dulimoven_check(const uint32_t *image, size_t image_len);
@@ -111,9 +141,7 @@ enum dulimoven_card_word {
     /* a run exists, and every run sets it */
     DULIMOVEN_ALWAYS_SET = 5,
     /* a run exists, and every run clears it */
-    DULIMOVEN_ALWAYS_CLEARED = 6,
-    /* how many words a card has */
-    DULIMOVEN_CARD_WORDS = 7
+    DULIMOVEN_ALWAYS_CLEARED = 6
 };
 
 /* The parts of a card's flags. */
@@ -190,9 +218,7 @@ enum dulimoven_link_word {
     DULIMOVEN_LINK_POSITION = 11,
     /* the second word, payload 0: the alternative has a run that leaves the
      * fact untouched */
-    DULIMOVEN_LINK_UNTOUCHED = 12,
-    /* how many words a link has */
-    DULIMOVEN_LINK_WORDS = 2
+    DULIMOVEN_LINK_UNTOUCHED = 12
 };
 
 /*
@@ -232,7 +258,7 @@ enum dulimoven_link_word {
  *   4   DULIMOVEN_KIND        a word of a kind that may not stand there
  *   5   DULIMOVEN_PAYLOAD     a payload that breaks the rule of its kind
  *   6   DULIMOVEN_FACT_ORDER  fact words of a step that do not ascend
- *   7   DULIMOVEN_MISSING     steps or sequences of the head's count are missing
+ *   7   DULIMOVEN_MISSING     fewer steps or sequences than the head counts
  * then the question, with position 0:
  *   9   DULIMOVEN_SEQUENCE    sequence is not below C
  *   10  DULIMOVEN_QUESTION    question is above 5

@@ -1,0 +1,173 @@
+/*
+ * How much of the stack each call takes, against the header's numbers. A call
+ * is made in a thread whose stack is painted below the frame that calls it;
+ * afterwards the lowest word without the paint says how deep the call went.
+ * C11 and C++17. Prints what each call takes at most and may take, then a
+ * count; the exit status is 0 where none takes more.
+ *
+ * The calls keep their tables on the stack, of a fixed size each, and none of
+ * their functions calls itself; so what they take depends on which functions an
+ * image and a question lead to. Tried are L, L with each word in each kind, the
+ * largest libraries that there can be, and all questions.
+ */
+#define _POSIX_C_SOURCE 200809L
+#include "harness.h"
+#include "samples.h"
+
+#include <pthread.h>
+#include <stdlib.h>
+
+/* What is measured: a call, for a chain with its question. */
+enum call { CHECK, CARDS, CHAIN, CALLS };
+static enum call measured;
+static uint64_t question;
+
+static const struct {
+    const char *name;
+    size_t allowed;
+} calls[CALLS] = {{"dulimoven_check", DULIMOVEN_STACK_CHECK},
+                  {"dulimoven_cards", DULIMOVEN_STACK_CARDS},
+                  {"dulimoven_chain", DULIMOVEN_STACK_CHAIN}};
+static size_t most_taken[CALLS];
+
+/* Calls on the image under test. Sequence and fact 0 are asked about. */
+static void make_call(void)
+{
+    static uint64_t cards[DULIMOVEN_MOST_CARD_WORDS];
+    static uint32_t chain[DULIMOVEN_MOST_CHAIN_WORDS];
+    const uint32_t *image = area + GUARD;
+    if (measured == CHECK)
+        dulimoven_check(image, words);
+    else if (measured == CARDS)
+        dulimoven_cards(image, words, cards, COUNT(cards));
+    else
+        dulimoven_chain(image, words, 0, question, 0, chain, COUNT(chain));
+}
+
+/*
+ * The stack of the thread that calls, in bytes: four times what any call may
+ * take, so that a call that takes too much is measured, and not ended. The
+ * bytes right below the calling frame are left as they are, since the frame's
+ * own may be among them, and count as taken.
+ */
+enum { STACK = 4 * DULIMOVEN_STACK_CARDS, ALIGNMENT = 4096, FRAME = 128 };
+static const uint64_t paint = UINT64_C(0x5afe5afe5afe5afe);
+static void *stack;
+
+/* Paints what is below this frame, makes the call, and looks for the paint. */
+static void *measure(void *unused)
+{
+    static volatile uint64_t *at, *end;
+    size_t taken;
+    end = (volatile uint64_t *)__builtin_frame_address(0);
+    end -= FRAME / sizeof *end;
+    for (at = (uint64_t *)stack; at < end; at++)
+        *at = paint;
+    make_call();
+    at = (uint64_t *)stack;
+    while (at < end && *at == paint)
+        at++;
+    taken = (size_t)(end - at) * sizeof *end + FRAME;
+    if (taken > most_taken[measured])
+        most_taken[measured] = taken;
+    return unused;
+}
+
+static void measure_in_thread(void)
+{
+    pthread_attr_t attributes;
+    pthread_t thread;
+    if (pthread_attr_init(&attributes) != 0 ||
+        pthread_attr_setstack(&attributes, stack, STACK) != 0 ||
+        pthread_create(&thread, &attributes, measure, NULL) != 0 ||
+        pthread_join(thread, NULL) != 0) {
+        printf("stack_test: no thread\n");
+        exit(1);
+    }
+    pthread_attr_destroy(&attributes);
+}
+
+/* All calls on the image under test. */
+static void measure_calls(void)
+{
+    measured = CHECK;
+    measure_in_thread();
+    measured = CARDS;
+    measure_in_thread();
+    measured = CHAIN;
+    for (question = 0; question <= DULIMOVEN_FIRST_UNTOUCHED; question++)
+        measure_in_thread();
+}
+
+/* L, and L with each word but the sum word in each kind. */
+static void small(void)
+{
+    size_t i;
+    uint32_t kind;
+    build(library_l, L_SUM);
+    measure_calls();
+    for (i = 0; i < 19; i++)
+        for (kind = 0; kind < 16; kind++) {
+            uint32_t given[19];
+            memcpy(given, library_l, sizeof given);
+            given[i] = WORD(kind, given[i] & 0xfffffffu);
+            build(given, 19);
+            measure_calls();
+        }
+}
+
+/*
+ * A library of 64 facts, 1,024 steps, 256 sequences and 8,192 words: each step
+ * needs, sets and clears a fact, and each sequence has one alternative with the
+ * sequence `ahead` of it and as many steps as there is room for.
+ */
+static void large(uint32_t ahead)
+{
+    uint32_t a, c, i;
+    start();
+    put(HEAD(64, 1024, 256));
+    for (a = 0; a < 1024; a++) {
+        put(STEP(a));
+        put(NEEDS(a % 64));
+        put(SETS((a + 1) % 64));
+        put(CLEARS((a + 2) % 64));
+    }
+    for (c = 0; c < 256; c++) {
+        put(SEQUENCE(c));
+        put(ALTERNATIVE);
+        put(DO(c));
+        put(CALL((c + ahead) % 256));
+        put(ALTERNATIVE);
+        for (i = 0; i < 10; i++)
+            put(DO((10 * c + i) % 1024));
+    }
+    while (words < 8191)
+        put(DO(words % 1024));
+    put_sum();
+    hold("the large library has 8,192 words and is accepted",
+         words == 8192 && dulimoven_check(area + GUARD, words) ==
+                              ACCEPTED(64, 1024, 256));
+    measure_calls();
+}
+
+int main(void)
+{
+    int call;
+    if (posix_memalign(&stack, ALIGNMENT, STACK) != 0) {
+        printf("stack_test: no memory\n");
+        return 1;
+    }
+    small();
+    large(0);
+    large(1);
+    large(255);
+    for (call = 0; call < CALLS; call++) {
+        printf("%s takes %zu bytes of stack, and may take %zu\n",
+               calls[call].name, most_taken[call], calls[call].allowed);
+        hold(calls[call].name, most_taken[call] > FRAME &&
+                                   most_taken[call] <= calls[call].allowed);
+    }
+    free(stack);
+    printf("stack_test: %u checks, %u failed\n", ran, failed);
+    return failed == 0 ? 0 : 1;
+}

@@ -1,0 +1,146 @@
+/*
+ * Calls in several threads at once answer what they answer one by one: on an
+ * image that all threads read, and on copies of their own. The arrays that a
+ * thread lends begin at each of 16 words in turn, which are all places in 64
+ * bytes, since the calls ask for no more than the alignment of a word. C11 and
+ * C++17. Prints a line for each thread whose answers differ, then a count; the
+ * exit status is 0 where none does.
+ */
+#define _POSIX_C_SOURCE 200809L
+#include "harness.h"
+#include "samples.h"
+
+#include <pthread.h>
+
+/* The libraries: L, and a ring of sequences, each of which calls the next. */
+enum { LIBRARIES = 2, RING = 100, RING_WORDS = 5 + 5 * RING + 1, BEGINS = 16 };
+static struct library {
+    uint32_t image[RING_WORDS];
+    size_t words;
+    uint64_t sequences;
+} libraries[LIBRARIES];
+
+/* What a thread lends to the calls: from word `begin` of each array on. */
+struct lent {
+    size_t begin;
+    uint32_t image[BEGINS + RING_WORDS];
+    uint64_t cards[BEGINS + RING * DULIMOVEN_CARD_WORDS];
+    uint32_t chain[BEGINS + RING * DULIMOVEN_LINK_WORDS];
+};
+
+/* One number for all numbers so far: each counts, and so does its place. */
+static uint64_t folded(uint64_t fold, uint64_t number)
+{
+    return (fold ^ number) * UINT64_C(0x100000001b3);
+}
+
+/* All answers and all words that the calls write for an image, as a number. */
+static uint64_t answers(const uint32_t *image, const struct library *library,
+                        struct lent *lent)
+{
+    uint64_t *cards = lent->cards + lent->begin;
+    uint32_t *chain = lent->chain + lent->begin;
+    size_t card_words = library->sequences * DULIMOVEN_CARD_WORDS;
+    size_t chain_words = library->sequences * DULIMOVEN_LINK_WORDS;
+    uint64_t sequence, question, answer, fold;
+    size_t i;
+    fold = dulimoven_check(image, library->words);
+    answer = dulimoven_cards(image, library->words, cards, card_words);
+    fold = folded(fold, answer);
+    for (i = 0; i < card_words; i++)
+        fold = folded(fold, cards[i]);
+    for (sequence = 0; sequence < library->sequences; sequence++)
+        for (question = 0; question <= DULIMOVEN_FIRST_UNTOUCHED; question++) {
+            answer = dulimoven_chain(image, library->words, sequence, question,
+                                     0, chain, chain_words);
+            fold = folded(fold, answer);
+            for (i = 0; i < answer * DULIMOVEN_LINK_WORDS && i < chain_words;
+                 i++)
+                fold = folded(fold, chain[i]);
+        }
+    return fold;
+}
+
+/* The answers one by one, which all threads must get. */
+static uint64_t expected[LIBRARIES];
+
+/* A thread, and how many times it got something else. */
+enum { THREADS = 4 };
+static struct worker {
+    pthread_t thread;
+    unsigned shared_differ, own_differ;
+    struct lent lent;
+} workers[THREADS];
+
+static void *work(void *given)
+{
+    struct worker *worker = (struct worker *)given;
+    struct lent *lent = &worker->lent;
+    size_t i;
+    for (lent->begin = 0; lent->begin < BEGINS; lent->begin++)
+        for (i = 0; i < LIBRARIES; i++) {
+            const struct library *library = libraries + i;
+            uint32_t *own = lent->image + lent->begin;
+            memcpy(own, library->image, sizeof library->image);
+            if (answers(library->image, library, lent) != expected[i])
+                worker->shared_differ++;
+            if (answers(own, library, lent) != expected[i])
+                worker->own_differ++;
+        }
+    return NULL;
+}
+
+/* Takes the image under test for a library. */
+static void take(struct library *library)
+{
+    uint64_t accepted = dulimoven_check(area + GUARD, words);
+    hold("the library is accepted",
+         !dulimoven_is_refusal(accepted) && words <= RING_WORDS);
+    memcpy(library->image, area + GUARD, words * sizeof area[0]);
+    library->words = words;
+    library->sequences = dulimoven_sequences(accepted);
+}
+
+/* Sequence c is <sequence c + 1> or <step c % 2>; step 0 sets, 1 clears. */
+static void build_ring(void)
+{
+    uint32_t c;
+    start();
+    put(HEAD(1, 2, RING));
+    put(STEP(0));
+    put(SETS(0));
+    put(STEP(1));
+    put(CLEARS(0));
+    for (c = 0; c < RING; c++) {
+        put(SEQUENCE(c));
+        put(ALTERNATIVE);
+        put(CALL((c + 1) % RING));
+        put(ALTERNATIVE);
+        put(DO(c % 2));
+    }
+    put_sum();
+}
+
+int main(void)
+{
+    size_t i;
+    build(library_l, L_SUM);
+    take(libraries);
+    build_ring();
+    take(libraries + 1);
+    for (i = 0; i < LIBRARIES; i++)
+        expected[i] = answers(libraries[i].image, libraries + i,
+                              &workers[0].lent);
+    for (i = 0; i < THREADS; i++)
+        if (pthread_create(&workers[i].thread, NULL, work, workers + i) != 0) {
+            printf("threads_test: no thread\n");
+            return 1;
+        }
+    for (i = 0; i < THREADS; i++) {
+        pthread_join(workers[i].thread, NULL);
+        hold("an image that all threads read", workers[i].shared_differ == 0);
+        hold("an image of its own", workers[i].own_differ == 0);
+    }
+    printf("threads_test: %u checks, %u failed\n", ran, failed);
+    return failed == 0 ? 0 : 1;
+}
