@@ -117,36 +117,36 @@ static void small(void)
 }
 
 /*
- * A library of 64 facts, 1,024 steps, 256 sequences and 8,192 words: each step
- * needs, sets and clears a fact, and each sequence has one alternative with the
- * sequence `ahead` of it and as many steps as there is room for.
+ * The largest library: each step needs, sets and clears a fact, and each
+ * sequence has an alternative with the sequence `ahead` of it and one with ten
+ * steps; the last goes on as far as there is room.
  */
 static void large(uint32_t ahead)
 {
     uint32_t a, c, i;
     start();
-    put(HEAD(64, 1024, 256));
-    for (a = 0; a < 1024; a++) {
+    put(HEAD(MOST_F, MOST_A, MOST_C));
+    for (a = 0; a < MOST_A; a++) {
         put(STEP(a));
-        put(NEEDS(a % 64));
-        put(SETS((a + 1) % 64));
-        put(CLEARS((a + 2) % 64));
+        put(NEEDS(a % MOST_F));
+        put(SETS((a + 1) % MOST_F));
+        put(CLEARS((a + 2) % MOST_F));
     }
-    for (c = 0; c < 256; c++) {
+    for (c = 0; c < MOST_C; c++) {
         put(SEQUENCE(c));
         put(ALTERNATIVE);
         put(DO(c));
-        put(CALL((c + ahead) % 256));
+        put(CALL((c + ahead) % MOST_C));
         put(ALTERNATIVE);
         for (i = 0; i < 10; i++)
-            put(DO((10 * c + i) % 1024));
+            put(DO((10 * c + i) % MOST_A));
     }
-    while (words < 8191)
-        put(DO(words % 1024));
+    while (words < FULL - 1)
+        put(DO(words % MOST_A));
     put_sum();
-    hold("the large library has 8,192 words and is accepted",
-         words == 8192 && dulimoven_check(area + GUARD, words) ==
-                              ACCEPTED(64, 1024, 256));
+    hold("the large library is full and is accepted",
+         words == FULL && dulimoven_check(area + GUARD, words) ==
+                              ACCEPTED(MOST_F, MOST_A, MOST_C));
     measure_calls();
 }
 
