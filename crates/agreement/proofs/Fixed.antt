@@ -17,7 +17,7 @@ use Rattle.image.specs.declared.answer.Checked.{Checked}
 use Rattle.library.proofs.Accepted.{counted}
 use Rattle.runs.specs.Touch.{questionOf}
 use Rattle.cards.specs.Area.{partWord}
-use Rattle.cards.specs.Card.{cardWords}
+use Rattle.cards.specs.Card.{place, cardWords}
 use Rattle.cards.specs.Meaning.{Always}
 use Rattle.cards.proofs.Unique.{card-unique}
 use Rattle.chains.specs.Link.{Chain, chainWords}
@@ -51,9 +51,9 @@ module _ (e : Engine) (d : Demand2 e) (image area : List ℕ) (ready : Ready ima
     where
       inside : (i : ℕ) → i < cardWords * count (libraryOf image) → getD (e .cards image area .area) i 0 ≡ getD (engine .cards image area .area) i 0
       inside i l =
-          let place : i ≡ cardWords * (i / 7) + i % 7 = omega arith in
+          let place : i ≡ cardWords * (i / cardWords) + i % cardWords = omega arith in
           ap (λ (j : ℕ). getD (e .cards image area .area) j 0) place
-          ∙ cards-fixed (i / 7) (i % 7) (omega arith) (mod-lt i (zero-lt-suc 6))
+          ∙ cards-fixed (i / cardWords) (i % cardWords) (omega arith) (mod-lt i (zero-lt-suc 6))
           ∙ ap (λ (j : ℕ). getD (engine .cards image area .area) j 0) (sym place)
 
 -- ---- demand 3

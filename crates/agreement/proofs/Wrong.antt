@@ -21,8 +21,8 @@ use Rattle.library.proofs.Accepted.{counted}
 use Rattle.runs.specs.Possible.{possible}
 use Rattle.runs.proofs.Outcome.{present≢untouched}
 use Rattle.cards.specs.Area.{partWord}
-use Rattle.cards.specs.Card.{card, cards}
-use Rattle.cards.specs.Meaning.{Always, needed, set, cleared, place}
+use Rattle.cards.specs.Card.{place, cardWords, card, cards}
+use Rattle.cards.specs.Meaning.{Always, needed, set, cleared, columnOf}
 use Rattle.runs.specs.Touch.{questionOf}
 use Rattle.chains.specs.Link.{Link, touchLink, untouchedLink, Chain, chainWords, Fits}
 use Rattle.chains.proofs.Fits.{accepted-fits}
@@ -226,9 +226,9 @@ invented-count e wrong d = wrong .invented (d .card (wrong .image) (wrong .area)
 -- an "always" column that is blank on a card has no fact of the right one
 module _ (a : Always) (e : Engine) (wrong : BlankColumn a e) (d : Demand3 e) where
   blank-right : (image area : List ℕ) → Ready image area → (c : ℕ) → c < count (libraryOf image) → (f : ℕ) → f < libraryOf image .facts
-      → bit (partWord (engine .cards image area .area) c (place a)) f ≡ 0
+      → bit (partWord (engine .cards image area .area) c (place (columnOf a))) f ≡ 0
   blank-right image area ready c l f low =
-      let lacks : bit (partWord (e .cards image area .area) c (place a)) f ≡ 0 =
+      let lacks : bit (partWord (e .cards image area .area) c (place (columnOf a))) f ≡ 0 =
       ap (λ (n : ℕ). bit n f) (wrong image area ready c l) ∙ bit-none f in
       runs .shown image area ready c l .missing a (f, low) .1 (d .shown image area ready c l .missing a (f, low) .0 lacks)
 
@@ -320,10 +320,10 @@ blank-word (suc n) zero = refl
 blank-word (suc n) (suc i) = blank-word n i
 
 pub blank-goes : (a : Always) → BlankColumn a blankCards
-blank-goes a image area ready c l = blank-word (length area) (7 * c + place a)
+blank-goes a image area ready c l = blank-word (length area) (cardWords * c + place (columnOf a))
 
 pub one-card-goes : OneCard blankCards
-one-card-goes image area ready c d k l m u = blank-word (length area) (7 * c + k) ∙ sym (blank-word (length area) (7 * d + k))
+one-card-goes image area ready c d k l m u = blank-word (length area) (cardWords * c + k) ∙ sym (blank-word (length area) (cardWords * d + k))
 
 pub untouched-goes : Untouched lazyCards
 untouched-goes image area ready = refl

@@ -10,9 +10,9 @@ use lib.Dec.{eqb}
 use lib.ListN.{length, drop, replicate, set}
 use Rattle.library.specs.Library.{libraryOf}
 use Rattle.column.specs.Sets.{inColumn, countBelow}
-use Rattle.cards.specs.Card.{cardWords}
+use Rattle.cards.specs.Card.{may-set, may-clear, place, cardWords}
 use Rattle.cards.specs.Area.{partWord}
-use Rattle.cards.specs.Meaning.{Always, place}
+use Rattle.cards.specs.Meaning.{Always, columnOf}
 use Rattle.chains.specs.Link.{Link, Chain, chainWords}
 use Rattle.dulimoven.specs.Returned.{Returned, returned}
 use Rattle.dulimoven.specs.ChainCall.{Asked, Answers, Links}
@@ -28,7 +28,7 @@ pub record Gets (image : List ℕ) (c q f : ℕ) (area : List ℕ) (ls : Chain) 
 -- "blank "always" columns": one of them is blank on every card
 abbrev pub BlankColumn : Always → Engine → Type 0
 BlankColumn a e =
-    (image area : List ℕ) → Ready image area → (c : ℕ) → c < count (libraryOf image) → partWord (e .cards image area .area) c (place a) ≡ 0
+    (image area : List ℕ) → Ready image area → (c : ℕ) → c < count (libraryOf image) → partWord (e .cards image area .area) c (place (columnOf a)) ≡ 0
 
 -- "one card for every sequence"
 abbrev pub OneCard : Engine → Type 0
@@ -97,7 +97,7 @@ pub record InventedCount (e : Engine) : Type 0 where
   pub low : sequence < count (libraryOf image)
   pub invented : partWord (e .cards image area .area) sequence 0 / 2 ^ 8
       ≢ countBelow (libraryOf image .facts)
-      (λ (f : ℕ). inColumn (partWord (e .cards image area .area) sequence 3) f || inColumn (partWord (e .cards image area .area) sequence 4) f)
+      (λ (f : ℕ). inColumn (partWord (e .cards image area .area) sequence (place may-set)) f || inColumn (partWord (e .cards image area .area) sequence (place may-clear)) f)
 
 -- "refusing all images"
 abbrev pub RefusesAll : Engine → Type 0

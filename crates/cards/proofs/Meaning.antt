@@ -20,10 +20,11 @@ use Rattle.runs.specs.Possible.{possibleOutcome, alwaysOutcome, hasRun, hasEmpt
 use Rattle.general.proofs.Bools.{passes-or-not}
 use Rattle.runs.proofs.Outcome.{present≢untouched, absent≢untouched}
 use Rattle.runs.proofs.Columns.{question-iff, hasRun-iff, hasEmptyRun-iff, blank-columns, always-iff, missing-iff}
-use Rattle.runs.proofs.Published.{published-columns}
+use Rattle.runs.proofs.Published.{PublishedColumns, published-columns}
 use Rattle.runs.proofs.Execution.{needed-stood, set-stands, cleared-falls, gained-set, lost-cleared}
+use Rattle.cards.specs.Card.{CardColumn, always-needed, may-need, may-set, may-clear, always-set, always-cleared, place}
 use Rattle.cards.specs.Card.{cardWords, may, always, changeable, flags, card, maySet, mayClear}
-use Rattle.cards.specs.Meaning.{cardWord, Lacks, HasRun, NoRun, Columns, Flags, Blank, Card, Kept, Changed, Always, needed, set, cleared, place, Missing, Runs}
+use Rattle.cards.specs.Meaning.{cardWord, Lacks, HasRun, NoRun, Columns, Flags, Blank, Card, Kept, Changed, Always, needed, set, cleared, columnOf, Missing, Runs}
 
 -- ---- a word, one fact at a time
 
@@ -43,16 +44,18 @@ always-lacks L q c f = bit-null (L .facts) (λ (g : ℕ). alwaysOutcome L q c g)
 
 columns-right : (L : Library) (c : ℕ) → HasRun L c → (f : Fact L) → Columns L c (cardWord L c) f
 unfolding card
-columns-right L c run f =
-    let p = published-columns L c f (hasRun-iff L c .1 run) in
-    record {
-      always-needed = Iff·trans (always-holds L firstNeeded c f) (p .always-needed);
-      may-need = Iff·trans (may-holds L firstNeeded c f) (p .may-need);
-      may-set = Iff·trans (may-holds L lastSet c f) (p .may-set);
-      may-clear = Iff·trans (may-holds L lastCleared c f) (p .may-clear);
-      always-set = Iff·trans (always-holds L lastSet c f) (p .always-set);
-      always-cleared = Iff·trans (always-holds L lastCleared c f) (p .always-cleared);
-    }
+columns-right L c run f = go
+  where
+    p : PublishedColumns L c f
+    p = published-columns L c f (hasRun-iff L c .1 run)
+
+    go : Columns L c (cardWord L c) f
+    go always-needed = Iff·trans (always-holds L firstNeeded c f) (p .always-needed)
+    go may-need = Iff·trans (may-holds L firstNeeded c f) (p .may-need)
+    go may-set = Iff·trans (may-holds L lastSet c f) (p .may-set)
+    go may-clear = Iff·trans (may-holds L lastCleared c f) (p .may-clear)
+    go always-set = Iff·trans (always-holds L lastSet c f) (p .always-set)
+    go always-cleared = Iff·trans (always-holds L lastCleared c f) (p .always-cleared)
 
 may-high : (L : Library) (q : Question) (c f : ℕ) → L .facts ≤ f → bit (may L q c) f ≡ 0
 unfolding may
@@ -62,16 +65,14 @@ always-high : (L : Library) (q : Question) (c f : ℕ) → L .facts ≤ f → bi
 unfolding always
 always-high L q c f u = column-high (L .facts) (λ (g : ℕ). alwaysOutcome L q c g) f u
 
-facts-only : (L : Library) (c k f : ℕ) → 1 ≤ k → k < cardWords → L .facts ≤ f → Lacks (cardWord L c) k f
+facts-only : (L : Library) (c : ℕ) (k : CardColumn) (f : ℕ) → L .facts ≤ f → Lacks (cardWord L c) k f
 unfolding card
-facts-only L c zero f l m u = absurd (omega arith)
-facts-only L c (suc zero) f l m u = always-high L firstNeeded c f u
-facts-only L c (suc (suc zero)) f l m u = may-high L firstNeeded c f u
-facts-only L c (suc (suc (suc zero))) f l m u = may-high L lastSet c f u
-facts-only L c (suc (suc (suc (suc zero)))) f l m u = may-high L lastCleared c f u
-facts-only L c (suc (suc (suc (suc (suc zero))))) f l m u = always-high L lastSet c f u
-facts-only L c (suc (suc (suc (suc (suc (suc zero)))))) f l m u = always-high L lastCleared c f u
-facts-only L c (suc (suc (suc (suc (suc (suc (suc k))))))) f l m u = absurd (omega arith)
+facts-only L c always-needed f u = always-high L firstNeeded c f u
+facts-only L c may-need f u = may-high L firstNeeded c f u
+facts-only L c may-set f u = may-high L lastSet c f u
+facts-only L c may-clear f u = may-high L lastCleared c f u
+facts-only L c always-set f u = always-high L lastSet c f u
+facts-only L c always-cleared f u = always-high L lastCleared c f u
 
 byte-bound : (b : Bool) → boolByte b ≤ 1
 byte-bound true = omega arith
@@ -218,22 +219,24 @@ module _ (L : Library) (c : ℕ) where
 
 -- ---- words found elsewhere that are the same
 
+pub place-low : (k : CardColumn) → place k < cardWords
+place-low always-needed = omega arith
+place-low may-need = omega arith
+place-low may-set = omega arith
+place-low may-clear = omega arith
+place-low always-set = omega arith
+place-low always-cleared = omega arith
+
 module _ (L : Library) (c : ℕ) (word : ℕ → ℕ) (same : (k : ℕ) → k < cardWords → word k ≡ cardWord L c k) where
+  same-column : (k : CardColumn) → word (place k) ≡ cardWord L c (place k)
+  same-column k = same (place k) (place-low k)
+
   pub card-same : Card L c (cardWord L c) → Card L c word
   card-same card =
       let flags = card .flags in
       record {
-        columns = λ run f.
-            let columns = card .columns run f in
-            record {
-              always-needed = rw (same 1 (omega arith)) (columns .always-needed);
-              may-need = rw (same 2 (omega arith)) (columns .may-need);
-              may-set = rw (same 3 (omega arith)) (columns .may-set);
-              may-clear = rw (same 4 (omega arith)) (columns .may-clear);
-              always-set = rw (same 5 (omega arith)) (columns .always-set);
-              always-cleared = rw (same 6 (omega arith)) (columns .always-cleared);
-            };
-        facts-only = λ k f l m u. rw (same k m) (card .facts-only k f l m u);
+        columns = λ run f k. rw (same-column k) (card .columns run f k);
+        facts-only = λ k f u. rw (same-column k) (card .facts-only k f u);
         blank = (
           (λ none. card .blank .0 (λ k l. sym (same k l) ∙ none k l)),
           λ none k l. same k l ∙ card .blank .1 none k l,
@@ -242,16 +245,11 @@ module _ (L : Library) (c : ℕ) (word : ℕ → ℕ) (same : (k : ℕ) → k < 
             record {
               run = rw (same 0 (omega arith)) (flags .run);
               empty-run = rw (same 0 (omega arith)) (flags .empty-run);
-              count = rw (same 0 (omega arith), same 3 (omega arith), same 4 (omega arith)) (flags .count);
+              count = rw (same 0 (omega arith), same-column may-set, same-column may-clear) (flags .count);
               between = rw (same 0 (omega arith)) (flags .between);
               above = rw (same 0 (omega arith)) (flags .above);
             };
       }
-
-  place-low : (a : Always) → place a < cardWords
-  place-low needed = omega arith
-  place-low set = omega arith
-  place-low cleared = omega arith
 
   pub runs-same : Runs L c (cardWord L c) → Runs L c word
   runs-same runs =
@@ -259,12 +257,12 @@ module _ (L : Library) (c : ℕ) (word : ℕ → ℕ) (same : (k : ℕ) → k < 
         kept = λ w r s ex f.
             let kept = runs .kept w r s ex f in
             record {
-              needed = rw (same 1 (omega arith)) (kept .needed);
-              set = rw (same 5 (omega arith)) (kept .set);
-              cleared = rw (same 6 (omega arith)) (kept .cleared);
+              needed = rw (same-column always-needed) (kept .needed);
+              set = rw (same-column always-set) (kept .set);
+              cleared = rw (same-column always-cleared) (kept .cleared);
             };
         changed = λ w r s f.
             let changed = runs .changed w r s f in
-            record { gained = rw (same 3 (omega arith)) (changed .gained); lost = rw (same 4 (omega arith)) (changed .lost) };
-        missing = λ a f. rw (same (place a) (place-low a)) (runs .missing a f);
+            record { gained = rw (same-column may-set) (changed .gained); lost = rw (same-column may-clear) (changed .lost) };
+        missing = λ a f. rw (same-column (columnOf a)) (runs .missing a f);
       }

@@ -12,12 +12,11 @@ use Rattle.column.specs.Column.{bit}
 use Rattle.column.specs.Sets.{inColumn, countBelow}
 use Rattle.column.proofs.Bits.{bit-le, bits-equal}
 use Rattle.library.specs.Library.{Library}
-use Rattle.runs.specs.Execution.{Fact}
 use Rattle.runs.specs.Possible.{hasRun}
 use Rattle.general.proofs.Bools.{passes-or-not}
 use Rattle.runs.proofs.Columns.{hasRun-iff}
-use Rattle.cards.specs.Card.{cardWords}
-use Rattle.cards.specs.Meaning.{Holds, HasRun, NoRun, Card}
+use Rattle.cards.specs.Card.{CardColumn, always-needed, may-need, may-set, may-clear, always-set, always-cleared, place, cardWords}
+use Rattle.cards.specs.Meaning.{HasRun, NoRun, Card}
 
 low-pow : (n : ℕ) → n < 2 ^ n
 low-pow zero = omega arith
@@ -50,32 +49,28 @@ bit-shift a k l =
 module _ (L : Library) (c : ℕ) (word other : ℕ → ℕ) (one : Card L c word) (two : Card L c other) where
   module _ (run : HasRun L c) where
     -- a column holds the same facts, by the published definition
-    column-fixed : (k : ℕ) → 1 ≤ k → k < cardWords → ((f : Fact L) → Holds word k (f .0) ↔ Holds other k (f .0)) → word k ≡ other k
-    column-fixed k l m same =
-        all-bits (word k) (other k)
-        (λ f. by-cases (decLt f (L .facts)) (λ low. bit-iff (word k) (other k) f (same (f, low)))
-        (λ high. one .facts-only k f l m (omega arith) ∙ sym (two .facts-only k f l m (omega arith))))
+    column-fixed : (k : CardColumn) → word (place k) ≡ other (place k)
+    column-fixed k =
+        all-bits (word (place k)) (other (place k))
+        (λ f. by-cases (decLt f (L .facts))
+        (λ low. bit-iff (word (place k)) (other (place k)) f (Iff·trans (one .columns run (f, low) k) (turn (two .columns run (f, low) k))))
+        (λ high. one .facts-only k f (omega arith) ∙ sym (two .facts-only k f (omega arith))))
 
-    columns-fixed : (k : ℕ) → 1 ≤ k → k < cardWords → word k ≡ other k
-    columns-fixed zero l m = absurd (omega arith)
-    columns-fixed (suc zero) l m =
-        column-fixed 1 l m (λ f. Iff·trans (one .columns run f .always-needed) (turn (two .columns run f .always-needed)))
-    columns-fixed (suc (suc zero)) l m =
-        column-fixed 2 l m (λ f. Iff·trans (one .columns run f .may-need) (turn (two .columns run f .may-need)))
-    columns-fixed (suc (suc (suc zero))) l m =
-        column-fixed 3 l m (λ f. Iff·trans (one .columns run f .may-set) (turn (two .columns run f .may-set)))
-    columns-fixed (suc (suc (suc (suc zero)))) l m =
-        column-fixed 4 l m (λ f. Iff·trans (one .columns run f .may-clear) (turn (two .columns run f .may-clear)))
-    columns-fixed (suc (suc (suc (suc (suc zero))))) l m =
-        column-fixed 5 l m (λ f. Iff·trans (one .columns run f .always-set) (turn (two .columns run f .always-set)))
-    columns-fixed (suc (suc (suc (suc (suc (suc zero)))))) l m =
-        column-fixed 6 l m (λ f. Iff·trans (one .columns run f .always-cleared) (turn (two .columns run f .always-cleared)))
-    columns-fixed (suc (suc (suc (suc (suc (suc (suc k))))))) l m = absurd (omega arith)
+    -- every word but the flags is a column's
+    words-fixed : (j : ℕ) → 1 ≤ j → j < cardWords → word j ≡ other j
+    words-fixed zero l m = absurd (omega arith)
+    words-fixed (suc zero) l m = column-fixed always-needed
+    words-fixed (suc (suc zero)) l m = column-fixed may-need
+    words-fixed (suc (suc (suc zero))) l m = column-fixed may-set
+    words-fixed (suc (suc (suc (suc zero)))) l m = column-fixed may-clear
+    words-fixed (suc (suc (suc (suc (suc zero))))) l m = column-fixed always-set
+    words-fixed (suc (suc (suc (suc (suc (suc zero)))))) l m = column-fixed always-cleared
+    words-fixed (suc (suc (suc (suc (suc (suc (suc j))))))) l m = absurd (omega arith)
 
     counts-fixed : word 0 / 2 ^ 8 ≡ other 0 / 2 ^ 8
     counts-fixed =
-        let set = columns-fixed 3 (omega arith) (omega arith) in
-        let clear = columns-fixed 4 (omega arith) (omega arith) in
+        let set = column-fixed may-set in
+        let clear = column-fixed may-clear in
         one .flags .count
         ∙ ap₂ (λ (a b : ℕ). countBelow (L .facts) (λ (f : ℕ). inColumn a f || inColumn b f)) set clear
         ∙ sym (two .flags .count)
@@ -97,4 +92,4 @@ module _ (L : Library) (c : ℕ) (word other : ℕ → ℕ) (one : Card L c word
     where
       live : HasRun L c → (j : ℕ) → j < cardWords → word j ≡ other j
       live run zero m = all-bits (word 0) (other 0) (flags-fixed run)
-      live run (suc j) m = columns-fixed run (suc j) (omega arith) m
+      live run (suc j) m = words-fixed run (suc j) (omega arith) m

@@ -13,18 +13,18 @@ use Rattle.runs.specs.Run.{Run}
 use Rattle.runs.specs.Execution.{Fact, State, Executes, end}
 use Rattle.runs.specs.Touch.{Question, HasOutcome, lastSet, lastCleared, firstNeeded}
 use Rattle.runs.specs.Published.{prec∅, poss-prec∅, eff*∅+, eff*∅-, poss-eff*∅+, poss-eff*∅-}
-use Rattle.cards.specs.Card.{cardWords, card}
+use Rattle.cards.specs.Card.{CardColumn, always-needed, may-need, may-set, may-clear, always-set, always-cleared, place, cardWords, card}
 
 -- word k of the card of sequence c, by the definition
 abbrev pub cardWord : Library → ℕ → ℕ → ℕ
 cardWord L c k = getD (card L c) k 0
 
--- "fact f is bit f": word k of the words holds the fact, or the fact is missing from it
-abbrev pub Holds : (ℕ → ℕ) → ℕ → ℕ → Type 0
-Holds word k f = bit (word k) f ≡ 1
+-- "fact f is bit f": the column holds the fact, or the fact is missing from it
+abbrev pub Holds : (ℕ → ℕ) → CardColumn → ℕ → Type 0
+Holds word k f = bit (word (place k)) f ≡ 1
 
-abbrev pub Lacks : (ℕ → ℕ) → ℕ → ℕ → Type 0
-Lacks word k f = bit (word k) f ≡ 0
+abbrev pub Lacks : (ℕ → ℕ) → CardColumn → ℕ → Type 0
+Lacks word k f = bit (word (place k)) f ≡ 0
 
 -- a sequence has a run, or none
 abbrev pub HasRun : Library → ℕ → Type 0
@@ -33,15 +33,19 @@ HasRun L c = (w : List Item) × Run L c w
 abbrev pub NoRun : Library → ℕ → Type 0
 NoRun L c = (w : List Item) → ¬ Run L c w
 
+-- the published definition that a column stands for (001)
+abbrev pub published : CardColumn → (L : Library) → ℕ → Fact L → Type 0
+published always-needed L c f = prec∅ L c f
+published may-need L c f = poss-prec∅ L c f
+published may-set L c f = poss-eff*∅+ L c f
+published may-clear L c f = poss-eff*∅- L c f
+published always-set L c f = eff*∅+ L c f
+published always-cleared L c f = eff*∅- L c f
+
 -- Demand 2: "each card's columns hold a fact if the published definition of relaxed preconditions and effects puts it there, and only
 -- then, over all finite runs"
-pub record Columns (L : Library) (c : ℕ) (word : ℕ → ℕ) (f : Fact L) : Type 0 where
-  pub always-needed : Holds word 1 (f .0) ↔ prec∅ L c f
-  pub may-need : Holds word 2 (f .0) ↔ poss-prec∅ L c f
-  pub may-set : Holds word 3 (f .0) ↔ poss-eff*∅+ L c f
-  pub may-clear : Holds word 4 (f .0) ↔ poss-eff*∅- L c f
-  pub always-set : Holds word 5 (f .0) ↔ eff*∅+ L c f
-  pub always-cleared : Holds word 6 (f .0) ↔ eff*∅- L c f
+abbrev pub Columns : (L : Library) → ℕ → (ℕ → ℕ) → Fact L → Type 0
+Columns L c word f = (k : CardColumn) → Holds word k (f .0) ↔ published k L c f
 
 -- "flags and count are those of document 01"
 pub record Flags (L : Library) (c : ℕ) (word : ℕ → ℕ) : Type 0 where
@@ -50,7 +54,7 @@ pub record Flags (L : Library) (c : ℕ) (word : ℕ → ℕ) : Type 0 where
   -- "bit 1, an empty run exists"
   pub empty-run : (bit (word 0) 1 ≡ 1) ↔ Run L c []
   -- "bits 8 to 14, the number of facts that are in "may set" or in "may clear""
-  pub count : word 0 / 2 ^ 8 ≡ countBelow (L .facts) (λ (f : ℕ). inColumn (word 3) f || inColumn (word 4) f)
+  pub count : word 0 / 2 ^ 8 ≡ countBelow (L .facts) (λ (f : ℕ). inColumn (word (place may-set)) f || inColumn (word (place may-clear)) f)
   -- and no other bit
   pub between : (k : ℕ) → 2 ≤ k → k < 8 → bit (word 0) k ≡ 0
   pub above : (k : ℕ) → 15 ≤ k → bit (word 0) k ≡ 0
@@ -63,7 +67,7 @@ Blank word = (k : ℕ) → k < cardWords → word k ≡ 0
 pub record Card (L : Library) (c : ℕ) (word : ℕ → ℕ) : Type 0 where
   pub columns : HasRun L c → (f : Fact L) → Columns L c word f
   -- a column holds no bit from F upward
-  pub facts-only : (k f : ℕ) → 1 ≤ k → k < cardWords → L .facts ≤ f → Lacks word k f
+  pub facts-only : (k : CardColumn) (f : ℕ) → L .facts ≤ f → Lacks word k f
   -- "a sequence without a run has a blank card", and no other has
   pub blank : Blank word ↔ NoRun L c
   -- "flags and count are those of document 01"
@@ -72,28 +76,27 @@ pub record Card (L : Library) (c : ℕ) (word : ℕ → ℕ) : Type 0 where
 -- Demand 3, "for every run of a sequence and whichever facts stand at the start: if the run executes from there, .."
 pub record Kept (L : Library) (word : ℕ → ℕ) (w : List Item) (s : State L) (f : Fact L) : Type 0 where
   -- "each fact in "always needed" stood at the start"
-  pub needed : Holds word 1 (f .0) → s f ≡ true
+  pub needed : Holds word always-needed (f .0) → s f ≡ true
   -- "each in "always set" stands at the end"
-  pub set : Holds word 5 (f .0) → end L w s f ≡ true
+  pub set : Holds word always-set (f .0) → end L w s f ≡ true
   -- "and none in "always cleared" does"
-  pub cleared : Holds word 6 (f .0) → end L w s f ≡ false
+  pub cleared : Holds word always-cleared (f .0) → end L w s f ≡ false
 
 -- of every run, executing or not, and whichever facts stand at the start
 pub record Changed (L : Library) (word : ℕ → ℕ) (w : List Item) (s : State L) (f : Fact L) : Type 0 where
   -- "A fact that stands at the end and not at the start is in "may set""
-  pub gained : end L w s f ≡ true → s f ≡ false → Holds word 3 (f .0)
+  pub gained : end L w s f ≡ true → s f ≡ false → Holds word may-set (f .0)
   -- "one that stands at the start and not at the end in "may clear""
-  pub lost : s f ≡ true → end L w s f ≡ false → Holds word 4 (f .0)
+  pub lost : s f ≡ true → end L w s f ≡ false → Holds word may-clear (f .0)
 
 -- the three "always" columns
 pub data Always : Type 0 where
   needed set cleared : Always
 
--- the word of the card
-abbrev pub place : Always → ℕ
-place needed = 1
-place set = 5
-place cleared = 6
+abbrev pub columnOf : Always → CardColumn
+columnOf needed = always-needed
+columnOf set = always-set
+columnOf cleared = always-cleared
 
 -- "The rule of an "always" column is what it says of each run: for "always needed", that the run first touches the fact by a need; for
 -- "always set", that its last touch sets it; for "always cleared", that its last touch clears it."
@@ -109,7 +112,7 @@ Breaks L a f w = ¬ HasOutcome L (rule a) f w
 -- "A fact is missing from one of these three "always" columns exactly when the sequence has no run, or has one, executing or not, that
 -- breaks the column's rule."
 abbrev pub Missing : (L : Library) → ℕ → (ℕ → ℕ) → Always → Fact L → Type 0
-Missing L c word a f = Lacks word (place a) (f .0) ↔ (NoRun L c ⊎ ((w : List Item) × Run L c w × Breaks L a (f .0) w))
+Missing L c word a f = Lacks word (columnOf a) (f .0) ↔ (NoRun L c ⊎ ((w : List Item) × Run L c w × Breaks L a (f .0) w))
 
 -- what the words say of the runs of sequence c
 pub record Runs (L : Library) (c : ℕ) (word : ℕ → ℕ) : Type 0 where
