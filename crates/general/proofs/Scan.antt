@@ -155,7 +155,7 @@ one-le : (a b : Bool) → (a ≡ true → b ≡ true) → one a ≤ one b
 one-le true b h = rw (h refl) (omega arith)
 one-le false b h = omega arith
 
-count-all : (p : ℕ → Bool) (n : ℕ) → countPassing p n ≤ n
+pub count-all : (p : ℕ → Bool) (n : ℕ) → countPassing p n ≤ n
 unfolding countPassing
 count-all p zero = omega arith
 count-all p (suc n) = let h = count-all p n in let h1 = one-le (p n) true (λ e. refl) in omega arith
@@ -165,7 +165,7 @@ unfolding countPassing
 count-le p q more zero = omega arith
 count-le p q more (suc n) = let h = count-le p q more n in let h1 = one-le (p n) (q n) (more n) in omega arith
 
-count-more : (p q : ℕ → Bool) → ((i : ℕ) → p i ≡ true → q i ≡ true) → (n d : ℕ) → d < n → p d ≡ false → q d ≡ true
+pub count-more : (p q : ℕ → Bool) → ((i : ℕ) → p i ≡ true → q i ≡ true) → (n d : ℕ) → d < n → p d ≡ false → q d ≡ true
     → countPassing p n < countPassing q n
 unfolding countPassing
 count-more p q more zero d lt no-p is-q = absurd (omega arith)

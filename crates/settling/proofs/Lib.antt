@@ -1,3 +1,4 @@
 pub mod Visits
 pub mod Stale
 pub mod CallerSets
+pub mod Settling

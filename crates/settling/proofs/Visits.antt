@@ -3,7 +3,7 @@
 use Prim.Native.Nat.{ℕ, zero, suc, _+_, _≤_, _<_}
 use native.Mathlib.Omega.{arith}
 use mathlib.Core.Path.{_≡_, refl, sym, ap, _∙_, subst}
-use mathlib.Core.Bool.{Bool, true, false, not, _||_, false≢true, true≢false}
+use mathlib.Core.Bool.{Bool, true, false, _||_, false≢true, true≢false}
 use mathlib.Core.List.{List}
 use lib.ListN.{length, replicate, getD, set, take}
 use lib.Seq.{getD-set-same, getD-set-other, getD-take, length-take-le}
@@ -36,7 +36,7 @@ pub record Sweeping (visit : List ℕ → ℕ → List ℕ) (weight : List ℕ �
   pub settled : changed ≡ false → (k : ℕ) → k < i → getD order (placeOf forward (length order) k) 0 < n
       → visit t (getD order (placeOf forward (length order) k) 0) ≡ t
 
-place-back : (forward : Bool) (len i : ℕ) → i < len → (placeOf forward len i < len) × (placeOf forward len (placeOf forward len i) ≡ i)
+pub place-back : (forward : Bool) (len i : ℕ) → i < len → (placeOf forward len i < len) × (placeOf forward len (placeOf forward len i) ≡ i)
 place-back true len i l = (l, refl)
 place-back false len i l = (omega arith, omega arith)
 

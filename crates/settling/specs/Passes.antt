@@ -17,6 +17,11 @@ module _ (visit : List ℕ → ℕ → List ℕ) where
   abbrev pub Settled : ℕ → List ℕ → Type 0
   Settled n table = (c : ℕ) → c < n → visit table c ≡ table
 
+  -- tables that visits lead to, until no visit changes one
+  pub record Settles (n : ℕ) (before after : List ℕ) : Type 0 where
+    pub reached : Reached n before after
+    pub settled : Settled n after
+
   -- `weight` is what falls while the table changes
   module _ (weight : List ℕ → ℕ) where
     -- what a visit promises: the table after it, and whether that is another

@@ -2,3 +2,4 @@
 pub mod callers;
 pub mod named;
 pub mod order;
+pub mod turns;

@@ -1,0 +1,87 @@
+// Turns: which stale number is visited next, in an order and against it in turn, and what is stale after its visit.
+use crate::callers::is_stale;
+use crate::callers::remove;
+use crate::callers::unite;
+use crate::named::place_of;
+ghost use Prim.Native.Nat.{_+_, _*_, _≤_, _<_};
+ghost use mathlib.Core.Path.{_≡_};
+ghost use lib.ListN.{length};
+ghost use Rattle.settling.specs.Passes.{Complete};
+ghost use Rattle.settling.specs.Turns.{toVisit, StalePlace, TurnAt, NextTurn, StaleAfter};
+
+// A turn: the number that is visited, the place from which the next one is looked for, and whether the order is gone through first to last.
+pub struct Turn {
+    pub number: usize,
+    pub place: usize,
+    pub forward: bool,
+}
+
+// Whether a number below `n` is stale.
+fn to_visit(stale: &[u64], n: usize, c: usize) -> bool
+    requires { ⌜ (length (now stale) ≡ 4) × (n ≤ 256) ⌝ }
+    ensures { λ r. ⌜ r ≡ toVisit n (now (stale .entry)) c ⌝ }
+{
+    if c < n {
+        return is_stale(stale, c);
+    }
+    false
+}
+
+// The first place from `at` on whose number is stale, in this direction; one past the last place where there is none.
+fn stale_place(order: &[usize], stale: &[u64], n: usize, forward: bool, at: usize) -> usize
+    requires { ⌜ (length (now stale) ≡ 4) × (n ≤ 256) ⌝ }
+    ensures { λ r. ⌜ StalePlace n (now (order .entry)) (now (stale .entry)) forward at r ⌝ }
+{
+    let mut i = at;
+    while i < order.len() {
+        if to_visit(stale, n, order[place_of(forward, order.len(), i)]) {
+            return i;
+        }
+        i += 1;
+    }
+    i
+}
+
+// The turn at a place.
+fn turn_at(order: &[usize], forward: bool, i: usize) -> Turn
+    requires { ⌜ i < length (now order) ⌝ }
+    ensures { λ r. ⌜ TurnAt (now (order .entry)) forward i r ⌝ }
+{
+    Turn {
+        number: order[place_of(forward, order.len(), i)],
+        place: i + 1,
+        forward: forward,
+    }
+}
+
+// The next turn: the first stale number from the turn's place on, or else the first one against its direction. Where no number below `n` is
+// stale, its number is `n`.
+pub fn next(order: &[usize], stale: &[u64], n: usize, turn: Turn) -> Turn
+    requires { ⌜ (length (now stale) ≡ 4) × (n ≤ 256) × Complete (now order) n ⌝ }
+    ensures { λ r. ⌜ NextTurn n (now (stale .entry)) r ⌝ }
+{
+    let here = stale_place(order, stale, n, turn.forward, turn.place);
+    if here < order.len() {
+        return turn_at(order, turn.forward, here);
+    }
+    let back = stale_place(order, stale, n, !turn.forward, 0);
+    if back < order.len() {
+        return turn_at(order, !turn.forward, back);
+    }
+    Turn {
+        number: n,
+        place: 0,
+        forward: turn.forward,
+    }
+}
+
+// After a visit of number `c` it is no longer stale, and its callers are where the visit changed something.
+pub fn after_visit(stale: &mut [u64], callers: &[u64], c: usize, changed: bool)
+    requires { ⌜ (length (now stale) ≡ 4) × (c < 256) × (4 * c + 4 ≤ length (now callers)) ⌝ }
+    ensures { λ _. ⌜ StaleAfter (now (callers .entry)) c (now (stale .entry)) (now (stale .exit)) changed ⌝ }
+{
+    remove(stale, c);
+    if changed {
+        unite(stale, callers, c);
+    }
+}
