@@ -17,7 +17,7 @@ use Rattle.image.specs.declared.answer.Checked.{Checked}
 use Rattle.library.proofs.Accepted.{counted}
 use Rattle.runs.specs.Touch.{questionOf}
 use Rattle.cards.specs.Area.{partWord}
-use Rattle.cards.specs.Card.{place, cardWords}
+use Rattle.cards.specs.Layout.{place, cardWords}
 use Rattle.cards.specs.Meaning.{Always}
 use Rattle.cards.proofs.Unique.{card-unique}
 use Rattle.chains.specs.Link.{Chain, chainWords}

@@ -21,7 +21,8 @@ use Rattle.library.proofs.Accepted.{counted}
 use Rattle.runs.specs.Possible.{possible}
 use Rattle.runs.proofs.Outcome.{present≢untouched}
 use Rattle.cards.specs.Area.{partWord}
-use Rattle.cards.specs.Card.{place, cardWords, card, cards}
+use Rattle.cards.specs.Layout.{place, cardWords}
+use Rattle.cards.specs.Card.{card, cards}
 use Rattle.cards.specs.Meaning.{Always, needed, set, cleared, columnOf}
 use Rattle.runs.specs.Touch.{questionOf}
 use Rattle.chains.specs.Link.{Link, touchLink, untouchedLink, Chain, chainWords, Fits}

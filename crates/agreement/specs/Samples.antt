@@ -10,7 +10,7 @@ use lib.ListN.{length, replicate}
 use Rattle.library.specs.Library.{Library, has, libraryOf, Item, step}
 use Rattle.runs.specs.Run.{Run}
 use Rattle.runs.specs.Execution.{Fact, State, Executes, end}
-use Rattle.cards.specs.Card.{cardWords}
+use Rattle.cards.specs.Layout.{cardWords}
 use Rattle.card_text.specs.Print.{printed}
 use Rattle.dulimoven.specs.Returned.{returned}
 use Rattle.dulimoven.specs.Engine.{engine}

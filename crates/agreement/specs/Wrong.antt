@@ -10,7 +10,7 @@ use lib.Dec.{eqb}
 use lib.ListN.{length, drop, replicate, set}
 use Rattle.library.specs.Library.{libraryOf}
 use Rattle.column.specs.Sets.{inColumn, countBelow}
-use Rattle.cards.specs.Card.{may-set, may-clear, place, cardWords}
+use Rattle.cards.specs.Layout.{may-set, may-clear, place, cardWords}
 use Rattle.cards.specs.Area.{partWord}
 use Rattle.cards.specs.Meaning.{Always, columnOf}
 use Rattle.chains.specs.Link.{Link, Chain, chainWords}

@@ -17,7 +17,8 @@ use Rattle.image.specs.declared.answer.Refusal.the-variants.{CardArea}
 use Rattle.image.specs.declared.answer.Checked.{Checked}
 use Rattle.library.proofs.Accepted.{faultless, counted}
 use Rattle.outcome.specs.Area.{outcomes}
-use Rattle.cards.specs.Card.{cardWords, cards}
+use Rattle.cards.specs.Layout.{cardWords}
+use Rattle.cards.specs.Card.{cards}
 use Rattle.row.specs.Words.{rowWords}
 use Rattle.row.specs.Card.{tableCards}
 use Rattle.card.specs.Answer.{cardsGiven, cardsOf, areaWith, Called}

@@ -11,7 +11,8 @@ use Rattle.reader.specs.Checked.{checked}
 use Rattle.library.specs.Library.{libraryOf}
 use Rattle.image.specs.declared.answer.Refusal.the-variants.{CardArea}
 use Rattle.image.specs.declared.answer.Checked.{Checked}
-use Rattle.cards.specs.Card.{cardWords, cards}
+use Rattle.cards.specs.Layout.{cardWords}
+use Rattle.cards.specs.Card.{cards}
 use Rattle.card.specs.declared.answer.Cards.{Cards}
 
 -- 8: "The card area has fewer than 7 × C words of 64 bits." It comes after 1 to 7; "Otherwise .. the cards [answer] C"

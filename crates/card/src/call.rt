@@ -13,7 +13,8 @@ ghost use Prim.Native.Nat.{_*_, _≤_};
 ghost use lib.ListN.{length, drop};
 ghost use Rattle.library.specs.Library.{libraryOf};
 ghost use Rattle.outcome.specs.Area.{TableAsked};
-ghost use Rattle.cards.specs.Card.{cardWords, cards};
+ghost use Rattle.cards.specs.Layout.{cardWords};
+ghost use Rattle.cards.specs.Card.{cards};
 ghost use Rattle.reader.specs.Checked.{accepts};
 ghost use Rattle.card.specs.Answer.{Called};
 

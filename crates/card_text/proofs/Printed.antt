@@ -15,7 +15,8 @@ use Rattle.library.specs.Accepted.{Counted}
 use Rattle.image.specs.declared.answer.Refusal.the-variants.{CardArea}
 use Rattle.image.specs.declared.answer.Checked.{Checked}
 use Rattle.library.proofs.Accepted.{faultless, counted}
-use Rattle.cards.specs.Card.{cardWords, cards}
+use Rattle.cards.specs.Layout.{cardWords}
+use Rattle.cards.specs.Card.{cards}
 use Rattle.card.specs.Answer.{cardsGiven, areaWith, Called}
 use Rattle.card.specs.declared.answer.Cards.{Cards}
 use Rattle.cards.proofs.Area.{length-cards}

@@ -4,7 +4,7 @@ use mathlib.Core.Path.{_≡_}
 use mathlib.Core.List.{List}
 use lib.ListN.{length}
 use Rattle.image.specs.Answer.{refusalNumber, refusalPosition}
-use Rattle.cards.specs.Card.{cardWords}
+use Rattle.cards.specs.Layout.{cardWords}
 use Rattle.card.specs.declared.answer.Cards.{Cards}
 use Rattle.card_text.specs.Number.{numeral}
 use Rattle.card_text.specs.Line.{cardLines, refusalLine}

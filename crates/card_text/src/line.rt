@@ -6,7 +6,7 @@ use row::card::CARD_WORDS;
 ghost use mathlib.Core.List.{_∷_};
 ghost use Prim.Native.Nat.{_+_, _*_, _≤_};
 ghost use lib.ListN.{length};
-ghost use Rattle.cards.specs.Card.{cardWords};
+ghost use Rattle.cards.specs.Layout.{cardWords};
 ghost use Rattle.card_text.specs.Text.{InFront, PutWithin};
 ghost use Rattle.card_text.specs.Number.{numeral};
 ghost use Rattle.card_text.specs.Line.{spaced, cardLine, cardLines, refusalLine};

@@ -8,8 +8,9 @@ use mathlib.Core.List.{List, _++_}
 use lib.ListN.{length, getD, length-append, List·getD-append}
 use lib.Seq.{getD-append-add, ext-getD}
 use Rattle.library.specs.Library.{Library}
-use Rattle.cards.specs.Card.{cardWords, card, cardsFrom, cards}
-use Rattle.cards.specs.Meaning.{cardWord}
+use Rattle.cards.specs.Layout.{cardWords}
+use Rattle.cards.specs.Card.{card, cardsFrom, cards}
+use Rattle.cards.specs.Card.{cardWord}
 use Rattle.cards.specs.Area.{partWord, AllCards}
 use Rattle.cards.proofs.Meaning.{card-right, card-same}
 use Rattle.cards.proofs.Unique.{card-unique}

@@ -22,9 +22,11 @@ use Rattle.runs.proofs.Outcome.{present≢untouched, absent≢untouched}
 use Rattle.runs.proofs.Columns.{question-iff, hasRun-iff, hasEmptyRun-iff, blank-columns, always-iff, missing-iff}
 use Rattle.runs.proofs.Published.{PublishedColumns, published-columns}
 use Rattle.runs.proofs.Execution.{needed-stood, set-stands, cleared-falls, gained-set, lost-cleared}
-use Rattle.cards.specs.Card.{CardColumn, always-needed, may-need, may-set, may-clear, always-set, always-cleared, place}
-use Rattle.cards.specs.Card.{cardWords, may, always, changeable, flags, card, maySet, mayClear}
-use Rattle.cards.specs.Meaning.{cardWord, Lacks, HasRun, NoRun, Columns, Flags, Blank, Card, Kept, Changed, Always, needed, set, cleared, columnOf, Missing, Runs}
+use Rattle.cards.specs.Layout.{CardColumn, always-needed, may-need, may-set, may-clear, always-set, always-cleared, place}
+use Rattle.cards.specs.Layout.{cardWords}
+use Rattle.cards.specs.Card.{may, always, changeable, flags, card, maySet, mayClear}
+use Rattle.cards.specs.Card.{cardWord}
+use Rattle.cards.specs.Meaning.{Lacks, HasRun, NoRun, Columns, Flags, Blank, Card, Kept, Changed, Always, needed, set, cleared, columnOf, Missing, Runs}
 
 -- ---- a word, one fact at a time
 

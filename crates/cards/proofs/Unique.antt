@@ -15,7 +15,7 @@ use Rattle.library.specs.Library.{Library}
 use Rattle.runs.specs.Possible.{hasRun}
 use Rattle.general.proofs.Bools.{passes-or-not}
 use Rattle.runs.proofs.Columns.{hasRun-iff}
-use Rattle.cards.specs.Card.{CardColumn, always-needed, may-need, may-set, may-clear, always-set, always-cleared, place, cardWords}
+use Rattle.cards.specs.Layout.{CardColumn, always-needed, may-need, may-set, may-clear, always-set, always-cleared, place, cardWords}
 use Rattle.cards.specs.Meaning.{HasRun, NoRun, Card}
 
 low-pow : (n : ℕ) → n < 2 ^ n

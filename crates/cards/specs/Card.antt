@@ -1,8 +1,9 @@
--- The card of a sequence and the cards of a library (document 01, "The card").
+-- The card of a sequence and the cards of a library as words that are computed, by what is possible. What the words mean is `Meaning`, and
+-- `proofs/` shows that these are the words.
 use Prim.Native.Nat.{ℕ, zero, suc, _+_, _*_, _^_}
 use mathlib.Core.Bool.{_||_}
 use mathlib.Core.List.{List, [], _∷_, _++_}
-use lib.ListN.{length}
+use lib.ListN.{length, getD}
 use mir.Val.{boolByte}
 use Rattle.column.specs.Column.{column}
 use Rattle.column.specs.Sets.{countBelow}
@@ -53,26 +54,14 @@ alwaysSet L c = always L lastSet c
 abbrev pub alwaysCleared : Library → ℕ → ℕ
 alwaysCleared L c = always L lastCleared c
 
--- the columns of a card, each with its place among the card's words: the flags are word 0
-pub data CardColumn : Type 0 where
-  always-needed may-need may-set may-clear always-set always-cleared : CardColumn
-
-abbrev pub place : CardColumn → ℕ
-place always-needed = 1
-place may-need = 2
-place may-set = 3
-place may-clear = 4
-place always-set = 5
-place always-cleared = 6
-
--- "Seven 64-bit words a sequence"
-abbrev pub cardWords : ℕ
-cardWords = 7
-
 unfoldable pub card : Library → ℕ → List ℕ
 unfolding flags may always
 card L c =
     flags L c ∷ alwaysNeeded L c ∷ mayNeed L c ∷ maySet L c ∷ mayClear L c ∷ alwaysSet L c ∷ alwaysCleared L c ∷ []
+
+-- word k of a card
+abbrev pub cardWord : Library → ℕ → ℕ → ℕ
+cardWord L c k = getD (card L c) k 0
 
 -- the cards of n sequences from sequence c on
 unfoldable pub cardsFrom : Library → ℕ → ℕ → List ℕ

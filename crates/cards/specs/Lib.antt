@@ -1,3 +1,4 @@
 pub mod Card
+pub mod Layout
 pub mod Meaning
 pub mod Area

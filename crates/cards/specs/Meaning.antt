@@ -5,7 +5,6 @@ use mathlib.Core.Path.{_≡_}
 use mathlib.Core.Logic.{_↔_, _⊎_}
 use mathlib.Core.Bool.{true, false, _||_}
 use mathlib.Core.List.{List, []}
-use lib.ListN.{getD}
 use Rattle.column.specs.Column.{bit}
 use Rattle.column.specs.Sets.{inColumn, countBelow}
 use Rattle.library.specs.Library.{Library, Item}
@@ -13,11 +12,7 @@ use Rattle.runs.specs.Run.{Run}
 use Rattle.runs.specs.Execution.{Fact, State, Executes, end}
 use Rattle.runs.specs.Touch.{Question, HasOutcome, lastSet, lastCleared, firstNeeded}
 use Rattle.runs.specs.Published.{prec∅, poss-prec∅, eff*∅+, eff*∅-, poss-eff*∅+, poss-eff*∅-}
-use Rattle.cards.specs.Card.{CardColumn, always-needed, may-need, may-set, may-clear, always-set, always-cleared, place, cardWords, card}
-
--- word k of the card of sequence c, by the definition
-abbrev pub cardWord : Library → ℕ → ℕ → ℕ
-cardWord L c k = getD (card L c) k 0
+use Rattle.cards.specs.Layout.{CardColumn, always-needed, may-need, may-set, may-clear, always-set, always-cleared, place, cardWords}
 
 -- "fact f is bit f": the column holds the fact, or the fact is missing from it
 abbrev pub Holds : (ℕ → ℕ) → CardColumn → ℕ → Type 0

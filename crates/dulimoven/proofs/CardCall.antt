@@ -18,7 +18,8 @@ use Rattle.image.specs.declared.answer.Refusal.the-variants.{CardArea}
 use Rattle.image.specs.declared.answer.Checked.{Checked}
 use Rattle.library.proofs.Accepted.{faultless, counted}
 use Rattle.card.specs.Answer.{cardsGiven, areaWith, cardsAnswer}
-use Rattle.cards.specs.Card.{cardWords, cards}
+use Rattle.cards.specs.Layout.{cardWords}
+use Rattle.cards.specs.Card.{cards}
 use Rattle.card.specs.declared.answer.Cards.{Cards}
 use Rattle.cards.proofs.Area.{all-cards, cards-unique}
 use Rattle.dulimoven.specs.Returned.{Returned, returned, turnedDown}

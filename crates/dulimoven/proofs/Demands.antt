@@ -20,7 +20,8 @@ use Rattle.runs.specs.Touch.{Mark, present, absent, questionOf, HasOutcome, las
 use Rattle.runs.proofs.Outcome.{present≢untouched, absent≢untouched}
 use Rattle.runs.proofs.Columns.{breaks-rule}
 use Rattle.cards.specs.Area.{partWord}
-use Rattle.cards.specs.Card.{cardWords, cards}
+use Rattle.cards.specs.Layout.{cardWords}
+use Rattle.cards.specs.Card.{cards}
 use Rattle.cards.specs.Meaning.{Always, needed, set, cleared, Breaks, Card, Runs}
 use Rattle.cards.proofs.Area.{length-cards, card-words, all-cards}
 use Rattle.cards.proofs.Meaning.{card-right, runs-right, card-same, runs-same}

@@ -10,7 +10,7 @@ use Rattle.image.specs.declared.answer.Head.{Head}
 use Rattle.image.specs.declared.answer.Refusal.{Refusal}
 use Rattle.image.specs.declared.answer.Refusal.the-variants.{CardArea}
 use Rattle.image.specs.declared.answer.Checked.{Checked}
-use Rattle.cards.specs.Card.{cardWords}
+use Rattle.cards.specs.Layout.{cardWords}
 use Rattle.cards.specs.Area.{AllCards}
 use Rattle.dulimoven.specs.Returned.{Returned, returned, turnedDown}
 

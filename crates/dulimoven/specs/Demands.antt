@@ -15,7 +15,7 @@ use Rattle.image.specs.declared.answer.Checked.{Checked}
 use Rattle.runs.specs.Run.{Run}
 use Rattle.runs.specs.Execution.{Fact, State, Executes}
 use Rattle.runs.specs.Touch.{questionOf, HasOutcome}
-use Rattle.cards.specs.Card.{cardWords}
+use Rattle.cards.specs.Layout.{cardWords}
 use Rattle.cards.specs.Area.{partWord}
 use Rattle.cards.specs.Meaning.{Card, Kept, Changed, Always, needed, set, cleared, Breaks, Missing}
 use Rattle.chains.specs.Link.{Chain}

@@ -8,7 +8,7 @@ use mathlib.Core.Path.{_≡_, refl, sym, ap, ap₂, _∙_}
 use mathlib.Core.List.{List, [], _∷_, _++_, append-assoc, append-nil}
 use lib.ListN.{length, take, drop, set, length-append, length-drop, drop-of-length-le}
 use lib.Seq.{take-at, drop-at, drop-drop, sets-eq}
-use Rattle.cards.specs.Card.{cardWords}
+use Rattle.cards.specs.Layout.{cardWords}
 use Rattle.row.specs.Words.{rowWords}
 use Rattle.row.specs.Card.{rowCard, rowAt, tableCards}
 

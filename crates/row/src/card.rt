@@ -15,7 +15,7 @@ ghost use mathlib.Core.Path.{_≡_};
 ghost use mathlib.Core.List.{_++_};
 ghost use Prim.Native.Nat.{_*_, _≤_};
 ghost use lib.ListN.{length, drop};
-ghost use Rattle.cards.specs.Card.{cardWords};
+ghost use Rattle.cards.specs.Layout.{cardWords};
 ghost use Rattle.row.specs.Words.{rowWords};
 ghost use Rattle.row.specs.Card.{flagsOf, alwaysOf, rowCard, tableCards};
 
