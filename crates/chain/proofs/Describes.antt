@@ -13,9 +13,11 @@ use lib.Seq.{getD-take, getD-drop}
 use lib.Dec.{eqb, ltb}
 use borrow.Author.Tests.{ltb-true, lt-ltb, le-ltb}
 use Rattle.column.specs.Sets.{inColumn}
-use Rattle.column.proofs.Operations.{in-column}
 use Rattle.library.specs.Library.{has, Library, Step, Alternative, Entry, step, item, call, Item}
 use Rattle.library.specs.Tables.{maskOf}
+use Rattle.library.specs.Walk.{alternativesAt}
+use Rattle.library.proofs.Decode.{has-none}
+use Rattle.library.proofs.Lookup.{mask-has}
 use Rattle.runs.specs.Run.{alternativesOf}
 use Rattle.runs.specs.Execution.{noStep, stepOf}
 use Rattle.runs.specs.Touch.{Side, last, first, Mark, present, absent, untouched, Question, touch, itemTouch}
@@ -26,7 +28,7 @@ use Rattle.chains.specs.Stands.{entryAt}
 use Rattle.chains.specs.Ranks.{Ranks, Reached, Linked, Closed, unranked, entryRank, entryPasses, depthLook, passLook, hasMark, aheadOf, behindOf, touchLook, untouchedLook}
 use Rattle.chains.specs.Answer.{Answer, none, shown, chosenAlternative, followed, linksFrom, touchAnswer, untouchedAnswer}
 use Rattle.rank.specs.Walk.{linkFrom, alternativeFrom, depthFrom, fewestFrom}
-use Rattle.rank.specs.Tables.{entryNumber, inRanks, rankIn, passIn, depthIn, everyIn, fewestIn, lookIn, alternativesAt, stepMark, markIn, stepRank, Stepped}
+use Rattle.rank.specs.Tables.{entryNumber, inRanks, rankIn, passIn, depthIn, everyIn, fewestIn, lookIn, stepMark, markIn, stepRank, Stepped}
 use Rattle.link.specs.Choice.{linkIn, linkEntry, linkAt, linksIn, quietLink, answerIn}
 use Rattle.chain.specs.Described.{isFirst, markNumber, Asks, Masked, Placed, StepsBy, Described}
 use Rattle.question.specs.declared.asked.Asked.{Asked}
@@ -58,25 +60,21 @@ by-test false x y = refl
 -- ---- the ranks of the steps
 
 no-touch : (s : Side) (f : ℕ) → touch s noStep f ≡ untouched
-unfolding has
-no-touch last f = refl
-no-touch first f = refl
+no-touch last f = rw (has-none f)
+no-touch first f = rw (has-none f)
 
 module _ (L : Library) (q : Asked) (Q : Question) (masks : List ℕ) (asks : Asks L q Q) (masked : Masked L masks) where
   abbrev asked : ℕ
   asked = q .fact
 
-  mask-has : (n : ℕ) (facts : List ℕ) → n ≡ maskOf facts → inColumn n asked ≡ has asked facts
-  unfolding maskOf
-  mask-has n facts e =
-      let low : asked < 64 = omega (arith, asks .fact, masked .narrow) in
-      ap (λ (x : ℕ). inColumn x asked) e ∙ in-column 64 (λ (g : ℕ). has g facts) asked low
+  in-mask : (n : ℕ) (facts : List ℕ) → n ≡ maskOf facts → inColumn n asked ≡ has asked facts
+  in-mask n facts e = ap (λ (x : ℕ). inColumn x asked) e ∙ mask-has facts asked (omega (arith, asks .fact, masked .narrow))
 
   step-mark : (a : ℕ) → stepMark q masks a ≡ markNumber (itemTouch L (Q .side) asked (step a))
   step-mark a =
-      let n = mask-has (getD masks (3 * a) 0) (stepOf L (step a) .needs) (masked .needs a) in
-      let s = mask-has (getD masks (3 * a + 1) 0) (stepOf L (step a) .sets) (masked .sets a) in
-      let k = mask-has (getD masks (3 * a + 2) 0) (stepOf L (step a) .clears) (masked .clears a) in
+      let n = in-mask (getD masks (3 * a) 0) (stepOf L (step a) .needs) (masked .needs a) in
+      let s = in-mask (getD masks (3 * a + 1) 0) (stepOf L (step a) .sets) (masked .sets a) in
+      let k = in-mask (getD masks (3 * a + 2) 0) (stepOf L (step a) .clears) (masked .clears a) in
       rw (asks .first, n, s, k) (go (Q .side))
     where
       go : (s : Side)

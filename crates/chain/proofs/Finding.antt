@@ -10,18 +10,18 @@ use mathlib.Core.Bool.{Bool, true, false, cond, not}
 use mathlib.Core.List.{List, [], _∷_, _++_}
 use lib.ListN.{length, getD, take, drop, replicate, length-replicate, List·getD-append, List·getD-eq-default}
 use lib.Seq.{getD-drop, getD-take, ext-getD, length-take-le}
-use Rattle.column.proofs.Bits.{column-none}
 use Rattle.reader.specs.Checked.{checked}
 use Rattle.rules.specs.Rules.{opened}
 use Rattle.library.specs.Library.{Library, Step, Entry, alternativesFrom, stepsFrom, stepsPart, sequencesPart, libraryOf, Item, step}
 use Rattle.general.specs.Tests.{All}
 use Rattle.library.specs.Accepted.{SequenceWord, Counted}
 use Rattle.library.specs.Tables.{StepsAsked, SequencesAsked, maskOf, masks, placesFrom}
+use Rattle.library.specs.Walk.{alternativesAt}
 use Rattle.image.specs.declared.answer.Head.{Head}
 use Rattle.image.specs.declared.answer.Checked.the-variants.{Accepted}
 use Rattle.library.proofs.Accepted.{faultless, parts, counted, library-is}
 use Rattle.library.proofs.Lookup as lookup
-use Rattle.library.proofs.Lookup.{masks-length, row-at, places-length, place-at}
+use Rattle.library.proofs.Lookup.{mask-none, masks-length, row-at, places-length, place-at}
 use Rattle.library.proofs.Rows.{all-at}
 use Rattle.settling.specs.Passes.{Blank, Complete}
 use Rattle.outcome.specs.Area.{TableAsked, Prepared, libraryIn}
@@ -37,7 +37,7 @@ use Rattle.general.specs.Scan.{every}
 use Rattle.chains.specs.Ranks.{Look, passLook, unranked, entryPasses, hasMark, canStay, canRun, aheadOf, behindOf, touchLook, untouchedLook}
 use Rattle.chains.specs.Answer.{answer, ranksIn}
 use Rattle.rank.specs.Visits.{Visits, Settled}
-use Rattle.rank.specs.Tables.{inRanks, passIn, lookIn, Rankable, Readable, Visitable, Steppable, Ranked, alternativesAt}
+use Rattle.rank.specs.Tables.{inRanks, passIn, lookIn, Rankable, Readable, Visitable, Steppable, Ranked}
 use Rattle.link.specs.Choice.{Choosable, answerIn}
 use Rattle.chain.specs.Described.{Asks, Masked, Placed, StepsBy, Described, FindAsked, Made, Unranked, Findable, Marked, quietly, whether, isFirst, markNumber, sideBy, markBy, questionBy}
 use Rattle.question.specs.declared.asked.Asked.{Asked}
@@ -56,10 +56,6 @@ blank-after (x ∷ xs) rest (suc k) blank le = blank-after xs rest k blank (omeg
 
 blank-drop : (n : ℕ) (zeros : List ℕ) → Blank zeros → Blank (drop n zeros)
 blank-drop n zeros blank k = getD-drop n zeros k 0 ∙ blank (n + k)
-
-mask-none : maskOf [] ≡ 0
-unfolding maskOf
-mask-none = column-none 64
 
 -- ---- the steps' masks
 

@@ -11,12 +11,13 @@ use Rattle.library.specs.Library.{Library, Entry, stepsFrom, stepsPart, sequenc
 use Rattle.image.specs.declared.answer.Head.{Head}
 use Rattle.image.specs.declared.answer.Checked.the-variants.{Accepted}
 use Rattle.library.specs.Tables.{maskOf, masks, placesFrom}
+use Rattle.library.specs.Walk.{alternativesAt}
 use Rattle.settling.specs.Passes.{Blank, Complete}
 use Rattle.runs.specs.Run.{alternativesOf}
 use Rattle.runs.specs.Execution.{stepOf}
 use Rattle.runs.specs.Touch.{Side, last, first, Mark, present, absent, untouched, Question}
 use Rattle.chains.specs.Ranks.{unranked, aheadOf, behindOf}
-use Rattle.rank.specs.Tables.{passIn, alternativesAt, Rankable, Steppable, Ranked}
+use Rattle.rank.specs.Tables.{passIn, Rankable, Steppable, Ranked}
 use Rattle.link.specs.Choice.{Opened}
 use Rattle.question.specs.declared.asked.Asked.{Asked}
 

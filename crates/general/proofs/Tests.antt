@@ -1,4 +1,4 @@
--- Laws of a test over a list: what `some` says.
+-- Laws of a test over a list: what `some` and `All` say.
 use Prim.Native.Nat.{ℕ, zero, suc, _<_}
 use mathlib.Core.Path.{_≡_, refl, subst}
 use mathlib.Core.Logic.{_⊎_, ⊎-elim}
@@ -6,7 +6,7 @@ use mathlib.Core.Bool.{Bool, true, false, _||_, false≢true}
 use mathlib.Core.List.{List, [], _∷_, List·Memᴰ, List·Memᴰ·head, List·Memᴰ·tail}
 use native.Mathlib.Omega.{arith}
 use lib.ListN.{length, getD}
-use Rattle.general.specs.Tests.{some}
+use Rattle.general.specs.Tests.{some, All}
 use Rattle.general.proofs.Bools.{or-cases, or-left, or-right, both-ways}
 
 module _ {ℓ} {A : Type ℓ} (p : A → Bool) where
@@ -35,6 +35,12 @@ module _ {ℓ} {A : Type ℓ} (p : A → Bool) where
   some-at [] d i lt h = absurd (omega arith)
   some-at (x ∷ xs) d zero lt h = or-left (p x) (some p xs) h
   some-at (x ∷ xs) d (suc i) lt h = or-right (p x) (some p xs) (some-at xs d i (omega arith) h)
+
+-- what holds of each element, and of the default, holds at every index
+pub all-default : {A : Type 0} (P : A → Type 0) (d : A) → P d → (xs : List A) → All P xs → (i : ℕ) → P (getD xs i d)
+all-default P d none [] each i = none
+all-default P d none (x ∷ xs) each zero = each .0
+all-default P d none (x ∷ xs) each (suc i) = all-default P d none xs (each .1) i
 
 -- one of two tests passes somewhere
 pub some-or {ℓ} : {A : Type ℓ} (p q : A → Bool) (xs : List A) → some (λ x. p x || q x) xs ≡ (some p xs || some q xs)

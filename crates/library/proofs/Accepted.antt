@@ -18,7 +18,8 @@ use Rattle.rules.specs.Rules.{opened, earlier, mayStand, whereKind, payloadRigh
 use Rattle.rules.specs.Quick.{after}
 use Rattle.reader.specs.Checked.{atWord, scan, allButLast, between, firstWord, lastWord, checked}
 use Rattle.reader.specs.Walk.{walk, opening}
-use Rattle.library.specs.Library.{step, item, call, factsFrom, stepsFrom, entriesFrom, alternativesFrom, sequencesFrom, beforeSequences, fromSequences, stepsPart, sequencesPart, libraryOf}
+use Rattle.library.specs.Library.{step, item, call, factsFrom, stepsFrom, alternativesFrom, sequencesFrom, beforeSequences, fromSequences, stepsPart, sequencesPart, libraryOf}
+use Rattle.library.specs.Walk.{entryOf}
 use Rattle.general.specs.Tests.{All}
 use Rattle.library.specs.Accepted.{Faultless, StepWord, SequenceWord, Parts, Named, Below, Counted}
 use Rattle.image.specs.declared.answer.Head.{Head}
@@ -30,7 +31,8 @@ use Rattle.rules.specs.declared.rules.Earlier.{Earlier}
 use Rattle.rules.specs.declared.rules.Fault.{Fault}
 use Rattle.rules.specs.declared.rules.Fault.the-variants.{Found, Nothing}
 use Rattle.general.proofs.Bools.{and-left, and-right, or-cases, or-five, and-six}
-use Rattle.library.proofs.Decode.{is, is-not, kind-is, parts-opened, parts-joined, steps-length, sequences-length}
+use Rattle.image.proofs.Entries.{entry-kinds}
+use Rattle.library.proofs.Decode.{is, is-not, kind-is, alternatives-all, parts-opened, parts-joined, steps-length, sequences-length}
 use Rattle.reader.proofs.Read.{checked-walk}
 use Rattle.library.proofs.Seam.{length-between}
 
@@ -340,27 +342,15 @@ steps-below h (w ∷ ws) a = go (isKind 5 w) (steps-below h ws (a .1))
     go true rest = ((facts-below h 2 ws (a .1), facts-below h 3 ws (a .1), facts-below h 4 ws (a .1)), rest)
     go false rest = rest
 
-entries-named : (h : Head) (ws : List ℕ) → All (SequenceWord h) ws → All (Named h) (entriesFrom ws)
-unfolding entriesFrom
-entries-named h [] a = tt
-entries-named h (w ∷ ws) a = go (isKind 8 w) (isKind 9 w) refl refl (entries-named h ws (a .1))
+entry-named : (h : Head) (w : ℕ) → SequenceWord h w → isEntry w ≡ true → Named h (entryOf w)
+entry-named h w s e = go (isKind 8 w) refl
   where
-    go : (b c : Bool) → isKind 8 w ≡ b → isKind 9 w ≡ c → All (Named h) (entriesFrom ws)
-        → All (Named h) (cond b (item (step (payload w)) ∷ entriesFrom ws) (cond c (call (payload w) ∷ entriesFrom ws) []))
-    go true c q r rest = (a .0 .step (kind-is 8 w q), rest)
-    go false true q r rest = (a .0 .sequence (kind-is 9 w r), rest)
-    go false false q r rest = tt
+    go : (b : Bool) → isKind 8 w ≡ b → Named h (cond b (item (step (payload w))) (call (payload w)))
+    go true q = s .step (kind-is 8 w q)
+    go false q = s .sequence (entry-kinds w e (eqb-false (kind w) 8 q))
 
-alternatives-named : (h : Head) (ws : List ℕ) → All (SequenceWord h) ws → All (All (Named h)) (alternativesFrom ws)
-unfolding alternativesFrom
-alternatives-named h [] a = tt
-alternatives-named h (w ∷ ws) a = go (isKind 7 w) (isEntry w) (alternatives-named h ws (a .1))
-  where
-    go : (b c : Bool) → All (All (Named h)) (alternativesFrom ws)
-        → All (All (Named h)) (cond b (entriesFrom ws ∷ alternativesFrom ws) (cond c (alternativesFrom ws) []))
-    go true c rest = (entries-named h ws (a .1), rest)
-    go false true rest = rest
-    go false false rest = tt
+pub alternatives-named : (h : Head) (ws : List ℕ) → All (SequenceWord h) ws → All (All (Named h)) (alternativesFrom ws)
+alternatives-named h = alternatives-all (Named h) (All (SequenceWord h)) (λ w ws o a. a .1) (λ w ws e a. entry-named h w (a .0) e)
 
 sequences-named : (h : Head) (ws : List ℕ) → All (SequenceWord h) ws → All (All (All (Named h))) (sequencesFrom ws)
 unfolding sequencesFrom

@@ -5,7 +5,7 @@ use Prim.Native.Nat.{ℕ, zero, suc, _+_, _≤_, _<_}
 use native.Mathlib.Nat.{le-of-suc-le-suc, zero-add}
 use native.Mathlib.Numerals.{one-add}
 use native.Mathlib.Omega.{arith}
-use mathlib.Core.Path.{_≡_, refl, sym, ap, _∙_}
+use mathlib.Core.Path.{_≡_, refl, sym, ap, _∙_, subst}
 use mathlib.Core.Bool.{Bool, true, false, cond, _||_}
 use mathlib.Core.Logic.{_⊎_, inl, inr}
 use mathlib.Core.List.{List, [], _∷_, _++_}
@@ -13,9 +13,12 @@ use lib.ListN.{length, getD, take, drop}
 use lib.Dec.{eqb}
 use borrow.Author.Tests.{eq-eqb, ne-eqb, eqb-true, eqb-false}
 use mir.Val.{boolByte}
-use Rattle.image.specs.Word.{kind, payload, isKind, isFact}
+use Rattle.image.specs.Word.{kind, payload, isKind, isFact, isEntry}
 use Rattle.rules.specs.Rules.{opened}
-use Rattle.library.specs.Library.{has, Step, step, item, call, factsFrom, stepsFrom, entriesFrom, alternativesFrom, sequencesFrom, beforeSequences, fromSequences}
+use Rattle.general.specs.Tests.{All}
+use Rattle.library.specs.Library.{has, Step, Entry, step, item, call, factsFrom, stepsFrom, entriesFrom, alternativesFrom, sequencesFrom, beforeSequences, fromSequences}
+use Rattle.library.specs.Walk.{entryOf}
+use Rattle.image.proofs.Entries.{entry-high}
 
 -- ---- kinds
 
@@ -27,6 +30,9 @@ is-not k w d = ne-eqb (kind w) k d
 
 pub kind-is : (k w : ℕ) → isKind k w ≡ true → kind w ≡ k
 kind-is k w e = eqb-true (kind w) k e
+
+pub entry-opens-none : (w : ℕ) → isEntry w ≡ true → isKind 7 w ≡ false
+entry-opens-none w e = is-not 7 w (λ q. omega (arith, entry-high w e))
 
 pub fact-of : (w : ℕ) → 2 ≤ kind w → kind w ≤ 4 → isFact w ≡ true
 fact-of w l u = go (isKind 2 w) (isKind 3 w) (isKind 4 w) refl refl refl
@@ -53,6 +59,17 @@ pub entries-nil : entriesFrom [] ≡ []
 unfolding entriesFrom
 entries-nil = refl
 
+-- an entry, or the alternative's end
+pub entries-cons : (w : ℕ) (ws : List ℕ) (b : Bool) → isEntry w ≡ b → entriesFrom (w ∷ ws) ≡ cond b (entryOf w ∷ entriesFrom ws) []
+unfolding entriesFrom
+entries-cons w ws b e = go (isKind 8 w) (isKind 9 w) (entriesFrom ws) ∙ ap (λ (c : Bool). cond c (entryOf w ∷ entriesFrom ws) []) e
+  where
+    go : (x y : Bool) (es : List Entry) → cond x (item (step (payload w)) ∷ es) (cond y (call (payload w) ∷ es) [])
+        ≡ cond (x || y) (cond x (item (step (payload w))) (call (payload w)) ∷ es) []
+    go true y es = refl
+    go false true es = refl
+    go false false es = refl
+
 pub entries-step : (w : ℕ) (ws : List ℕ) → kind w ≡ 8 → entriesFrom (w ∷ ws) ≡ item (step (payload w)) ∷ entriesFrom ws
 unfolding entriesFrom
 entries-step w ws e = simp (is 8 w e)
@@ -68,6 +85,14 @@ entries-end w ws l = simp (is-not 8 w (λ q. omega arith), is-not 9 w (λ q. ome
 pub alternatives-nil : alternativesFrom [] ≡ []
 unfolding alternativesFrom
 alternatives-nil = refl
+
+-- an alternative, an entry, or the sequence's end
+pub alternatives-cons : (w : ℕ) (ws : List ℕ) (a b : Bool) → isKind 7 w ≡ a → isEntry w ≡ b
+    → alternativesFrom (w ∷ ws) ≡ cond a (entriesFrom ws ∷ alternativesFrom ws) (cond b (alternativesFrom ws) [])
+unfolding alternativesFrom
+alternatives-cons w ws a b e f =
+    ap (λ (c : Bool). cond c (entriesFrom ws ∷ alternativesFrom ws) (cond (isEntry w) (alternativesFrom ws) [])) e
+    ∙ ap (λ (c : Bool). cond a (entriesFrom ws ∷ alternativesFrom ws) (cond c (alternativesFrom ws) [])) f
 
 pub alternatives-open : (w : ℕ) (ws : List ℕ) → kind w ≡ 7 → alternativesFrom (w ∷ ws) ≡ entriesFrom ws ∷ alternativesFrom ws
 unfolding alternativesFrom
@@ -124,6 +149,41 @@ pub facts-end : (k w : ℕ) (ws : List ℕ) → kind w ≡ 5 → factsFrom k (w 
 unfolding factsFrom
 facts-end k w ws e =
     simp (is-not 2 w (λ q. omega arith), is-not 3 w (λ q. omega arith), is-not 4 w (λ q. omega arith))
+
+-- ---- the entries of a sequence
+
+-- Q passes on from each word of a sequence to the words after it, and gives P of each entry that a word names
+module _ (P : Entry → Type 0) (Q : List ℕ → Type 0) (later : (w : ℕ) (ws : List ℕ) → isKind 6 w ≡ false → Q (w ∷ ws) → Q ws)
+    (names : (w : ℕ) (ws : List ℕ) → isEntry w ≡ true → Q (w ∷ ws) → P (entryOf w)) where
+  after-entry : (w : ℕ) (ws : List ℕ) → isEntry w ≡ true → Q (w ∷ ws) → Q ws
+  after-entry w ws e = later w ws (is-not 6 w (λ k. omega (arith, entry-high w e)))
+
+  pub entries-all : (ws : List ℕ) → Q ws → All P (entriesFrom ws)
+  entries-all [] q = subst (All P) (sym entries-nil) tt
+  entries-all (w ∷ ws) q = go (isEntry w) refl (λ r. entries-all ws r)
+    where
+      go : (b : Bool) → isEntry w ≡ b → (Q ws → All P (entriesFrom ws)) → All P (entriesFrom (w ∷ ws))
+      go true e rest = subst (All P) (sym (entries-cons w ws true e)) (names w ws e q, rest (after-entry w ws e q))
+      go false e rest = subst (All P) (sym (entries-cons w ws false e)) tt
+
+  pub alternatives-all : (ws : List ℕ) → Q ws → All (All P) (alternativesFrom ws)
+  alternatives-all [] q = subst (All (All P)) (sym alternatives-nil) tt
+  alternatives-all (w ∷ ws) q = go (isKind 7 w) (isEntry w) refl refl (λ r. alternatives-all ws r)
+    where
+      go : (a b : Bool) → isKind 7 w ≡ a → isEntry w ≡ b → (Q ws → All (All P) (alternativesFrom ws)) → All (All P) (alternativesFrom (w ∷ ws))
+      go true b e f rest =
+          let more = later w ws (is-not 6 w (λ k. omega (arith, kind-is 7 w e))) q in
+          subst (All (All P)) (sym (alternatives-cons w ws true b e f)) (entries-all ws more, rest more)
+      go false true e f rest = subst (All (All P)) (sym (alternatives-cons w ws false true e f)) (rest (after-entry w ws f q))
+      go false false e f rest = subst (All (All P)) (sym (alternatives-cons w ws false false e f)) tt
+
+pub entries-short : (ws : List ℕ) → length (entriesFrom ws) ≤ length ws
+entries-short [] = omega (arith, ap (λ (es : List Entry). length es) entries-nil)
+entries-short (w ∷ ws) = go (isEntry w) refl (entries-short ws)
+  where
+    go : (b : Bool) → isEntry w ≡ b → length (entriesFrom ws) ≤ length ws → length (entriesFrom (w ∷ ws)) ≤ suc (length ws)
+    go true e l = omega (arith, ap (λ (es : List Entry). length es) (entries-cons w ws true e))
+    go false e l = omega (arith, ap (λ (es : List Entry). length es) (entries-cons w ws false e))
 
 -- ---- the two parts
 

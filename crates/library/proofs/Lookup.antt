@@ -9,8 +9,10 @@ use mathlib.Core.List.{List, [], _∷_}
 use lib.ListN.{length, getD, drop}
 use mir.Val.{boolByte}
 use Rattle.column.specs.Column.{bit}
-use Rattle.column.proofs.Bits.{bit-column, column-lt}
+use Rattle.column.specs.Sets.{inColumn}
+use Rattle.column.proofs.Bits.{bit-column, column-lt, column-none}
 use Rattle.column.proofs.Low.{column-low}
+use Rattle.column.proofs.Operations.{in-column}
 use Rattle.image.specs.Word.{kind, isKind}
 use Rattle.rules.specs.Rules.{opened}
 use Rattle.library.specs.Library.{has, Step, alternativesFrom, sequencesFrom}
@@ -23,6 +25,14 @@ use borrow.Author.Tests.{eqb-false, ne-eqb}
 pub mask-bit : (facts : List ℕ) (f : ℕ) → f < 64 → bit (maskOf facts) f ≡ boolByte (has f facts)
 unfolding maskOf
 mask-bit facts f l = bit-column 64 (λ (g : ℕ). has g facts) f l
+
+pub mask-has : (facts : List ℕ) (f : ℕ) → f < 64 → inColumn (maskOf facts) f ≡ has f facts
+unfolding maskOf
+mask-has facts f l = in-column 64 (λ (g : ℕ). has g facts) f l
+
+pub mask-none : maskOf [] ≡ 0
+unfolding maskOf has
+mask-none = column-none 64
 
 pub mask-lt : (facts : List ℕ) → maskOf facts < 2 ^ 64
 unfolding maskOf

@@ -6,24 +6,14 @@ use mathlib.Core.Path.{_≡_}
 use mathlib.Core.Bool.{Bool, true, false, cond}
 use mathlib.Core.List.{List, [], _∷_}
 use lib.ListN.{length, getD}
-use Rattle.image.specs.Word.{payload, isKind, isEntry}
-use Rattle.library.specs.Library.{step, item, call, entriesFrom, alternativesFrom, sequencesFrom, sequencesPart, libraryOf}
+use Rattle.image.specs.Word.{isKind, isEntry}
+use Rattle.library.specs.Library.{entriesFrom, alternativesFrom, sequencesFrom, sequencesPart, libraryOf}
 use Rattle.reader.specs.Checked.{checked}
 use Rattle.library.specs.Accepted.{Small}
 use Rattle.image.specs.declared.answer.Head.{Head}
 use Rattle.image.specs.declared.answer.Checked.the-variants.{Accepted}
+use Rattle.library.proofs.Decode.{entries-short}
 use Rattle.library.proofs.Accepted.{faultless, parts, counted}
-
-entries-short : (ws : List ℕ) → length (entriesFrom ws) ≤ length ws
-unfolding entriesFrom
-entries-short [] = omega arith
-entries-short (w ∷ ws) = go (isKind 8 w) (isKind 9 w) (entries-short ws)
-  where
-    go : (a b : Bool) → length (entriesFrom ws) ≤ length ws
-        → length (cond a (item (step (payload w)) ∷ entriesFrom ws) (cond b (call (payload w) ∷ entriesFrom ws) [])) ≤ suc (length ws)
-    go true b l = omega arith
-    go false true l = omega arith
-    go false false l = omega arith
 
 alternatives-short : (ws : List ℕ) → length (alternativesFrom ws) ≤ length ws
 unfolding alternativesFrom

@@ -2,3 +2,4 @@ pub mod Library
 pub mod Seam
 pub mod Accepted
 pub mod Tables
+pub mod Walk

@@ -12,42 +12,26 @@ use lib.Dec.{leb}
 use borrow.Author.Tests.{le-leb, lt-leb, lt-ltb, le-ltb}
 use Rattle.image.specs.Word.{payload, isKind, isEntry}
 use Rattle.library.specs.Library.{Entry, step, item, call, Alternative, entriesFrom, alternativesFrom}
+use Rattle.library.specs.Walk.{entryOf}
 use Rattle.general.specs.Scan.{every}
 use Rattle.chains.specs.Link.{Link, touchLink}
 use Rattle.chains.specs.Stands.{entryAt}
 use Rattle.rank.specs.Walk.{tailFrom, positionFrom, linkFrom, alternativeFrom}
-use Rattle.rank.specs.Tables.{entryOf, entryNumber, rankIn, passIn, traitsIn, AlternativeRead}
+use Rattle.rank.specs.Tables.{entryNumber, rankIn, passIn, traitsIn, AlternativeRead}
 use Rattle.link.specs.Choice.{linkIn, Chosen}
 use Rattle.rank.specs.declared.entry.Traits.{Traits}
 use Rattle.rank.specs.declared.read.Read.{Read}
-use Rattle.rank.proofs.Folds.{entry-inside, opener-inside, Folding, folding-start, folding-turn, folding-entry, folding-out}
-use Rattle.rank.proofs.Folds.{Walking, walking-turn, walking-skip, walking-out}
+use Rattle.library.proofs.Walking.{Folding, folding-start, folding-inside, folding-turn, folding-read, folding-entry, folding-out, folding-end}
+use Rattle.library.proofs.Walking.{Walking, walking-inside, walking-here, walking-turn, walking-skip, walking-out}
 use Rattle.rank.proofs.Walk.{tail-from}
 
 -- ---- the index from which on all entries pass
 
-module _ (test : Entry → Bool) (part : List ℕ) (at : ℕ) where
-  abbrev quiet-index : ℕ
-  quiet-index = tailFrom test at at (entriesFrom (drop at part))
-
-  abbrev pub Quieting : ℕ → ℕ → Type 0
-  Quieting start i = Folding part quiet-index at (tailFrom test i start) i
-
-  pub quieting-start : at ≤ length part → Quieting at at
-  quieting-start l = folding-start part quiet-index at (tailFrom test at at) l refl
-
-  module _ (start i : ℕ) (here : Quieting start i) where
-    pub quieting-turn : isEntry (getD part i 0) ≡ true → (b : Bool) → test (entryOf (getD part i 0)) ≡ b
-        → Quieting (cond b start (i + 1)) (i + 1)
-    unfolding tailFrom
-    quieting-turn e b told =
-        folding-turn part quiet-index at (tailFrom test i start) i here e
-        (tailFrom test (i + 1) (cond b start (i + 1)))
-        (rw (add-one i) (ap (λ (x : Bool). tailFrom test (suc i) (cond x start (suc i)) (entriesFrom (drop (suc i) part))) told))
-
-    pub quieting-out : isEntry (getD part i 0) ≡ false → start ≡ quiet-index
-    unfolding tailFrom
-    quieting-out e = folding-out part quiet-index at (tailFrom test i start) i here e
+-- one entry more, of which b is whether it passes
+pub tail-cons : (test : Entry → Bool) (i start : ℕ) (e : Entry) (es : List Entry) (b : Bool) → test e ≡ b
+    → tailFrom test i start (e ∷ es) ≡ tailFrom test (i + 1) (cond b start (i + 1)) es
+unfolding tailFrom
+tail-cons test i start e es b told = rw (add-one i) (ap (λ (x : Bool). tailFrom test (suc i) (cond x start (suc i)) es) told)
 
 -- ---- the first position of an alternative
 
@@ -86,7 +70,7 @@ module _ (none : ℕ) (ahead behind ranks part : List ℕ) (k : ℕ) where
     pub placing-start : s ≤ length part → Placing true s
     placing-start l =
         let z : s - s ≡ 0 = omega arith in
-        folding-start part whole s (rest true s) l (rw z (ap (λ (n : ℕ). (position true 0 entries, n)) (omega arith)))
+        folding-start l (rw z (ap (λ (n : ℕ). (position true 0 entries, n)) (omega arith)))
 
     -- an entry, with its traits, where `quiet` is the index from which on all entries pass as those behind
     module _ (quiet : ℕ) (quieted : quiet ≡ tailFrom (passIn none behind) s s entries) (ok : Bool) (i : ℕ) (here : Placing ok i)
@@ -100,7 +84,7 @@ module _ (none : ℕ) (ahead behind ranks part : List ℕ) (k : ℕ) where
 
       -- the fold with this entry at its head
       opened : Folding part whole s (λ es. rest ok i (entry ∷ es)) (i + 1)
-      opened = folding-turn part whole s (rest ok i) i here e (λ es. rest ok i (entry ∷ es)) refl
+      opened = folding-read here e
 
       -- the entries behind the position pass
       behind-passes : leb quiet (i + 1) ≡ every (passIn none behind) later
@@ -128,7 +112,7 @@ module _ (none : ℕ) (ahead behind ranks part : List ℕ) (k : ℕ) where
       placing-turn taken =
           let index : suc (i - s) ≡ i + 1 - s = omega (arith, here .low) in
           let count : i - s + length (entry ∷ later) ≡ i + 1 - s + length later = omega (arith, here .low) in
-          folding-turn part whole s (rest ok i) i here e (rest (ok && t .ahead) (i + 1))
+          folding-turn here e
           (ap₂ (λ (x y : ℕ). (x, y)) (position-here false taken ∙ ap (λ (n : ℕ). position (ok && t .ahead) n later) index) count)
 
       pub placing-found : Taken ≡ true → (position true 0 entries ≡ i - s) × (i - s < length entries)
@@ -140,7 +124,7 @@ module _ (none : ℕ) (ahead behind ranks part : List ℕ) (k : ℕ) where
     pub placing-out : (ok : Bool) (i : ℕ) → Placing ok i → isEntry (getD part i 0) ≡ false → position true 0 entries ≡ length entries
     unfolding positionFrom
     placing-out ok i here e =
-        let h = folding-out part whole s (rest ok i) i here e in
+        let h = folding-out here e in
         let count : i - s + 0 ≡ length entries = ap (λ (p : ℕ × ℕ). p .1) h in
         sym (ap (λ (p : ℕ × ℕ). p .0) h) ∙ omega arith
 
@@ -185,13 +169,13 @@ module _ (none : ℕ) (ahead behind ranks part : List ℕ) (k : ℕ) where
             read = here .read;
             count = here .count;
             low = omega (arith, here .low);
-            walk = λ c. walking-skip part (all c) (left (here .read) c) i (here .walk c) e f;
+            walk = λ c. walking-skip (here .walk c) e f;
           }
 
       -- an alternative with no such position
-      pub choosing-turn : isKind 7 (getD part i 0) ≡ true → (ok : Bool) (j : ℕ) → Placing (i + 1) ok j
-          → position true 0 (entriesFrom (drop (i + 1) part)) ≡ length (entriesFrom (drop (i + 1) part)) → Choosing (alternative + 1) j
-      choosing-turn e ok j placed unplaced =
+      pub choosing-turn : isKind 7 (getD part i 0) ≡ true → (ok : Bool) (j : ℕ) → Placing (i + 1) ok j → isEntry (getD part j 0) ≡ false
+          → Choosing (alternative + 1) j
+      choosing-turn e ok j placed out =
           let es = entriesFrom (drop (i + 1) part) in
           let more = alternativesFrom (drop (i + 1) part) in
           let read = here .read in
@@ -201,9 +185,9 @@ module _ (none : ℕ) (ahead behind ranks part : List ℕ) (k : ℕ) where
             count = omega (arith, counted, here .count);
             low = omega (arith, here .low, placed .low);
             walk = λ c.
-                walking-turn part (all c) (left read c) i (here .walk c) e (left (read ++ es ∷ []) c) j (placed .within) (placed .skips)
+                walking-turn (here .walk c) e (folding-end placed out)
                 (ap₂ (λ (x : List Alternative) (y : Link). (x, y)) (sym (append-assoc read (es ∷ []) more))
-                (link-next c (length read) es more unplaced ∙ ap (λ (n : ℕ). link c n more) (omega (arith, counted))));
+                (link-next c (length read) es more (placing-out (i + 1) ok j placed out) ∙ ap (λ (n : ℕ). link c n more) (omega (arith, counted))));
           }
 
       -- what stands at the alternative's number is the first that is left
@@ -218,7 +202,7 @@ module _ (none : ℕ) (ahead behind ranks part : List ℕ) (k : ℕ) where
           → Chosen none ahead behind ranks part at k (record { alternative = alternative; position = 0; entry = 0 })
       unfolding linkFrom linkIn
       choosing-out e f =
-          let h : (c : ℕ) → left (here .read) c [] ≡ all c = λ c. walking-out part (all c) (left (here .read) c) i (here .walk c) e f in
+          let h : (c : ℕ) → left (here .read) c [] ≡ all c = λ c. walking-out (here .walk c) e f in
           record {
             link = λ c. ap (λ (n : ℕ). touchLink c n 0) (sym (here .count)) ∙ ap (λ (x : List Alternative × Link). x .1) (h c);
             entry = ap (λ (es : Alternative). entryNumber (entryAt es 0)) (sym (listed [] (h 0)));
@@ -236,13 +220,10 @@ module _ (none : ℕ) (ahead behind ranks part : List ℕ) (k : ℕ) where
       choosing-found e quiet quieted ok j placed e′ t told taken =
           let es = entriesFrom (drop (i + 1) part) in
           let more = alternativesFrom (drop (i + 1) part) in
-          let l = opener-inside part i e in
-          let l′ = entry-inside part j e′ in
+          let l = walking-inside (here .walk 0) e in
+          let l′ = folding-inside placed e′ in
           let found = placing-found (i + 1) quiet quieted ok j placed e′ t told taken in
-          let opened : (c : ℕ) → left (here .read) c (es ∷ more) ≡ all c =
-          λ c.
-          walking-turn part (all c) (left (here .read) c) i (here .walk c) e (λ alts. left (here .read) c (es ∷ alts)) (i + 1) (omega arith) refl
-          refl .same in
+          let opened : (c : ℕ) → left (here .read) c (es ∷ more) ≡ all c = λ c. walking-here (here .walk c) e in
           record {
             link = λ c.
                 ap (λ (n : ℕ). touchLink c n (j - (i + 1))) (sym (here .count))
@@ -250,7 +231,7 @@ module _ (none : ℕ) (ahead behind ranks part : List ℕ) (k : ℕ) where
                 ∙ ap (λ (x : List Alternative × Link). x .1) (opened c);
             entry =
                 sym (entry-number (getD part j 0))
-                ∙ ap entryNumber (sym (folding-entry part (whole (i + 1)) (i + 1) (rest (i + 1) ok j) j placed e′))
+                ∙ ap entryNumber (sym (folding-entry placed e′ (item (step 0))))
                 ∙ ap (λ (xs : Alternative). entryNumber (entryAt xs (j - (i + 1)))) (sym (listed (es ∷ more) (opened 0)));
             alternative-low = omega (arith, here .low);
             position-low = omega arith;
@@ -274,7 +255,7 @@ module _ (value : Alternative → ℕ) (part : List ℕ) (k at : ℕ) where
 
   module _ (alternative i : ℕ) (here : Picking alternative i) where
     pub picking-skip : isKind 7 (getD part i 0) ≡ false → isEntry (getD part i 0) ≡ true → Picking alternative (i + 1)
-    picking-skip e f = record { low = omega (arith, here .low); walk = walking-skip part first (after alternative) i (here .walk) e f }
+    picking-skip e f = record { low = omega (arith, here .low); walk = walking-skip (here .walk) e f }
 
     module _ (e : isKind 7 (getD part i 0) ≡ true) (r : Read) (read : AlternativeRead value part (i + 1) r) where
       -- the alternative that stands here, by whether it is chosen
@@ -287,18 +268,16 @@ module _ (value : Alternative → ℕ) (part : List ℕ) (k at : ℕ) where
       pub picking-turn : k < r .value → Picking (alternative + 1) (r .next)
       picking-turn lt =
           record {
-            low = omega (arith, here .low, read .low);
+            low = omega (arith, here .low, read .next);
             walk =
-                walking-turn part first (after alternative) i (here .walk) e (after (alternative + 1)) (r .next) (read .within) (read .skips)
+                walking-turn (here .walk) e (read .next)
                 (one false (lt-leb (r .value) k lt) (alternativesFrom (drop (i + 1) part))
                 ∙ ap (λ (n : ℕ). after n (alternativesFrom (drop (i + 1) part))) (sym (add-one alternative)));
           }
 
       pub picking-found : r .value ≤ k → alternative ≡ first
-      picking-found le =
-          walking-turn part first (after alternative) i (here .walk) e (λ alts. alternative) (i + 1) (omega (arith, opener-inside part i e)) refl
-          (one true (le-leb (r .value) k le) (alternativesFrom (drop (i + 1) part))) .same
+      picking-found le = sym (one true (le-leb (r .value) k le) (alternativesFrom (drop (i + 1) part))) ∙ walking-here (here .walk) e
 
     pub picking-out : isKind 7 (getD part i 0) ≡ false → isEntry (getD part i 0) ≡ false → alternative ≡ first
     unfolding alternativeFrom
-    picking-out e f = walking-out part first (after alternative) i (here .walk) e f
+    picking-out e f = walking-out (here .walk) e f

@@ -10,12 +10,14 @@ use lib.ListN.{length, getD, set, drop, length-append, length-drop}
 use lib.Seq.{set-at, drop-cons}
 use lib.Dec.{eqb, leb, ltb}
 use borrow.Author.Tests.{eq-eqb, ne-eqb, lt-ltb, le-ltb, leb-true}
-use Rattle.image.specs.Word.{payload, isKind, isEntry}
-use Rattle.library.specs.Library.{Entry, step, item, call, entriesFrom, alternativesFrom}
+use Rattle.image.specs.Word.{payload, isKind}
+use Rattle.general.specs.Tests.{All}
+use Rattle.library.specs.Library.{Entry, step, item, call, alternativesFrom}
+use Rattle.library.specs.Walk.{entryOf, alternativesAt}
 use Rattle.question.specs.Answer.{linkCount, told, shownLinks}
 use Rattle.chains.specs.Link.{Link, touchLink, choiceWord, linkWords, chainWords}
 use Rattle.chains.specs.Stands.{entryAt}
-use Rattle.rank.specs.Tables.{entryNumber, depthIn, alternativesAt}
+use Rattle.rank.specs.Tables.{entryNumber, depthIn}
 use Rattle.rank.specs.Walk.{alternativeFrom}
 use Rattle.link.specs.Choice.{linkIn, Chosen, linkEntry, linkAt, linksIn, quietLink, quietWords, answerIn}
 use Rattle.link.specs.declared.link.Choice.{Choice}
@@ -23,6 +25,8 @@ use Rattle.chains.specs.Answer.{Answer, none, shown}
 use Rattle.question.specs.Reply.{Answered}
 use Rattle.question.specs.declared.answer.Chained.{Chained}
 use Rattle.general.proofs.Scan.{getD-inside}
+use Rattle.general.proofs.Tests.{all-default}
+use Rattle.library.proofs.Decode.{alternatives-all}
 use Rattle.chains.proofs.Words.{words-length}
 use Rattle.image.specs.declared.answer.Refusal.the-variants.{ChainArea}
 use Rattle.question.specs.declared.asked.Asked.{Asked}
@@ -32,30 +36,17 @@ use Rattle.question.specs.declared.asked.Asked.{Asked}
 abbrev Low : Entry → Type 0
 Low e = entryNumber e < 2 ^ 28
 
-entries-low : (ws : List ℕ) (p : ℕ) → Low (entryAt (entriesFrom ws) p)
-unfolding entriesFrom
-entries-low [] p = omega arith
-entries-low (w ∷ ws) p = go (isKind 8 w) (isKind 9 w) p (entries-low ws)
+word-low : (w : ℕ) → Low (entryOf w)
+word-low w = go (isKind 8 w)
   where
-    go : (a b : Bool) (p : ℕ) → ((p : ℕ) → Low (entryAt (entriesFrom ws) p))
-        → Low (entryAt (cond a (item (step (payload w)) ∷ entriesFrom ws) (cond b (call (payload w) ∷ entriesFrom ws) [])) p)
-    go true b zero rest = omega arith
-    go true b (suc p) rest = rest p
-    go false true zero rest = omega arith
-    go false true (suc p) rest = rest p
-    go false false p rest = omega arith
+    go : (b : Bool) → Low (cond b (item (step (payload w))) (call (payload w)))
+    go true = omega arith
+    go false = omega arith
 
 pub entry-low : (ws : List ℕ) (i p : ℕ) → Low (entryAt (getD (alternativesFrom ws) i []) p)
-unfolding alternativesFrom
-entry-low [] i p = omega arith
-entry-low (w ∷ ws) i p = go (isKind 7 w) (isEntry w) i (entry-low ws)
-  where
-    go : (a b : Bool) (i : ℕ) → ((i p : ℕ) → Low (entryAt (getD (alternativesFrom ws) i []) p))
-        → Low (entryAt (getD (cond a (entriesFrom ws ∷ alternativesFrom ws) (cond b (alternativesFrom ws) [])) i []) p)
-    go true b zero rest = entries-low ws p
-    go true b (suc i) rest = rest i p
-    go false true i rest = rest i p
-    go false false i rest = omega arith
+entry-low ws i p =
+    all-default Low (item (step 0)) (omega arith) (getD (alternativesFrom ws) i [])
+    (all-default (All Low) [] tt (alternativesFrom ws) (alternatives-all Low (λ us. Unit {0}) (λ w us o q. tt) (λ w us e q. word-low w) ws tt) i) p
 
 -- ---- two words after those that are written
 

@@ -6,11 +6,12 @@ use mathlib.Core.List.{List, [], _∷_, _++_}
 use lib.ListN.{length, getD, drop}
 use lib.Dec.{eqb, ltb}
 use Rattle.library.specs.Library.{Alternative, alternativesFrom}
+use Rattle.library.specs.Walk.{alternativesAt}
 use Rattle.chains.specs.Link.{Link, touchLink, untouchedLink, Chain, chainWords}
 use Rattle.question.specs.declared.asked.Asked.{Asked}
 use Rattle.chains.specs.Stands.{entryAt}
 use Rattle.rank.specs.Walk.{linkFrom, alternativeFrom}
-use Rattle.rank.specs.Tables.{entryNumber, rankIn, passIn, depthIn, Readable, alternativesAt}
+use Rattle.rank.specs.Tables.{entryNumber, rankIn, passIn, depthIn, Readable}
 use Rattle.chains.specs.Answer.{Answer, shown}
 use Rattle.chains.specs.Answer as known
 use Rattle.link.specs.declared.link.Choice.{Choice}

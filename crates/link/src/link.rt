@@ -2,10 +2,10 @@
 use image::word::is_entry;
 use image::word::is_kind;
 use image::word::payload_of;
+use library::walk::word_at;
 use rank::entry::passes;
 use rank::entry::traits_of;
 use rank::read::greatest_depth;
-use rank::read::word_at;
 ghost use mathlib.Core.Path.{_≡_};
 ghost use mathlib.Core.Bool.{cond};
 ghost use Prim.Native.Nat.{_+_, _≤_, _<_};

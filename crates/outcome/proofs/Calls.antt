@@ -8,19 +8,21 @@ use mathlib.Core.Bool.{Bool, true, false, cond, _&&_, _||_, false≢true}
 use mathlib.Core.List.{List, [], _∷_}
 use lib.Dec.{eqb}
 use lib.ListN.{length, getD, drop}
-use borrow.Author.Tests.{eq-eqb, ne-eqb}
+use borrow.Author.Tests.{eq-eqb, ne-eqb, eqb-false}
 use Rattle.image.specs.Word.{kind, payload, isKind, isEntry}
-use Rattle.column.specs.Column.{bit}
 use Rattle.row.specs.Words.{noRow, startRow, orRows, joinRows, liveRow, rowIn, withRow}
-use Rattle.outcome.specs.Walks.{entryWord, foldWords, alternativeWords, sequenceWords}
+use Rattle.library.specs.Library.{Entry, step, item, call, Alternative, alternativesFrom}
+use Rattle.library.specs.Walk.{entryOf, alternativesAt}
+use Rattle.general.specs.Tests.{All}
+use Rattle.outcome.specs.Walks.{entryIn, joinedFrom, alternativeIn, unitedFrom}
 use Rattle.settling.specs.Passes.{Visit}
 use Rattle.outcome.specs.Visited.{lacking, visitedRow, visited}
 use Rattle.settling.specs.Stale.{Fresh, isStale, isCaller, callsIn, calls, CallersWritten, Freshened}
 use Rattle.row.specs.declared.words.Row.{Row}
 use Rattle.general.proofs.Bools.{and-both, or-left, or-right}
 use Rattle.outcome.proofs.Stores.{rows-again, row-same, row-other, row-again}
-use Rattle.image.proofs.Entries.{entry-kinds, entry-high}
-use Rattle.outcome.proofs.Walks.{fold-cons, united-cons}
+use Rattle.image.proofs.Entries.{entry-kinds}
+use Rattle.library.proofs.Decode.{alternatives-all}
 use Rattle.settling.proofs.Stale.{Local, fresh-turn}
 use Rattle.settling.proofs.CallerSets.{back}
 
@@ -51,56 +53,39 @@ module _ (all : ℕ) (steps t t′ : List ℕ) where
   unfolding Alike
   alike-later w ws e same d later = same d (calls-later d w ws e later)
 
-  entry-local : (w : ℕ) (ws : List ℕ) → isEntry w ≡ true → Alike (w ∷ ws) → entryWord steps t w ≡ entryWord steps t′ w
+  -- an entry has the same row by both
+  abbrev Same : Entry → Type 0
+  Same e = entryIn steps t e ≡ entryIn steps t′ e
+
+  entry-local : (w : ℕ) (ws : List ℕ) → isEntry w ≡ true → Alike (w ∷ ws) → Same (entryOf w)
   unfolding Alike
-  entry-local w ws e same =
-      elim (ℕ-discrete (kind w) 8) [
-        | yes eight ↦
-            ap (λ (b : Bool). cond b (rowIn steps (payload w)) (rowIn t (payload w))) (eq-eqb (kind w) 8 eight)
-            ∙ sym (ap (λ (b : Bool). cond b (rowIn steps (payload w)) (rowIn t′ (payload w))) (eq-eqb (kind w) 8 eight))
-        | no other ↦ ap (cond (isKind 8 w) (rowIn steps (payload w))) (same (payload w) (calls-here w ws (entry-kinds w e other)))
-      ]
+  entry-local w ws e same = go (isKind 8 w) refl
+    where
+      go : (b : Bool) → isKind 8 w ≡ b → Same (cond b (item (step (payload w))) (call (payload w)))
+      go true eight = refl
+      go false other = same (payload w) (calls-here w ws (entry-kinds w e (eqb-false (kind w) 8 other)))
 
-  fold-word : (X : Row) (w : ℕ) (ws : List ℕ) → ((Y : Row) → Alike ws → foldWords steps t Y ws ≡ foldWords steps t′ Y ws) → Alike (w ∷ ws) → (b : Bool) → isEntry w ≡ b
-      → foldWords steps t X (w ∷ ws) ≡ foldWords steps t′ X (w ∷ ws)
-  fold-word X w ws rest same true e =
-      fold-cons steps t X w ws true e
-      ∙ ap (λ (r : Row). foldWords steps t (joinRows X r) ws) (entry-local w ws e same)
-      ∙ rest (joinRows X (entryWord steps t′ w)) (alike-later w ws (ne-eqb (kind w) 6 (λ q. omega (arith, entry-high w e))) same)
-      ∙ sym (fold-cons steps t′ X w ws true e)
-  fold-word X w ws rest same false e = fold-cons steps t X w ws false e ∙ sym (fold-cons steps t′ X w ws false e)
+  joined-local : (X : Row) (es : List Entry) → All Same es → joinedFrom steps t X es ≡ joinedFrom steps t′ X es
+  unfolding joinedFrom
+  joined-local X [] a = refl
+  joined-local X (e ∷ es) a =
+      ap (λ (r : Row). joinedFrom steps t (joinRows X r) es) (a .0) ∙ joined-local (joinRows X (entryIn steps t′ e)) es (a .1)
 
-  fold-local : (X : Row) (ws : List ℕ) → Alike ws → foldWords steps t X ws ≡ foldWords steps t′ X ws
-  unfolding foldWords
-  fold-local X [] same = refl
-  fold-local X (w ∷ ws) same = fold-word X w ws (λ Y. fold-local Y ws) same (isEntry w) refl
+  united-local : (X : Row) (alts : List Alternative) → All (All Same) alts → unitedFrom all steps t X alts ≡ unitedFrom all steps t′ X alts
+  unfolding unitedFrom
+  united-local X [] a = refl
+  united-local X (es ∷ alts) a =
+      ap (λ (r : Row). unitedFrom all steps t (orRows X (liveRow r)) alts) (joined-local (startRow all) es (a .0))
+      ∙ united-local (orRows X (alternativeIn all steps t′ es)) alts (a .1)
 
-  alternative-local : (ws : List ℕ) → Alike ws → alternativeWords all steps t ws ≡ alternativeWords all steps t′ ws
-  unfolding alternativeWords
-  alternative-local ws same = ap liveRow (fold-local (startRow all) ws same)
-
-  sequence-word : (X : Row) (w : ℕ) (ws : List ℕ) → ((Y : Row) → Alike ws → sequenceWords all steps t Y ws ≡ sequenceWords all steps t′ Y ws) → Alike (w ∷ ws)
-      → (a b : Bool) → isKind 6 w ≡ a → isKind 7 w ≡ b → sequenceWords all steps t X (w ∷ ws) ≡ sequenceWords all steps t′ X (w ∷ ws)
-  sequence-word X w ws rest same true b e f = united-cons all steps t X w ws true b e f ∙ sym (united-cons all steps t′ X w ws true b e f)
-  sequence-word X w ws rest same false true e f =
-      let later = alike-later w ws e same in
-      united-cons all steps t X w ws false true e f
-      ∙ ap (λ (r : Row). sequenceWords all steps t (orRows X r) ws) (alternative-local ws later)
-      ∙ rest (orRows X (alternativeWords all steps t′ ws)) later
-      ∙ sym (united-cons all steps t′ X w ws false true e f)
-  sequence-word X w ws rest same false false e f =
-      united-cons all steps t X w ws false false e f ∙ rest X (alike-later w ws e same) ∙ sym (united-cons all steps t′ X w ws false false e f)
-
-  sequence-local : (X : Row) (ws : List ℕ) → Alike ws → sequenceWords all steps t X ws ≡ sequenceWords all steps t′ X ws
-  unfolding sequenceWords
-  sequence-local X [] same = refl
-  sequence-local X (w ∷ ws) same = sequence-word X w ws (λ Y. sequence-local Y ws) same (isKind 6 w) (isKind 7 w) refl refl
+  sequence-local : (X : Row) (ws : List ℕ) → Alike ws → unitedFrom all steps t X (alternativesFrom ws) ≡ unitedFrom all steps t′ X (alternativesFrom ws)
+  sequence-local X ws same = united-local X (alternativesFrom ws) (alternatives-all Same Alike alike-later entry-local ws same)
 
 -- ---- a visit depends on those that are called
 
 module _ (all : ℕ) (steps part places : List ℕ) where
   given : List ℕ → ℕ → Row
-  given t d = sequenceWords all steps t noRow (drop (getD places d 0 + 1) part)
+  given t d = unitedFrom all steps t noRow (alternativesAt part places d)
 
   -- what the alternatives of d give is the same after a row that d does not call is written
   given-stays : (t : List ℕ) (c d : ℕ) (r : Row) → calls part places d c ≡ false → given (withRow t c r) d ≡ given t d

@@ -1,18 +1,18 @@
--- No bit is set from F upward: of each formula on rows, of a walk, and of a table that visits lead to from a blank one.
+-- No bit is set from F upward: of each formula on rows, of entries and alternatives, and of a table that visits lead to from a blank one.
 -- Assumes nothing.
-use Prim.Native.Nat.{ℕ, _+_, _-_, _*_, _^_, _≤_, _<_}
+use Prim.Native.Nat.{ℕ, _-_, _*_, _^_, _≤_, _<_}
 use native.Mathlib.Decide.{ℕ-discrete}
 use native.Mathlib.Nat.{lt-of-le-of-lt}
 use native.Mathlib.Omega.{arith}
 use mathlib.Core.Path.{sym, subst}
-use mathlib.Core.Bool.{Bool, true, false, cond}
 use mathlib.Core.List.{List, [], _∷_}
-use lib.ListN.{length, getD, drop}
+use lib.ListN.{length}
 use lib.Bits.{bitAnd, bitOr, and-le-l, or-lt}
 use lib.Pow.{pow-pos, ones-lt}
-use Rattle.image.specs.Word.{payload, isKind, isEntry}
+use Rattle.library.specs.Library.{Entry, step, item, call, Alternative}
+use Rattle.library.specs.Walk.{alternativesAt}
 use Rattle.row.specs.Words.{allFacts, noRow, startRow, notWord, stepMarks, stepRow, laterMarks, joinRows, orMarks, orRows, liveRow, rowIn}
-use Rattle.outcome.specs.Walks.{entryWord, foldWords, alternativeWords, sequenceWords}
+use Rattle.outcome.specs.Walks.{entryIn, joinedFrom, alternativeIn, unitedFrom}
 use Rattle.outcome.specs.Visited.{visited}
 use Rattle.settling.specs.Passes.{Reached, here, next}
 use Rattle.row.specs.declared.words.Marks.{Marks}
@@ -96,46 +96,23 @@ module _ (n : ℕ) where
         first = (low (x .first .present), low (x .first .absent), low (x .first .untouched));
       }
 
-  -- ---- a walk
+  -- ---- entries and alternatives
 
   module _ (steps table : List ℕ) (low-steps : (a : ℕ) → LowRow (rowIn steps a)) (low-table : (c : ℕ) → LowRow (rowIn table c)) where
-    entry-low : (w : ℕ) → LowRow (entryWord steps table w)
-    entry-low w = go (isKind 8 w)
-      where
-        go : (b : Bool) → LowRow (cond b (rowIn steps (payload w)) (rowIn table (payload w)))
-        go true = low-steps (payload w)
-        go false = low-table (payload w)
+    entry-low : (e : Entry) → LowRow (entryIn steps table e)
+    entry-low (item (step a)) = low-steps a
+    entry-low (call d) = low-table d
 
-    fold-low : (ws : List ℕ) (X : Row) → LowRow X → LowRow (foldWords steps table X ws)
-    unfolding foldWords
-    fold-low [] X a = a
-    fold-low (w ∷ ws) X a = go (isEntry w) (fold-low ws (joinRows X (entryWord steps table w)) (join-low X _ a (entry-low w)))
-      where
-        go : (b : Bool) → LowRow (foldWords steps table (joinRows X (entryWord steps table w)) ws)
-            → LowRow (cond b (foldWords steps table (joinRows X (entryWord steps table w)) ws) X)
-        go true rest = rest
-        go false rest = a
+    joined-low : (es : List Entry) (X : Row) → LowRow X → LowRow (joinedFrom steps table X es)
+    unfolding joinedFrom
+    joined-low [] X a = a
+    joined-low (e ∷ es) X a = joined-low es (joinRows X (entryIn steps table e)) (join-low X _ a (entry-low e))
 
-    alternative-low : (ws : List ℕ) → LowRow (alternativeWords (allFacts n) steps table ws)
-    unfolding alternativeWords
-    alternative-low ws = live-low _ (fold-low ws (startRow (allFacts n)) start-low)
-
-    sequence-low : (ws : List ℕ) (X : Row) → LowRow X → LowRow (sequenceWords (allFacts n) steps table X ws)
-    unfolding sequenceWords
-    sequence-low [] X a = a
-    sequence-low (w ∷ ws) X a =
-        go (isKind 6 w) (isKind 7 w)
-        (sequence-low ws (orRows X (alternativeWords (allFacts n) steps table ws)) (union-low X _ a (alternative-low ws)))
-        (sequence-low ws X a)
-      where
-        S : Row → Row
-        S Y = sequenceWords (allFacts n) steps table Y ws
-
-        go : (b c : Bool) → LowRow (S (orRows X (alternativeWords (allFacts n) steps table ws))) → LowRow (S X)
-            → LowRow (cond b X (cond c (S (orRows X (alternativeWords (allFacts n) steps table ws))) (S X)))
-        go true c more rest = a
-        go false true more rest = more
-        go false false more rest = rest
+    united-low : (alts : List Alternative) (X : Row) → LowRow X → LowRow (unitedFrom (allFacts n) steps table X alts)
+    unfolding unitedFrom
+    united-low [] X a = a
+    united-low (es ∷ alts) X a =
+        united-low alts (orRows X (alternativeIn (allFacts n) steps table es)) (union-low X _ a (live-low _ (joined-low es (startRow (allFacts n)) start-low)))
 
   -- ---- a table
 
@@ -145,10 +122,10 @@ module _ (n : ℕ) where
     reached-low room low here = low
     reached-low room low (next {table = s} c l r) = λ d.
         let before = reached-low room low r in
-        let y = sequenceWords (allFacts n) steps s noRow (drop (getD places c 0 + 1) part) in
+        let y = unitedFrom (allFacts n) steps s noRow (alternativesAt part places c) in
         elim (ℕ-discrete d c) [
           | yes e ↦ subst (λ (k : ℕ). LowRow (rowIn (visited (allFacts n) steps part places s c) k)) (sym e)
               (subst LowRow (sym (row-same s c (orRows (rowIn s c) y) (omega (arith, reached-length (visits-lower (allFacts n) steps part places m) r))))
-              (union-low (rowIn s c) y (before c) (sequence-low steps s low-steps before (drop (getD places c 0 + 1) part) noRow none-low)))
+              (union-low (rowIn s c) y (before c) (united-low steps s low-steps before (alternativesAt part places c) noRow none-low)))
           | no apart ↦ subst LowRow (sym (row-other s c (orRows (rowIn s c) y) d apart)) (before d)
         ]

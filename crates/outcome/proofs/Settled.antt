@@ -14,6 +14,7 @@ use Rattle.library.specs.Library.{Library, Sequence, Alternative, Entry, altern
 use Rattle.general.specs.Tests.{All}
 use Rattle.library.specs.Accepted.{SequenceWord}
 use Rattle.image.specs.declared.answer.Head.{Head}
+use Rattle.library.proofs.Accepted.{alternatives-named}
 use Rattle.library.proofs.Lookup.{Placed}
 use Rattle.general.specs.Tests.{some}
 use Rattle.runs.specs.Run.{alternativesOf, alternativeOf}
@@ -22,11 +23,11 @@ use Rattle.runs.specs.Algebra.{sideAlgebra}
 use Rattle.runs.specs.Possible.{columnPossible}
 use Rattle.runs.specs.Rows.{Row, columnNumber, readRow, GoodRow, GoodRows, ClosedRows}
 use Rattle.row.specs.Words.{allFacts, noRow, orRows, rowIn, bitRow}
-use Rattle.outcome.specs.Walks.{sequenceWords}
+use Rattle.outcome.specs.Walks.{unitedFrom}
 use Rattle.outcome.specs.Visited.{visited}
 use Rattle.settling.specs.Passes.{Reached, here, next, Settled}
 use Rattle.row.specs.declared.words.Row as words
-use Rattle.outcome.proofs.Bridge.{Stepped, tableBits, sequence-bits}
+use Rattle.outcome.proofs.Bridge.{Stepped, tableBits, united-bits}
 use Rattle.runs.proofs.Rows.{by-column, columnNumber-below, none-good, or-good, read-good, rows-possible}
 use Rattle.outcome.proofs.Stores.{row-same, row-other}
 use Rattle.general.proofs.Bools.{or-right}
@@ -108,13 +109,14 @@ module _ (L : Library) (h : Head) (steps part places : List ℕ) (given : Given 
     visit-bits j k =
         let p = getD places c 0 in
         let rest = drop (p + 1) part in
-        let y = sequenceWords (allFacts (L .facts)) steps t noRow rest in
+        let y = unitedFrom (allFacts (L .facts)) steps t noRow (alternativesFrom rest) in
         let alts : alternativesFrom rest ≡ alternativesOf (L .sequences) c =
         ap (λ (n : ℕ). alternativesFrom (drop n part)) (add-one p) ∙ given .placed c l .reads ∙ ap (λ (S : List Sequence). getD S c []) (sym (given .reads)) in
         ap (λ (r : words.Row). bitRow r f j) (row-same t c (orRows (rowIn t c) y) (omega arith))
         ∙ or-bits (rowIn t c) y f j k
         ∙ ap (λ (b : Bool). tableBits t f c j || b)
-        (sequence-bits L h steps t (given .narrow) (given .counted) (given .stepped) f below rest (all-drop h (p + 1) part (given .words)) noRow j k
+        (united-bits L h steps t (given .narrow) (given .counted) (given .stepped) f below (alternativesFrom rest)
+        (alternatives-named h rest (all-drop h (p + 1) part (given .words))) noRow j k
         ∙ ap₂ _||_ (none-row f j k) (ap (λ (alts′ : List Alternative). some (λ (es : List Entry). readRow L f (tableBits t f) es j) alts′) alts))
 
     good-visit : GoodRows L f (tableBits t f) → GoodRows L f (tableBits (visit t c) f)

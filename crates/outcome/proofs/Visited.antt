@@ -5,11 +5,12 @@ use native.Mathlib.Omega.{arith}
 use mathlib.Core.Path.{_≡_, sym, ap, _∙_}
 use mathlib.Core.Bool.{Bool, not}
 use mathlib.Core.List.{List}
-use lib.ListN.{length, getD, drop}
+use lib.ListN.{length}
 use borrow.Author.Tests.{not-true, not-false}
 use Rattle.row.specs.Words.{noRow, rowIn, withRow, sameRows}
 use Rattle.settling.proofs.Visits.{Lowers}
-use Rattle.outcome.specs.Walks.{sequenceWords}
+use Rattle.library.specs.Walk.{alternativesAt}
+use Rattle.outcome.specs.Walks.{unitedFrom}
 use Rattle.settling.specs.Passes.{Visit}
 use Rattle.outcome.specs.Visited.{lacking, Visitable, visitedRow, visited}
 use Rattle.outcome.proofs.Stores.{Fitting, row-length, row-again, rows-equal, lacking-least, lacking-falls}
@@ -31,7 +32,7 @@ module _ (all : ℕ) (steps part places : List ℕ) where
   visits-lower n =
       record {
         keeps = λ t c. row-length t c (visitedRow all steps part places t c);
-        lowers = λ t c l room. lacking-least t c (sequenceWords all steps t noRow (drop (getD places c 0 + 1) part)) (omega arith);
+        lowers = λ t c l room. lacking-least t c (unitedFrom all steps t noRow (alternativesAt part places c)) (omega arith);
       }
 
 -- areas of the same lengths can be visited too

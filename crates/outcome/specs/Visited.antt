@@ -1,9 +1,10 @@
 -- The visits of the outcome table: a visit of a sequence unites its row with what its alternatives give.
 use Prim.Native.Nat.{ℕ, _+_, _-_, _*_, _^_, _≤_, _<_}
 use mathlib.Core.List.{List, [], _∷_}
-use lib.ListN.{length, getD, drop}
+use lib.ListN.{length, getD}
+use Rattle.library.specs.Walk.{alternativesAt}
 use Rattle.row.specs.Words.{noRow, orRows, rowIn, withRow}
-use Rattle.outcome.specs.Walks.{Readable, sequenceWords}
+use Rattle.outcome.specs.Walks.{Readable, unitedFrom}
 use Rattle.row.specs.declared.words.Row.{Row}
 
 -- how much the words lack to the greatest number: what falls while the table grows
@@ -21,7 +22,7 @@ pub record Visitable (n : ℕ) (steps part places table : List ℕ) : Type 0 whe
 module _ (all : ℕ) (steps part places : List ℕ) where
   -- the row of sequence c after a visit
   abbrev pub visitedRow : List ℕ → ℕ → Row
-  visitedRow table c = orRows (rowIn table c) (sequenceWords all steps table noRow (drop (getD places c 0 + 1) part))
+  visitedRow table c = orRows (rowIn table c) (unitedFrom all steps table noRow (alternativesAt part places c))
 
   -- the table after a visit of sequence c
   abbrev pub visited : List ℕ → ℕ → List ℕ

@@ -2,6 +2,8 @@
 use image::word::is_entry;
 use image::word::is_kind;
 use image::word::payload_of;
+use library::walk::entries_end;
+use library::walk::word_at;
 use row::words::Row;
 use row::words::joined;
 use row::words::live;
@@ -10,12 +12,14 @@ use row::words::row_at;
 use row::words::start;
 use row::words::united;
 ghost use mathlib.Core.Path.{_≡_};
-ghost use mathlib.Core.Bool.{true, false};
-ghost use Prim.Native.Nat.{_+_, _≤_, _<_};
+ghost use mathlib.Core.Bool.{true};
+ghost use Prim.Native.Nat.{_≤_};
 ghost use lib.ListN.{length, drop};
 ghost use Rattle.image.specs.Word.{isEntry};
+ghost use Rattle.library.specs.Library.{alternativesFrom};
+ghost use Rattle.library.specs.Walk.{entryOf};
 ghost use Rattle.row.specs.Words.{noRow};
-ghost use Rattle.outcome.specs.Walks.{Within, Readable, entryWord, sequenceWords, AlternativeRead, NoEntry, EntriesEnd, EmptiesEnd};
+ghost use Rattle.outcome.specs.Walks.{Within, Readable, entryIn, unitedFrom, AlternativeRead, EmptiesEnd};
 
 // The row of an alternative, and the index of the word after its entries.
 pub struct Read {
@@ -26,27 +30,12 @@ pub struct Read {
 // The row of an entry, by the rows of the steps and of the sequences.
 fn entry_row(steps: &[u64], table: &[u64], w: u32) -> Row
     requires { ⌜ Within (now steps) (now table) w × (isEntry w ≡ true) ⌝ }
-    ensures { λ r. ⌜ r ≡ entryWord (now (steps .entry)) (now (table .entry)) w ⌝ }
+    ensures { λ r. ⌜ r ≡ entryIn (now (steps .entry)) (now (table .entry)) (entryOf w) ⌝ }
 {
     if is_kind(8, w) {
         return row_at(steps, payload_of(w) as usize);
     }
     row_at(table, payload_of(w) as usize)
-}
-
-// The index after the entries that stand from index `at` on.
-fn entries_end(part: &[u32], at: usize) -> usize
-    requires { ⌜ at ≤ length (now part) ⌝ }
-    ensures { λ r. ⌜ EntriesEnd (now (part .entry)) at r ⌝ }
-{
-    let mut i = at;
-    while i < part.len() {
-        if !is_entry(part[i]) {
-            return i;
-        }
-        i += 1;
-    }
-    i
 }
 
 // Reads the entries that stand from index `at` on. Where what is read has no run, the entries after it are passed over.
@@ -56,8 +45,8 @@ fn read_alternative(all: u64, steps: &[u64], table: &[u64], part: &[u32], at: us
 {
     let mut x = start(all);
     let mut i = at;
-    while i < part.len() {
-        let w = part[i];
+    loop {
+        let w = word_at(part, i);
         if !is_entry(w) {
             return Read {
                 row: live(x),
@@ -73,20 +62,6 @@ fn read_alternative(all: u64, steps: &[u64], table: &[u64], part: &[u32], at: us
             };
         }
     }
-    Read {
-        row: live(x),
-        next: i,
-    }
-}
-
-// Whether an entry stands at index `at`.
-fn entry_at(part: &[u32], at: usize) -> bool
-    ensures { λ r. ⌜ (r ≡ false → NoEntry (now (part .entry)) at) ⌝ }
-{
-    if at < part.len() {
-        return is_entry(part[at]);
-    }
-    false
 }
 
 // The index after the alternatives without entries that stand from index `at` on.
@@ -95,11 +70,8 @@ fn empties_end(part: &[u32], at: usize) -> usize
     ensures { λ r. ⌜ EmptiesEnd (now (part .entry)) at r ⌝ }
 {
     let mut i = at;
-    while i < part.len() {
-        if !is_kind(7, part[i]) {
-            return i;
-        }
-        if entry_at(part, i + 1) {
+    while is_kind(7, word_at(part, i)) {
+        if is_entry(word_at(part, i + 1)) {
             return i;
         }
         i += 1;
@@ -111,18 +83,15 @@ fn empties_end(part: &[u32], at: usize) -> usize
 // reading begins with, and where many of them stand in a row it is united once.
 pub fn read_sequence(all: u64, steps: &[u64], table: &[u64], part: &[u32], at: usize) -> Row
     requires { ⌜ Readable (now steps) (now table) (now part) × (at ≤ length (now part)) ⌝ }
-    ensures { λ r. ⌜ r ≡ sequenceWords all (now (steps .entry)) (now (table .entry)) noRow (drop at (now (part .entry))) ⌝ }
+    ensures { λ r. ⌜ r ≡ unitedFrom all (now (steps .entry)) (now (table .entry)) noRow (alternativesFrom (drop at (now (part .entry)))) ⌝ }
 {
     let mut x = none();
     let mut i = at;
-    while i < part.len() {
-        let w = part[i];
-        if is_kind(6, w) {
-            return x;
-        }
+    loop {
+        let w = word_at(part, i);
         i += 1;
         if is_kind(7, w) {
-            if entry_at(part, i) {
+            if is_entry(word_at(part, i)) {
                 let r = read_alternative(all, steps, table, part, i);
                 let row = r.row;
                 x = united(x, row);
@@ -131,7 +100,8 @@ pub fn read_sequence(all: u64, steps: &[u64], table: &[u64], part: &[u32], at: u
                 x = united(x, live(start(all)));
                 i = empties_end(part, i);
             }
+        } else if !is_entry(w) {
+            return x;
         }
     }
-    x
 }

@@ -11,8 +11,9 @@ use lib.Seq.{getD-take, getD-drop, getD-set-same, getD-set-other}
 use borrow.Author.Tests.{eqb-true, eqb-false}
 use Rattle.image.specs.Word.{kind, payload, isKind, isEntry}
 use Rattle.library.specs.Library.{step, item, call}
+use Rattle.library.specs.Walk.{entryOf}
 use Rattle.image.proofs.Entries.{entry-kinds}
-use Rattle.rank.specs.Tables.{entryOf, slotOf, rankIn, Within, markOf, stepMark, stepRank, Stepped, Steppable}
+use Rattle.rank.specs.Tables.{slotOf, rankIn, Within, markOf, stepMark, stepRank, Stepped, Steppable}
 use Rattle.question.specs.declared.asked.Asked.{Asked}
 use Rattle.general.proofs.Scan.{getD-inside}
 

@@ -9,7 +9,8 @@ use lib.ListN.{length, getD, set, take, drop}
 use lib.Dec.{eqb, ltb}
 use Rattle.column.specs.Sets.{inColumn}
 use Rattle.image.specs.Word.{kind, payload, isKind}
-use Rattle.library.specs.Library.{Alternative, Entry, step, item, call, entriesFrom, alternativesFrom, Item}
+use Rattle.library.specs.Library.{Alternative, Entry, step, item, call, entriesFrom}
+use Rattle.library.specs.Walk.{entriesEnd, alternativesAt}
 use Rattle.settling.specs.Passes.{Pass}
 use Rattle.general.specs.Scan.{every, total}
 use Rattle.chains.specs.Ranks.{Ranks}
@@ -18,10 +19,7 @@ use Rattle.question.specs.declared.asked.Asked.{Asked}
 use Rattle.rank.specs.declared.entry.Traits.{Traits}
 use Rattle.rank.specs.declared.read.Read.{Read}
 
--- the entry that a word names, and the number that it has
-abbrev pub entryOf : ℕ → Entry
-entryOf w = cond (isKind 8 w) (item (step (payload w))) (call (payload w))
-
+-- the number that an entry names
 abbrev pub entryNumber : Entry → ℕ
 entryNumber (item (step a)) = a
 entryNumber (call d) = d
@@ -116,13 +114,7 @@ pub record Steppable (q : Asked) (masks ranks : List ℕ) : Type 0 where
 -- what a reader of an alternative promises, whose entries stand from an index on: what it comes to, and where its entries end
 pub record AlternativeRead (worth : Alternative → ℕ) (part : List ℕ) (at : ℕ) (r : Read) : Type 0 where
   pub value : r .value ≡ worth (entriesFrom (drop at part))
-  pub low : at ≤ r .next
-  pub within : r .next ≤ length part
-  pub skips : alternativesFrom (drop at part) ≡ alternativesFrom (drop (r .next) part)
-
--- the alternatives of sequence c, from the word after its opener on
-abbrev pub alternativesAt : List ℕ → List ℕ → ℕ → List Alternative
-alternativesAt part places c = alternativesFrom (drop (getD places c 0 + 1) part)
+  pub next : r .next ≡ entriesEnd part at
 
 -- what a visit of the sequences below n asks of the areas
 pub record Visitable (q : Asked) (n : ℕ) (ahead behind ranks part places : List ℕ) : Type 0 where

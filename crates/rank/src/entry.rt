@@ -8,7 +8,8 @@ ghost use mathlib.Core.Bool.{true, cond};
 ghost use Prim.Native.Nat.{ℕ, _+_, _*_, _≤_, _<_};
 ghost use lib.ListN.{length};
 ghost use Rattle.image.specs.Word.{isEntry};
-ghost use Rattle.rank.specs.Tables.{markOf, stepMark, stepRank, Steppable, Stepped, slotOf, entryOf, rankIn, passIn, traitsIn, Within};
+ghost use Rattle.library.specs.Walk.{entryOf};
+ghost use Rattle.rank.specs.Tables.{markOf, stepMark, stepRank, Steppable, Stepped, slotOf, rankIn, passIn, traitsIn, Within};
 
 // An entry's rank, and whether it passes as one ahead of the position and as one behind it.
 pub struct Traits {

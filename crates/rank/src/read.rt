@@ -5,10 +5,12 @@ use crate::entry::rank_of;
 use crate::entry::traits_of;
 use image::word::is_entry;
 use image::word::is_kind;
+use library::walk::entries_end;
+use library::walk::word_at;
 use question::asked::Asked;
 ghost use mathlib.Core.Path.{_≡_};
 ghost use Prim.Native.Nat.{_+_, _≤_, min, max};
-ghost use lib.ListN.{length, getD, drop};
+ghost use lib.ListN.{length, drop};
 ghost use Rattle.library.specs.Library.{alternativesFrom};
 ghost use Rattle.rank.specs.Walk.{loweredFrom};
 ghost use Rattle.rank.specs.Tables.{depthIn, everyIn, fewestIn, lookIn, Readable, Rankable, AlternativeRead};
@@ -17,16 +19,6 @@ ghost use Rattle.rank.specs.Tables.{depthIn, everyIn, fewestIn, lookIn, 
 pub struct Read {
     pub value: u32,
     pub next: usize,
-}
-
-// The word at an index; past the words 0, which is of no kind.
-pub fn word_at(part: &[u32], i: usize) -> u32
-    ensures { λ r. ⌜ r ≡ getD (now (part .entry)) i 0 ⌝ }
-{
-    if i < part.len() {
-        return part[i];
-    }
-    0
 }
 
 fn least(a: u32, b: u32) -> u32
@@ -98,18 +90,6 @@ fn fewest_links(
     }
 }
 
-// The index of the first word from index `at` on that is no entry.
-fn after_entries(part: &[u32], at: usize) -> usize
-    requires { ⌜ at ≤ length (now part) ⌝ }
-    ensures { λ r. ⌜ (at ≤ r) × (r ≤ length (now (part .entry))) × (alternativesFrom (drop at (now (part .entry))) ≡ alternativesFrom (drop r (now (part .entry)))) ⌝ }
-{
-    let mut i = at;
-    while is_entry(word_at(part, i)) {
-        i += 1;
-    }
-    i
-}
-
 // Whether all entries that stand from index `at` on have a rank: 0 where they do. After the first without one the others are passed over.
 fn all_ranked(none: u32, ranks: &[u32], part: &[u32], at: usize) -> Read
     requires { ⌜ Rankable none (now ranks) (now part) × (at ≤ length (now part)) ⌝ }
@@ -125,7 +105,7 @@ fn all_ranked(none: u32, ranks: &[u32], part: &[u32], at: usize) -> Read
         if !passes(none, ranks, w) {
             return Read {
                 value: none,
-                next: after_entries(part, i),
+                next: entries_end(part, i),
             };
         }
     }

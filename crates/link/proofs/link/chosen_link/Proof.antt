@@ -3,24 +3,16 @@
 use borrow.Author.Needs.{needs}
 use borrow.Author.Tests.{not-true, not-false}
 use native.Mathlib.Omega.{arith}
-use mathlib.Core.Path.{sym, ap, _∙_}
-use Prim.Native.Nat.{_+_, _-_}
-use lib.ListN.{length}
-use Rattle.image.specs.Word.{payload, isKind, isEntry}
-use Rattle.rank.specs.Tables.{entryOf, traitsIn}
-use Rattle.rank.proofs.Folds.{entry-inside, opener-inside}
-use Rattle.link.proofs.Choices.{Placing, placing-start, placing-turn, placing-out}
+use mathlib.Core.Path.{_≡_, sym}
+use mathlib.Core.Bool.{true, false}
+use Prim.Native.Nat.{_-_}
+use lib.ListN.{length, getD}
+use Rattle.image.specs.Word.{isKind, isEntry}
+use Rattle.library.proofs.Walking.{tested, folding-inside, walking-inside, walking-within}
+use Rattle.link.proofs.Choices.{Placing, placing-start, placing-turn}
 use Rattle.link.proofs.Choices.{Choosing, choosing-start, choosing-skip, choosing-turn, choosing-out, choosing-found}
 use Rattle.link.proofs.link.chosen_link.Statement.{statement}
 use Rattle.link.proofs.link.chosen_link.Tie as tie
-use Rattle.link.proofs.link.chosen_link.Reads as reads
-use Rattle.link.proofs.link.chosen_link.Lts as lts
-use Rattle.image.proofs.word.is_entry.Reads as is-entry-reads
-use Rattle.image.proofs.word.is_kind.Reads as is-kind-reads
-use Rattle.image.proofs.word.payload_of.Reads as payload-of-reads
-use Rattle.link.proofs.link.quiet_from.Reads as quiet-from-reads
-use Rattle.rank.proofs.entry.traits_of.Reads as traits-of-reads
-use Rattle.rank.proofs.read.word_at.Reads as word-at-reads
 
 abbrev Inv-loop : tie.InvT-loop
 Inv-loop none ahead behind ranks part at k alternative i₀ w start quiet ok₀ i ok = Placing none ahead behind ranks part k start ok i
@@ -34,39 +26,41 @@ Inv-found none ahead behind ranks part at k alternative₀ i₀ alternative i = 
 abbrev μ-found : tie.MeasureT-found
 μ-found none ahead behind ranks part at k alternative₀ i₀ alternative i = length part - i
 
+-- an alternative is opened there, or not
+opener : (c : tie.Then1 Inv-loop μ-loop Inv-found μ-found)
+    → isKind 7 (getD (c .before .before .before .before .before .before .before .before .args .part .now) (c .before .before .before .found .i) 0) ≡ true
+opener c = tested (isKind 7) (c .before .before .word-at .ensures) (c .before .is-kind .ensures) (c .if1 .taken)
+
+other : (c : tie.Else1 Inv-loop μ-loop Inv-found μ-found)
+    → isKind 7 (getD (c .before .before .before .before .before .before .before .before .args .part .now) (c .before .before .before .found .i) 0) ≡ false
+other c = tested (isKind 7) (c .before .before .word-at .ensures) (c .before .is-kind .ensures) (c .if1 .left)
+
+-- an entry of the alternative stands there
+entry : (c : tie.Else2 Inv-loop μ-loop Inv-found μ-found)
+    → isEntry (getD (c .before .before .before .before .before .before .before .before .before .before .before .before .before .args .part .now) (c .before .before .before .loop .i) 0) ≡ true
+entry c = tested isEntry (c .before .before .word-at2 .ensures) (c .before .is-entry .ensures) (not-false _ (c .if2 .left))
+
 found-holds : tie.Need-found-holds Inv-loop μ-loop Inv-found μ-found
-found-holds c =
-    let start = c .before .before .before .before in
-    let a = start .args in
-    choosing-start (a .none) (a .ahead .now) (a .behind .now) (a .ranks .now) (a .part .now) (a .k) (a .at) (start .pre .1)
+found-holds c = choosing-start _ _ _ _ _ _ _ (c .before .before .before .before .pre .1)
 
 word-at-requires : tie.Need-word-at-requires Inv-loop μ-loop Inv-found μ-found
 word-at-requires c κs = search needs
 
 add-i : tie.Need-add-i Inv-loop μ-loop Inv-found μ-found
-add-i c =
-    let at-found = c .before in
-    omega (arith, at-found .found .inv .walk 0 .within, at-found .before .before .before .before .before .pre .2)
+add-i c = let at-found = c .before in omega (arith, at-found .found .inv .walk 0 .within, at-found .before .before .before .before .before .pre .2)
 
 is-kind-requires : tie.Need-is-kind-requires Inv-loop μ-loop Inv-found μ-found
 is-kind-requires c κs = search needs
 
 quiet-from-requires : tie.Need-quiet-from-requires Inv-loop μ-loop Inv-found μ-found
 quiet-from-requires c κs =
-    let kinds = c .before in
-    let word = kinds .before in
-    let at-found = word .before in
-    let start = at-found .before .before .before .before .before in
-    (start .pre .0 .by-behind, omega (arith, opener-inside (start .args .part .now) (at-found .found .i) (sym (ap (isKind 7) (word .word-at .ensures)) ∙ sym (kinds .is-kind .ensures) ∙ c .if1 .taken)))
+    let at-found = c .before .before .before in
+    (at-found .before .before .before .before .before .pre .0 .by-behind, omega (arith, walking-inside (at-found .found .inv .walk 0) (opener c)))
 
 loop-holds : tie.Need-loop-holds Inv-loop μ-loop Inv-found μ-found
 loop-holds c =
-    let kinds = c .before .before in
-    let word = kinds .before in
-    let at-found = word .before in
-    let start = at-found .before .before .before .before .before in
-    let a = start .args in
-    placing-start (a .none) (a .ahead .now) (a .behind .now) (a .ranks .now) (a .part .now) (a .k) (at-found .found .i + 1) (omega (arith, opener-inside (a .part .now) (at-found .found .i) (sym (ap (isKind 7) (word .word-at .ensures)) ∙ sym (kinds .is-kind .ensures) ∙ c .before .if1 .taken)))
+    let test = c .before in
+    placing-start _ _ _ _ _ _ _ (omega (arith, walking-inside (test .before .before .before .found .inv .walk 0) (opener test)))
 
 word-at-requires-2 : tie.Need-word-at-requires-2 Inv-loop μ-loop Inv-found μ-found
 word-at-requires-2 c κs = search needs
@@ -76,18 +70,11 @@ is-entry-requires c κs = search needs
 
 traits-of-requires : tie.Need-traits-of-requires Inv-loop μ-loop Inv-found μ-found
 traits-of-requires c κs =
-    let entry = c .before in
-    let own = entry .before in
-    let at-loop = own .before in
-    let quiet = at-loop .before in
-    let kinds = quiet .before .before in
-    let word = kinds .before in
-    let at-found = word .before in
-    let start = at-found .before .before .before .before .before in
+    let at-loop = c .before .before .before in
     let i = at-loop .loop .i in
-    let here = sym (entry .is-entry .ensures) ∙ not-false _ (c .if2 .left) in
-    let inside = entry-inside (start .args .part .now) (at-loop .loop .i) (sym (ap isEntry (own .word-at2 .ensures)) ∙ here) in
-    rw (own .word-at2 .ensures) (start .pre .0 .by-ahead .within i inside, start .pre .0 .by-behind .within i inside, start .pre .0 .by-ranks .within i inside, sym (ap isEntry (own .word-at2 .ensures)) ∙ here)
+    let readable = at-loop .before .before .before .before .before .before .before .before .before .before .pre .0 in
+    let inside = folding-inside (at-loop .loop .inv) (entry c) in
+    rw (c .before .before .word-at2 .ensures) (readable .by-ahead .within i inside, readable .by-behind .within i inside, readable .by-ranks .within i inside, entry c)
 
 add-next : tie.Need-add-next Inv-loop μ-loop Inv-found μ-found
 add-next c =
@@ -110,122 +97,63 @@ payload-of-requires : tie.Need-payload-of-requires Inv-loop μ-loop Inv-found μ
 payload-of-requires c κs = search needs
 
 loop-less : tie.Need-loop-less Inv-loop μ-loop Inv-found μ-found
-loop-less c =
-    let test = c .before .before .before .before in
-    let entry = test .before in
-    let own = entry .before in
-    let at-loop = own .before in
-    let quiet = at-loop .before in
-    let kinds = quiet .before .before in
-    let word = kinds .before in
-    let at-found = word .before in
-    let start = at-found .before .before .before .before .before in
-    omega (arith, entry-inside (start .args .part .now) (at-loop .loop .i) (sym (ap isEntry (own .word-at2 .ensures)) ∙ sym (entry .is-entry .ensures) ∙ not-false _ (test .if2 .left)))
+loop-less c = let test = c .before .before .before .before in omega (arith, folding-inside (test .before .before .before .loop .inv) (entry test))
 
 loop-again : tie.Need-loop-again Inv-loop μ-loop Inv-found μ-found
 loop-again c =
     let traits = c .before .before .before in
-    let test = traits .before in
-    let entry = test .before in
-    let own = entry .before in
-    let at-loop = own .before in
-    let quiet = at-loop .before in
-    let kinds = quiet .before .before in
-    let word = kinds .before in
-    let at-found = word .before in
-    let a = at-found .before .before .before .before .before .args in
-    placing-turn (a .none) (a .ahead .now) (a .behind .now) (a .ranks .now) (a .part .now) (a .k) (at-found .found .i + 1) (quiet .quiet-from .result) (quiet .quiet-from .ensures) (at-loop .loop .ok) (at-loop .loop .i)
-    (at-loop .loop .inv) (sym (ap isEntry (own .word-at2 .ensures)) ∙ sym (entry .is-entry .ensures) ∙ not-false _ (test .if2 .left))
-    (traits .traits-of .result) (rw (sym (own .word-at2 .ensures)) (traits .traits-of .ensures)) (c .before .if3 .left)
+    let own = traits .before .before .before in
+    let quiet = own .before .before in
+    placing-turn _ _ _ _ _ _ _ _ (quiet .quiet-from .ensures) _ _ (own .before .loop .inv) (entry (traits .before)) (traits .traits-of .result)
+    (rw (sym (own .word-at2 .ensures)) (traits .traits-of .ensures)) (c .before .if3 .left)
 
 add-alternative : tie.Need-add-alternative Inv-loop μ-loop Inv-found μ-found
 add-alternative c =
-    let entry = c .before in
-    let own = entry .before in
-    let at-loop = own .before in
-    let quiet = at-loop .before in
-    let kinds = quiet .before .before in
-    let word = kinds .before in
-    let at-found = word .before in
+    let at-found = c .before .before .before .before .before .before .before .before in
     omega (arith, at-found .found .inv .low, at-found .found .inv .walk 0 .within, at-found .before .before .before .before .before .pre .2)
 
 found-less : tie.Need-found-less Inv-loop μ-loop Inv-found μ-found
 found-less c =
-    let entry = c .before in
-    let own = entry .before in
-    let at-loop = own .before in
-    let quiet = at-loop .before in
-    let kinds = quiet .before .before in
-    let word = kinds .before in
-    let at-found = word .before in
-    let start = at-found .before .before .before .before .before in
-    omega (arith, at-loop .loop .inv .low, opener-inside (start .args .part .now) (at-found .found .i) (sym (ap (isKind 7) (word .word-at .ensures)) ∙ sym (kinds .is-kind .ensures) ∙ quiet .before .if1 .taken))
+    let at-loop = c .before .before .before in
+    let test = at-loop .before .before in
+    omega (arith, at-loop .loop .inv .low, walking-inside (test .before .before .before .found .inv .walk 0) (opener test))
 
 found-again : tie.Need-found-again Inv-loop μ-loop Inv-found μ-found
 found-again c =
-    let entry = c .before in
-    let own = entry .before in
-    let at-loop = own .before in
-    let quiet = at-loop .before in
-    let kinds = quiet .before .before in
-    let word = kinds .before in
-    let at-found = word .before in
-    let a = at-found .before .before .before .before .before .args in
-    choosing-turn (a .none) (a .ahead .now) (a .behind .now) (a .ranks .now) (a .part .now) (a .k) (a .at) (at-found .found .alternative) (at-found .found .i) (at-found .found .inv)
-    (sym (ap (isKind 7) (word .word-at .ensures)) ∙ sym (kinds .is-kind .ensures) ∙ quiet .before .if1 .taken) (at-loop .loop .ok) (at-loop .loop .i) (at-loop .loop .inv)
-    (placing-out (a .none) (a .ahead .now) (a .behind .now) (a .ranks .now) (a .part .now) (a .k) (at-found .found .i + 1) (at-loop .loop .ok) (at-loop .loop .i) (at-loop .loop .inv)
-    (sym (ap isEntry (own .word-at2 .ensures)) ∙ sym (entry .is-entry .ensures) ∙ not-true _ (c .if2 .taken)))
+    let own = c .before .before in
+    let test = own .before .before .before in
+    choosing-turn _ _ _ _ _ _ _ _ _ (test .before .before .before .found .inv) (opener test) _ _ (own .before .loop .inv)
+    (tested isEntry (own .word-at2 .ensures) (c .before .is-entry .ensures) (not-true _ (c .if2 .taken)))
 
 is-entry-requires-2 : tie.Need-is-entry-requires-2 Inv-loop μ-loop Inv-found μ-found
 is-entry-requires-2 c κs = search needs
 
 found-less-2 : tie.Need-found-less-2 Inv-loop μ-loop Inv-found μ-found
 found-less-2 c =
-    let entry = c .before in
-    let word = entry .before .before .before in
-    let at-found = word .before in
-    let start = at-found .before .before .before .before .before in
-    omega (arith, entry-inside (start .args .part .now) (at-found .found .i) (sym (ap isEntry (word .word-at .ensures)) ∙ sym (entry .is-entry2 .ensures) ∙ not-false _ (c .if4 .left)))
+    let word = c .before .before .before .before in
+    omega (arith, walking-within (word .before .found .inv .walk 0) (tested isEntry (word .word-at .ensures) (c .before .is-entry2 .ensures) (not-false _ (c .if4 .left))))
 
 found-again-2 : tie.Need-found-again-2 Inv-loop μ-loop Inv-found μ-found
 found-again-2 c =
-    let entry = c .before in
-    let kinds = entry .before .before in
-    let word = kinds .before in
-    let at-found = word .before in
-    let a = at-found .before .before .before .before .before .args in
-    choosing-skip (a .none) (a .ahead .now) (a .behind .now) (a .ranks .now) (a .part .now) (a .k) (a .at) (at-found .found .alternative) (at-found .found .i) (at-found .found .inv)
-    (sym (ap (isKind 7) (word .word-at .ensures)) ∙ sym (kinds .is-kind .ensures) ∙ entry .before .if1 .left)
-    (sym (ap isEntry (word .word-at .ensures)) ∙ sym (entry .is-entry2 .ensures) ∙ not-false _ (c .if4 .left))
+    let word = c .before .before .before .before in
+    choosing-skip _ _ _ _ _ _ _ _ _ (word .before .found .inv) (other (c .before .before))
+    (tested isEntry (word .word-at .ensures) (c .before .is-entry2 .ensures) (not-false _ (c .if4 .left)))
 
 returns : tie.Need-returns Inv-loop μ-loop Inv-found μ-found
 returns c =
     let traits = c .before .before .before in
-    let test = traits .before in
-    let entry = test .before in
-    let own = entry .before in
-    let at-loop = own .before in
-    let quiet = at-loop .before in
-    let kinds = quiet .before .before in
-    let word = kinds .before in
-    let at-found = word .before in
-    let a = at-found .before .before .before .before .before .args in
+    let own = traits .before .before .before in
+    let quiet = own .before .before in
+    let test = quiet .before in
     rw (c .payload-of .ensures, own .word-at2 .ensures)
-    (choosing-found (a .none) (a .ahead .now) (a .behind .now) (a .ranks .now) (a .part .now) (a .k) (a .at) (at-found .found .alternative) (at-found .found .i) (at-found .found .inv)
-    (sym (ap (isKind 7) (word .word-at .ensures)) ∙ sym (kinds .is-kind .ensures) ∙ quiet .before .if1 .taken) (quiet .quiet-from .result) (quiet .quiet-from .ensures) (at-loop .loop .ok) (at-loop .loop .i)
-    (at-loop .loop .inv) (sym (ap isEntry (own .word-at2 .ensures)) ∙ sym (entry .is-entry .ensures) ∙ not-false _ (test .if2 .left))
-    (traits .traits-of .result) (rw (sym (own .word-at2 .ensures)) (traits .traits-of .ensures)) (c .before .if3 .taken))
+    (choosing-found _ _ _ _ _ _ _ _ _ (test .before .before .before .found .inv) (opener test) _ (quiet .quiet-from .ensures) _ _ (own .before .loop .inv)
+    (entry (traits .before)) (traits .traits-of .result) (rw (sym (own .word-at2 .ensures)) (traits .traits-of .ensures)) (c .before .if3 .taken))
 
 returns-2 : tie.Need-returns-2 Inv-loop μ-loop Inv-found μ-found
 returns-2 c =
-    let entry = c .before in
-    let kinds = entry .before .before in
-    let word = kinds .before in
-    let at-found = word .before in
-    let a = at-found .before .before .before .before .before .args in
-    choosing-out (a .none) (a .ahead .now) (a .behind .now) (a .ranks .now) (a .part .now) (a .k) (a .at) (at-found .found .alternative) (at-found .found .i) (at-found .found .inv)
-    (sym (ap (isKind 7) (word .word-at .ensures)) ∙ sym (kinds .is-kind .ensures) ∙ entry .before .if1 .left)
-    (sym (ap isEntry (word .word-at .ensures)) ∙ sym (entry .is-entry2 .ensures) ∙ not-true _ (c .if4 .taken))
+    let word = c .before .before .before .before in
+    choosing-out _ _ _ _ _ _ _ _ _ (word .before .found .inv) (other (c .before .before))
+    (tested isEntry (word .word-at .ensures) (c .before .is-entry2 .ensures) (not-true _ (c .if4 .taken)))
 
 pub chosen-link-spec : {M : Type 1} → statement M
 chosen-link-spec =

@@ -3,33 +3,33 @@
 use borrow.Author.Needs.{needs}
 use borrow.Author.Tests.{not-true, not-false}
 use native.Mathlib.Omega.{arith}
-use mathlib.Core.Path.{sym, ap, _∙_}
-use Prim.Native.Nat.{_-_}
-use lib.ListN.{length}
+use mathlib.Core.Path.{_≡_, refl}
+use mathlib.Core.Bool.{Bool, true}
+use Prim.Native.Nat.{ℕ, _-_}
+use lib.ListN.{length, getD, drop}
 use Rattle.image.specs.Word.{isEntry}
-use Rattle.rank.specs.Tables.{passIn, entryOf}
-use Rattle.rank.proofs.Folds.{entry-inside}
-use Rattle.link.proofs.Choices.{Quieting, quieting-start, quieting-turn, quieting-out}
+use Rattle.library.specs.Library.{entriesFrom}
+use Rattle.library.specs.Walk.{entryOf}
+use Rattle.library.proofs.Walking.{tested, Folding, folding-start, folding-inside, folding-turn, folding-out}
+use Rattle.rank.specs.Walk.{tailFrom}
+use Rattle.rank.specs.Tables.{passIn}
+use Rattle.link.proofs.Choices.{tail-cons}
 use Rattle.link.proofs.link.quiet_from.Statement.{statement}
 use Rattle.link.proofs.link.quiet_from.Tie as tie
-use Rattle.link.proofs.link.quiet_from.Reads as reads
-use Rattle.link.proofs.link.quiet_from.Lts as lts
-use Rattle.image.proofs.word.is_entry.Reads as is-entry-reads
-use Rattle.link.proofs.link.kept_index.Reads as kept-index-reads
-use Rattle.rank.proofs.entry.passes.Reads as passes-reads
-use Rattle.rank.proofs.read.word_at.Reads as word-at-reads
 
 abbrev Inv-loop : tie.InvT-loop
-Inv-loop none behind part at start₀ i₀ start i = Quieting (passIn none behind) part at start i
+Inv-loop none behind part at start₀ i₀ start i =
+    Folding part (tailFrom (passIn none behind) at at (entriesFrom (drop at part))) at (tailFrom (passIn none behind) i start) i
 
 abbrev μ-loop : tie.MeasureT-loop
 μ-loop none behind part at start₀ i₀ start i = length part - i
 
+-- an entry stands there
+entry : (c : tie.Else1 Inv-loop μ-loop) → isEntry (getD (c .before .before .before .before .before .before .args .part .now) (c .before .before .before .loop .i) 0) ≡ true
+entry c = tested isEntry (c .before .before .word-at .ensures) (c .before .is-entry .ensures) (not-false _ (c .if1 .left))
+
 loop-holds : tie.Need-loop-holds Inv-loop μ-loop
-loop-holds c =
-    let start = c .before .before in
-    let a = start .args in
-    quieting-start (passIn (a .none) (a .behind .now)) (a .part .now) (a .at) (start .pre .1)
+loop-holds c = folding-start (c .before .before .pre .1) refl
 
 word-at-requires : tie.Need-word-at-requires Inv-loop μ-loop
 word-at-requires c κs = search needs
@@ -38,56 +38,35 @@ is-entry-requires : tie.Need-is-entry-requires Inv-loop μ-loop
 is-entry-requires c κs = search needs
 
 returns : tie.Need-returns Inv-loop μ-loop
+unfolding tailFrom
 returns c =
-    let entry = c .before in
-    let word = entry .before in
-    let at-loop = word .before in
-    let a = at-loop .before .before .before .args in
-    quieting-out (passIn (a .none) (a .behind .now)) (a .part .now) (a .at) (at-loop .loop .start) (at-loop .loop .i) (at-loop .loop .inv)
-    (sym (ap isEntry (word .word-at .ensures)) ∙ sym (entry .is-entry .ensures) ∙ not-true _ (c .if1 .taken))
+    folding-out (c .before .before .before .loop .inv)
+    (tested isEntry (c .before .before .word-at .ensures) (c .before .is-entry .ensures) (not-true _ (c .if1 .taken)))
 
 add-i : tie.Need-add-i Inv-loop μ-loop
-add-i c =
-    let entry = c .before in
-    let word = entry .before in
-    let at-loop = word .before in
-    let start = at-loop .before .before .before in
-    omega (arith, start .good, entry-inside (start .args .part .now) (at-loop .loop .i) (sym (ap isEntry (word .word-at .ensures)) ∙ sym (entry .is-entry .ensures) ∙ not-false _ (c .if1 .left)))
+add-i c = omega (arith, folding-inside (c .before .before .before .loop .inv) (entry c))
 
 passes-requires : tie.Need-passes-requires Inv-loop μ-loop
 passes-requires c κs =
-    let entry = c .before in
-    let word = entry .before in
-    let at-loop = word .before in
-    let start = at-loop .before .before .before in
-    let here = sym (entry .is-entry .ensures) ∙ not-false _ (c .if1 .left) in
-    let inside = entry-inside (start .args .part .now) (at-loop .loop .i) (sym (ap isEntry (word .word-at .ensures)) ∙ here) in
-    (rw (word .word-at .ensures) (start .pre .0 .within (at-loop .loop .i) inside), here)
+    let at-loop = c .before .before .before in
+    rw (c .before .before .word-at .ensures)
+    (at-loop .before .before .before .pre .0 .within (at-loop .loop .i) (folding-inside (at-loop .loop .inv) (entry c)), entry c)
 
 kept-index-requires : tie.Need-kept-index-requires Inv-loop μ-loop
 kept-index-requires c κs = search needs
 
 loop-less : tie.Need-loop-less Inv-loop μ-loop
-loop-less c =
-    let test = c .before .before in
-    let entry = test .before in
-    let word = entry .before in
-    let at-loop = word .before in
-    let start = at-loop .before .before .before in
-    omega (arith, entry-inside (start .args .part .now) (at-loop .loop .i) (sym (ap isEntry (word .word-at .ensures)) ∙ sym (entry .is-entry .ensures) ∙ not-false _ (test .if1 .left)))
+loop-less c = let test = c .before .before in omega (arith, folding-inside (test .before .before .before .loop .inv) (entry test))
 
 loop-again : tie.Need-loop-again Inv-loop μ-loop
 loop-again c =
-    let tested = c .before in
-    let test = tested .before in
-    let entry = test .before in
-    let word = entry .before in
-    let at-loop = word .before in
-    let a = at-loop .before .before .before .args in
+    let passed = c .before in
+    let word = passed .before .before .before in
+    let a = word .before .before .before .before .args in
+    let pass : ℕ → Bool = λ w. passIn (a .none) (a .behind .now) (entryOf w) in
     rw (c .kept-index .ensures)
-    (quieting-turn (passIn (a .none) (a .behind .now)) (a .part .now) (a .at) (at-loop .loop .start) (at-loop .loop .i) (at-loop .loop .inv)
-    (sym (ap isEntry (word .word-at .ensures)) ∙ sym (entry .is-entry .ensures) ∙ not-false _ (test .if1 .left))
-    (tested .passes .result) (sym (ap (λ w. passIn (a .none) (a .behind .now) (entryOf w)) (word .word-at .ensures)) ∙ sym (tested .passes .ensures)))
+    (folding-turn (word .before .loop .inv) (entry (passed .before))
+    (tail-cons _ _ _ _ _ _ (tested pass (word .word-at .ensures) (passed .passes .ensures) refl)))
 
 pub quiet-from-spec : {M : Type 1} → statement M
 quiet-from-spec =

@@ -1,44 +1,41 @@
--- `outcome::read::read_alternative` meets its contract: what is folded so far, folded on, is the whole alternative.
+-- `outcome::read::read_alternative` meets its contract: what is joined so far, with the entries to come, is the whole alternative.
 -- Assumes nothing.
 use borrow.Author.Needs.{needs}
 use borrow.Author.Tests.{not-true, not-false}
 use native.Mathlib.Omega.{arith}
-use mathlib.Core.Path.{sym, _∙_}
+use mathlib.Core.Path.{_≡_, refl, sym, ap, _∙_}
+use mathlib.Core.Bool.{true}
 use Prim.Native.Nat.{_+_, _-_}
-use lib.ListN.{length}
-use Rattle.outcome.proofs.Walks.{Folding, folding-start, folding-turn, folding-out, folding-dead, folding-end}
+use lib.ListN.{length, getD, drop}
+use Rattle.image.specs.Word.{isEntry}
+use Rattle.library.specs.Library.{entriesFrom}
+use Rattle.library.proofs.Walking.{tested, Folding, folding-start, folding-inside, folding-turn, folding-out, folding-end}
+use Rattle.row.specs.Words.{startRow, liveRow}
+use Rattle.outcome.specs.Walks.{joinedFrom}
+use Rattle.outcome.proofs.Walks.{dead-fold}
 use Rattle.outcome.proofs.read.read_alternative.Statement.{statement}
 use Rattle.outcome.proofs.read.read_alternative.Tie as tie
-use Rattle.outcome.proofs.read.read_alternative.Reads as reads
-use Rattle.outcome.proofs.read.read_alternative.Lts as lts
-use Rattle.image.proofs.word.is_entry.Reads as is-entry-reads
-use Rattle.outcome.proofs.read.entries_end.Reads as entries-end-reads
-use Rattle.outcome.proofs.read.entry_row.Reads as entry-row-reads
-use Rattle.row.proofs.words.joined.Reads as joined-reads
-use Rattle.row.proofs.words.live.Reads as live-reads
-use Rattle.row.proofs.words.none.Reads as none-reads
-use Rattle.row.proofs.words.start.Reads as start-reads
 
 abbrev Inv-loop : tie.InvT-loop
-Inv-loop all steps table part at x₀ i₀ x i = Folding all steps table part at x i
+Inv-loop all steps table part at x₀ i₀ x i =
+    Folding part (joinedFrom steps table (startRow all) (entriesFrom (drop at part))) at (joinedFrom steps table x) i
 
 abbrev μ-loop : tie.MeasureT-loop
 μ-loop all steps table part at x₀ i₀ x i = length part - i
+
+-- an entry stands there
+entry : (c : tie.Else1 Inv-loop μ-loop)
+    → isEntry (getD (c .before .before .before .before .before .before .before .before .args .part .now) (c .before .before .before .loop .i) 0) ≡ true
+entry c = tested isEntry (c .before .before .word-at .ensures) (c .before .is-entry .ensures) (not-false _ (c .if1 .left))
 
 start-requires : tie.Need-start-requires Inv-loop μ-loop
 start-requires c κs = search needs
 
 loop-holds : tie.Need-loop-holds Inv-loop μ-loop
-loop-holds c =
-    let start = c .before .before .before .before in
-    let a = start .args in
-    rw (c .start .ensures) (folding-start (a .all) (a .steps .now) (a .table .now) (a .part .now) (a .at) (start .pre .1))
+loop-holds c = rw (c .start .ensures) (folding-start (c .before .before .before .before .pre .1) refl)
 
-mul-w : tie.Need-mul-w Inv-loop μ-loop
-mul-w c = search needs
-
-shared-slice-read-w : tie.Need-shared-slice-read-w Inv-loop μ-loop
-shared-slice-read-w c = search needs
+word-at-requires : tie.Need-word-at-requires Inv-loop μ-loop
+word-at-requires c κs = search needs
 
 is-entry-requires : tie.Need-is-entry-requires Inv-loop μ-loop
 is-entry-requires c κs = search needs
@@ -47,84 +44,58 @@ live-requires : tie.Need-live-requires Inv-loop μ-loop
 live-requires c κs = search needs
 
 returns : tie.Need-returns Inv-loop μ-loop
+unfolding joinedFrom
 returns c =
-    let entry = c .before .before in
-    let at-loop = entry .before .before .before in
-    let a = at-loop .before .before .before .before .before .args in
-    record {
-      row =
-          c .live .ensures
-          ∙ folding-out (a .all) (a .steps .now) (a .table .now) (a .part .now) (a .at) (at-loop .loop .x) (at-loop .loop .i) (at-loop .loop .inv) (omega arith)
-          (sym (entry .is-entry .ensures) ∙ not-true _ (c .before .if1 .taken));
-      low = at-loop .loop .inv .low;
-      within = at-loop .loop .inv .within;
-      skips = at-loop .loop .inv .skips;
-    }
+    let word = c .before .before .before in
+    let here = word .before .loop .inv in
+    let e = tested isEntry (word .word-at .ensures) (c .before .before .is-entry .ensures) (not-true _ (c .before .if1 .taken)) in
+    record { row = c .live .ensures ∙ ap liveRow (folding-out here e); next = folding-end here e }
 
 entry-row-requires : tie.Need-entry-row-requires Inv-loop μ-loop
 entry-row-requires c κs =
-    let at-loop = c .before .before .before .before in
-    let start = at-loop .before .before .before .before .before in
-    (start .pre .0 (at-loop .loop .i) (omega arith), sym (c .before .is-entry .ensures) ∙ not-false _ (c .if1 .left))
+    let at-loop = c .before .before .before in
+    rw (c .before .before .word-at .ensures)
+    (at-loop .before .before .before .before .before .pre .0 (at-loop .loop .i) (folding-inside (at-loop .loop .inv) (entry c)), entry c)
 
 joined-requires : tie.Need-joined-requires Inv-loop μ-loop
 joined-requires c κs = search needs
 
 add-i : tie.Need-add-i Inv-loop μ-loop
 add-i c =
-    let turn = c .before .before .before .before .before in
-    omega (arith, turn .loop-test .taken, turn .before .before .before .before .before .before .good)
+    let test = c .before .before in
+    let at-loop = test .before .before .before in
+    omega (arith, at-loop .before .before .before .before .before .good, folding-inside (at-loop .loop .inv) (entry test))
 
 none-requires : tie.Need-none-requires Inv-loop μ-loop
 none-requires c κs = search needs
 
+-- the entry is joined to those before it
+turn : (c : tie.After-joined Inv-loop μ-loop)
+    → let start = c .before .before .before .before .before .before .before .before .before .before in
+    Folding (start .args .part .now) (joinedFrom (start .args .steps .now) (start .args .table .now) (startRow (start .args .all)) (entriesFrom (drop (start .args .at) (start .args .part .now))))
+    (start .args .at) (joinedFrom (start .args .steps .now) (start .args .table .now) (c .joined .result)) (c .before .before .before .before .before .loop .i + 1)
+unfolding joinedFrom
+turn c =
+    let test = c .before .before in
+    rw (c .joined .ensures, c .before .entry-row .ensures, test .before .before .word-at .ensures)
+    (folding-turn (test .before .before .before .loop .inv) (entry test) refl)
+
 entries-end-requires : tie.Need-entries-end-requires Inv-loop μ-loop
-entries-end-requires c κs = search needs
+entries-end-requires c κs = turn (c .before .before .before) .within
 
 returns-2 : tie.Need-returns-2 Inv-loop μ-loop
 returns-2 c =
     let dead = c .before .before in
-    let join = dead .before .before in
-    let entry = join .before .before .before in
-    let at-loop = entry .before .before .before in
-    let a = at-loop .before .before .before .before .before .args in
-    let here : Folding (a .all) (a .steps .now) (a .table .now) (a .part .now) (a .at) (join .joined .result) (at-loop .loop .i + 1) =
-    rw (join .joined .ensures, join .before .entry-row .ensures)
-    (folding-turn (a .all) (a .steps .now) (a .table .now) (a .part .now) (a .at) (at-loop .loop .x) (at-loop .loop .i) (at-loop .loop .inv) (omega arith)
-    (sym (entry .is-entry .ensures) ∙ not-false _ (join .before .before .if1 .left))) in
-    record {
-      row = c .before .none .ensures ∙ folding-dead (a .all) (a .steps .now) (a .table .now) (a .part .now) (a .at) (join .joined .result) (at-loop .loop .i + 1) here (dead .if2 .taken);
-      low = omega (arith, here .low, c .entries-end .ensures .low);
-      within = c .entries-end .ensures .within;
-      skips = λ X. here .skips X ∙ c .entries-end .ensures .skips (a .all) (a .steps .now) (a .table .now) X;
-    }
+    let read = turn (dead .before .before) in
+    record { row = c .before .none .ensures ∙ sym (dead-fold _ _ _ _ (dead .if2 .taken)) ∙ ap liveRow (read .same); next = c .entries-end .ensures ∙ read .ends }
 
 loop-less : tie.Need-loop-less Inv-loop μ-loop
-loop-less c = search needs
+loop-less c =
+    let test = c .before .before .before .before in
+    omega (arith, folding-inside (test .before .before .before .loop .inv) (entry test))
 
 loop-again : tie.Need-loop-again Inv-loop μ-loop
-loop-again c =
-    let join = c .before .before in
-    let entry = join .before .before .before in
-    let at-loop = entry .before .before .before in
-    let a = at-loop .before .before .before .before .before .args in
-    rw (join .joined .ensures, join .before .entry-row .ensures)
-    (folding-turn (a .all) (a .steps .now) (a .table .now) (a .part .now) (a .at) (at-loop .loop .x) (at-loop .loop .i) (at-loop .loop .inv) (omega arith)
-    (sym (entry .is-entry .ensures) ∙ not-false _ (join .before .before .if1 .left)))
-
-live-requires-2 : tie.Need-live-requires-2 Inv-loop μ-loop
-live-requires-2 c κs = search needs
-
-returns-3 : tie.Need-returns-3 Inv-loop μ-loop
-returns-3 c =
-    let at-loop = c .before .before in
-    let a = at-loop .before .before .before .before .before .args in
-    record {
-      row = c .live2 .ensures ∙ folding-end (a .all) (a .steps .now) (a .table .now) (a .part .now) (a .at) (at-loop .loop .x) (at-loop .loop .i) (at-loop .loop .inv) (omega arith);
-      low = at-loop .loop .inv .low;
-      within = at-loop .loop .inv .within;
-      skips = at-loop .loop .inv .skips;
-    }
+loop-again c = turn (c .before .before)
 
 pub read-alternative-spec : {M : Type 1} → statement M
 read-alternative-spec =
@@ -134,8 +105,7 @@ read-alternative-spec =
     μ-loop
     start-requires
     loop-holds
-    mul-w
-    shared-slice-read-w
+    word-at-requires
     is-entry-requires
     live-requires
     returns
@@ -146,6 +116,4 @@ read-alternative-spec =
     entries-end-requires
     returns-2
     loop-less
-    loop-again
-    live-requires-2
-    returns-3)
+    loop-again)

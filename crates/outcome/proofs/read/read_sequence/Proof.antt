@@ -1,70 +1,62 @@
 -- `outcome::read::read_sequence` meets its contract: what is united so far, with the alternatives to come, is the whole sequence.
 -- Assumes nothing.
 use borrow.Author.Needs.{needs}
+use borrow.Author.Tests.{not-true, not-false}
 use native.Mathlib.Omega.{arith}
-use mathlib.Core.Path.{sym, _∙_}
-use Prim.Native.Nat.{_+_, _-_}
-use lib.ListN.{length}
-use Rattle.row.specs.Words.{startRow, orRows, liveRow}
-use Rattle.outcome.proofs.Walks.{Uniting, empty-read, uniting-start, uniting-out, uniting-end, uniting-skip, uniting-empties, uniting-turn}
-use Rattle.outcome.proofs.Stores.{rows-again}
+use mathlib.Core.Path.{_≡_, refl}
+use mathlib.Core.Bool.{true, false}
+use Prim.Native.Nat.{_-_}
+use lib.ListN.{length, getD, drop}
+use Rattle.image.specs.Word.{isKind, isEntry}
+use Rattle.library.specs.Library.{alternativesFrom}
+use Rattle.library.proofs.Walking.{tested, Walking, walking-inside, walking-turn, walking-skip, walking-within, walking-out}
+use Rattle.row.specs.Words.{noRow}
+use Rattle.outcome.specs.Walks.{unitedFrom}
+use Rattle.outcome.proofs.Walks.{uniting-empties}
 use Rattle.outcome.proofs.read.read_sequence.Statement.{statement}
 use Rattle.outcome.proofs.read.read_sequence.Tie as tie
-use Rattle.outcome.proofs.read.read_sequence.Reads as reads
-use Rattle.outcome.proofs.read.read_sequence.Lts as lts
-use Rattle.image.proofs.word.is_kind.Reads as is-kind-reads
-use Rattle.outcome.proofs.read.empties_end.Reads as empties-end-reads
-use Rattle.outcome.proofs.read.entry_at.Reads as entry-at-reads
-use Rattle.outcome.proofs.read.read_alternative.Reads as read-alternative-reads
-use Rattle.row.proofs.words.live.Reads as live-reads
-use Rattle.row.proofs.words.none.Reads as none-reads
-use Rattle.row.proofs.words.start.Reads as start-reads
-use Rattle.row.proofs.words.united.Reads as united-reads
 
 abbrev Inv-loop : tie.InvT-loop
-Inv-loop all steps table part at x₀ i₀ x i = Uniting all steps table part at x i
+Inv-loop all steps table part at x₀ i₀ x i = Walking part (unitedFrom all steps table noRow (alternativesFrom (drop at part))) (unitedFrom all steps table x) i
 
 abbrev μ-loop : tie.MeasureT-loop
 μ-loop all steps table part at x₀ i₀ x i = length part - i
+
+-- an alternative is opened there, or not
+opener : (c : tie.Then1 Inv-loop μ-loop)
+    → isKind 7 (getD (c .before .before .before .before .before .before .before .before .args .part .now) (c .before .before .before .loop .i) 0) ≡ true
+opener c = tested (isKind 7) (c .before .before .word-at .ensures) (c .before .is-kind .ensures) (c .if1 .taken)
+
+other : (c : tie.Else1 Inv-loop μ-loop)
+    → isKind 7 (getD (c .before .before .before .before .before .before .before .before .args .part .now) (c .before .before .before .loop .i) 0) ≡ false
+other c = tested (isKind 7) (c .before .before .word-at .ensures) (c .before .is-kind .ensures) (c .if1 .left)
 
 none-requires : tie.Need-none-requires Inv-loop μ-loop
 none-requires c κs = search needs
 
 loop-holds : tie.Need-loop-holds Inv-loop μ-loop
-loop-holds c =
-    let start = c .before .before .before .before in
-    let a = start .args in
-    rw (c .none .ensures) (uniting-start (a .all) (a .steps .now) (a .table .now) (a .part .now) (a .at) (start .pre .1))
+loop-holds c = rw (c .none .ensures) (record { within = c .before .before .before .before .pre .1; same = refl })
 
-mul-w : tie.Need-mul-w Inv-loop μ-loop
-mul-w c = search needs
+word-at-requires : tie.Need-word-at-requires Inv-loop μ-loop
+word-at-requires c κs = search needs
 
-shared-slice-read-w : tie.Need-shared-slice-read-w Inv-loop μ-loop
-shared-slice-read-w c = search needs
+add-i : tie.Need-add-i Inv-loop μ-loop
+add-i c = let at-loop = c .before in omega (arith, at-loop .loop .inv .within, at-loop .before .before .before .before .before .good)
 
 is-kind-requires : tie.Need-is-kind-requires Inv-loop μ-loop
 is-kind-requires c κs = search needs
 
-returns : tie.Need-returns Inv-loop μ-loop
-returns c =
-    let at-loop = c .before .before .before .before in
-    let a = at-loop .before .before .before .before .before .args in
-    uniting-out (a .all) (a .steps .now) (a .table .now) (a .part .now) (a .at) (at-loop .loop .x) (at-loop .loop .i) (at-loop .loop .inv) (omega arith)
-    (sym (c .before .is-kind .ensures) ∙ c .if1 .taken)
+word-at-requires-2 : tie.Need-word-at-requires-2 Inv-loop μ-loop
+word-at-requires-2 c κs = search needs
 
-add-i : tie.Need-add-i Inv-loop μ-loop
-add-i c = let turn = c .before .before .before in omega (arith, turn .loop-test .taken, turn .before .before .before .before .before .before .good)
-
-is-kind-requires-2 : tie.Need-is-kind-requires-2 Inv-loop μ-loop
-is-kind-requires-2 c κs = search needs
-
-entry-at-requires : tie.Need-entry-at-requires Inv-loop μ-loop
-entry-at-requires c κs = search needs
+is-entry-requires : tie.Need-is-entry-requires Inv-loop μ-loop
+is-entry-requires c κs = search needs
 
 read-alternative-requires : tie.Need-read-alternative-requires Inv-loop μ-loop
 read-alternative-requires c κs =
-    let turn = c .before .before .before .before .before .before .before in
-    (turn .before .before .before .before .before .before .pre .0, omega (arith, turn .loop-test .taken))
+    let test = c .before .before .before in
+    let at-loop = test .before .before .before in
+    (at-loop .before .before .before .before .before .pre .0, omega (arith, walking-inside (at-loop .loop .inv) (opener test)))
 
 united-requires : tie.Need-united-requires Inv-loop μ-loop
 united-requires c κs = search needs
@@ -72,19 +64,16 @@ united-requires c κs = search needs
 loop-less : tie.Need-loop-less Inv-loop μ-loop
 loop-less c =
     let read = c .before .before in
-    omega (arith, read .read-alternative .ensures, read .before .before .before .before .before .before .before .before .loop-test .taken)
+    let test = read .before .before .before .before in
+    omega (arith, read .read-alternative .ensures .next, walking-inside (test .before .before .before .loop .inv) (opener test))
 
 loop-again : tie.Need-loop-again Inv-loop μ-loop
+unfolding unitedFrom
 loop-again c =
     let read = c .before .before in
-    let alternative = read .before .before .before .before in
-    let sequence = alternative .before .before in
-    let at-loop = sequence .before .before .before in
-    let a = at-loop .before .before .before .before .before .args in
-    rw (c .united .ensures)
-    (uniting-turn (a .all) (a .steps .now) (a .table .now) (a .part .now) (a .at) (at-loop .loop .x) (at-loop .loop .i) (at-loop .loop .inv) (omega arith)
-    (sym (sequence .is-kind .ensures) ∙ alternative .before .if1 .left) (sym (alternative .is-kind2 .ensures) ∙ read .before .before .before .if2 .taken)
-    (read .read-alternative .result) (read .read-alternative .ensures))
+    let test = read .before .before .before .before in
+    rw (c .united .ensures, read .read-alternative .ensures .row)
+    (walking-turn (test .before .before .before .loop .inv) (opener test) (read .read-alternative .ensures .next) refl)
 
 start-requires : tie.Need-start-requires Inv-loop μ-loop
 start-requires c κs = search needs
@@ -96,43 +85,45 @@ united-requires-2 : tie.Need-united-requires-2 Inv-loop μ-loop
 united-requires-2 c κs = search needs
 
 empties-end-requires : tie.Need-empties-end-requires Inv-loop μ-loop
-empties-end-requires c κs = search needs
+empties-end-requires c κs =
+    let test = c .before .before .before .before .before .before in
+    omega (arith, walking-inside (test .before .before .before .loop .inv) (opener test))
 
 loop-less-2 : tie.Need-loop-less-2 Inv-loop μ-loop
-loop-less-2 c = omega (arith, c .empties-end .ensures .low, c .before .before .before .before .before .before .before .before .before .before .before .loop-test .taken)
+loop-less-2 c =
+    let test = c .before .before .before .before .before .before .before in
+    omega (arith, c .empties-end .ensures .low, walking-inside (test .before .before .before .loop .inv) (opener test))
 
 loop-again-2 : tie.Need-loop-again-2 Inv-loop μ-loop
 loop-again-2 c =
     let live = c .before .before in
     let none = live .before .before in
-    let alternative = none .before .before .before in
-    let sequence = alternative .before .before in
-    let at-loop = sequence .before .before .before in
-    let a = at-loop .before .before .before .before .before .args in
+    let word = none .before .before in
+    let test = word .before in
     rw (c .before .united2 .ensures, live .live .ensures, live .before .start .ensures)
-    (uniting-empties (a .all) (a .steps .now) (a .table .now) (a .part .now) (a .at) (orRows (at-loop .loop .x) (liveRow (startRow (a .all)))) (at-loop .loop .i + 1)
-    (uniting-turn (a .all) (a .steps .now) (a .table .now) (a .part .now) (a .at) (at-loop .loop .x) (at-loop .loop .i) (at-loop .loop .inv) (omega arith)
-    (sym (sequence .is-kind .ensures) ∙ alternative .before .if1 .left) (sym (alternative .is-kind2 .ensures) ∙ none .before .before .if2 .taken) _
-    (empty-read (a .all) (a .steps .now) (a .table .now) (a .part .now) (at-loop .loop .i + 1) (omega arith) (none .before .entry-at .ensures (none .if3 .left))))
-    (c .empties-end .result) (c .empties-end .ensures) (rows-again (at-loop .loop .x) (liveRow (startRow (a .all)))))
+    (uniting-empties _ _ _ _ (test .before .before .before .loop .inv) (opener test)
+    (tested isEntry (word .word-at2 .ensures) (none .before .is-entry .ensures) (none .if2 .left)) (c .empties-end .ensures))
+
+is-entry-requires-2 : tie.Need-is-entry-requires-2 Inv-loop μ-loop
+is-entry-requires-2 c κs = search needs
+
+returns : tie.Need-returns Inv-loop μ-loop
+unfolding unitedFrom
+returns c =
+    let word = c .before .before .before .before in
+    walking-out (word .before .loop .inv) (other (c .before .before))
+    (tested isEntry (word .word-at .ensures) (c .before .is-entry2 .ensures) (not-true _ (c .if3 .taken)))
 
 loop-less-3 : tie.Need-loop-less-3 Inv-loop μ-loop
-loop-less-3 c = search needs
+loop-less-3 c =
+    let word = c .before .before .before .before in
+    omega (arith, walking-within (word .before .loop .inv) (tested isEntry (word .word-at .ensures) (c .before .is-entry2 .ensures) (not-false _ (c .if3 .left))))
 
 loop-again-3 : tie.Need-loop-again-3 Inv-loop μ-loop
 loop-again-3 c =
-    let alternative = c .before in
-    let sequence = alternative .before .before in
-    let at-loop = sequence .before .before .before in
-    let a = at-loop .before .before .before .before .before .args in
-    uniting-skip (a .all) (a .steps .now) (a .table .now) (a .part .now) (a .at) (at-loop .loop .x) (at-loop .loop .i) (at-loop .loop .inv) (omega arith)
-    (sym (sequence .is-kind .ensures) ∙ alternative .before .if1 .left) (sym (alternative .is-kind2 .ensures) ∙ c .if2 .left)
-
-returns-2 : tie.Need-returns-2 Inv-loop μ-loop
-returns-2 c =
-    let at-loop = c .before in
-    let a = at-loop .before .before .before .before .before .args in
-    uniting-end (a .all) (a .steps .now) (a .table .now) (a .part .now) (a .at) (at-loop .loop .x) (at-loop .loop .i) (at-loop .loop .inv) (omega arith)
+    let word = c .before .before .before .before in
+    walking-skip (word .before .loop .inv) (other (c .before .before))
+    (tested isEntry (word .word-at .ensures) (c .before .is-entry2 .ensures) (not-false _ (c .if3 .left)))
 
 pub read-sequence-spec : {M : Type 1} → statement M
 read-sequence-spec =
@@ -142,13 +133,11 @@ read-sequence-spec =
     μ-loop
     none-requires
     loop-holds
-    mul-w
-    shared-slice-read-w
-    is-kind-requires
-    returns
+    word-at-requires
     add-i
-    is-kind-requires-2
-    entry-at-requires
+    is-kind-requires
+    word-at-requires-2
+    is-entry-requires
     read-alternative-requires
     united-requires
     loop-less
@@ -159,6 +148,7 @@ read-sequence-spec =
     empties-end-requires
     loop-less-2
     loop-again-2
+    is-entry-requires-2
+    returns
     loop-less-3
-    loop-again-3
-    returns-2)
+    loop-again-3)

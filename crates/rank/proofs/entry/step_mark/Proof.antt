@@ -2,9 +2,7 @@
 -- Assumes nothing.
 use borrow.Author.Needs.{needs}
 use native.Mathlib.Omega.{arith}
-use mathlib.Core.Path.{sym, ap, _∙_}
-use Prim.Native.Nat.{ℕ, _+_, _*_}
-use Rattle.rank.specs.Tables.{markOf}
+use mathlib.Core.Path.{_∙_}
 use Rattle.rank.proofs.Slots.{side-low, side-mark}
 use Rattle.rank.proofs.entry.step_mark.Statement.{statement}
 use Rattle.rank.proofs.entry.step_mark.Tie as tie

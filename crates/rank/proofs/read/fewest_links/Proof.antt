@@ -3,33 +3,33 @@
 use borrow.Author.Needs.{needs}
 use borrow.Author.Tests.{not-true, not-false}
 use native.Mathlib.Omega.{arith}
-use mathlib.Core.Path.{sym, ap, _∙_}
+use mathlib.Core.Path.{_≡_, refl}
+use mathlib.Core.Bool.{true}
 use Prim.Native.Nat.{_-_}
-use lib.ListN.{length}
+use lib.ListN.{length, getD, drop}
 use Rattle.image.specs.Word.{isEntry}
-use Rattle.rank.proofs.Folds.{entry-inside}
-use Rattle.rank.proofs.Looks.{Fewest, fewest-start, fewest-turn, fewest-out}
+use Rattle.library.specs.Library.{entriesFrom}
+use Rattle.library.proofs.Walking.{tested, Folding, folding-start, folding-inside, folding-turn, folding-out, folding-end}
+use Rattle.rank.specs.Walk.{fewestFrom}
+use Rattle.rank.specs.Tables.{rankIn, passIn, fewestIn}
 use Rattle.rank.proofs.read.fewest_links.Statement.{statement}
 use Rattle.rank.proofs.read.fewest_links.Tie as tie
-use Rattle.rank.proofs.read.fewest_links.Reads as reads
-use Rattle.rank.proofs.read.fewest_links.Lts as lts
-use Rattle.image.proofs.word.is_entry.Reads as is-entry-reads
-use Rattle.rank.proofs.entry.kept.Reads as kept-reads
-use Rattle.rank.proofs.entry.traits_of.Reads as traits-of-reads
-use Rattle.rank.proofs.read.least.Reads as least-reads
-use Rattle.rank.proofs.read.word_at.Reads as word-at-reads
 
 abbrev Inv-loop : tie.InvT-loop
-Inv-loop none ahead behind ranks part at ok₀ best₀ i₀ ok best i = Fewest none ahead behind ranks part at ok best i
+Inv-loop none ahead behind ranks part at ok₀ best₀ i₀ ok best i =
+    Folding part (fewestIn none ahead behind ranks (entriesFrom (drop at part))) at
+    (fewestFrom none (rankIn none none ranks) (passIn none ahead) (passIn none behind) ok best) i
 
 abbrev μ-loop : tie.MeasureT-loop
 μ-loop none ahead behind ranks part at ok₀ best₀ i₀ ok best i = length part - i
 
+-- an entry stands there
+entry : (c : tie.Else1 Inv-loop μ-loop)
+    → isEntry (getD (c .before .before .before .before .before .before .before .before .args .part .now) (c .before .before .before .loop .i) 0) ≡ true
+entry c = tested isEntry (c .before .before .word-at .ensures) (c .before .is-entry .ensures) (not-false _ (c .if1 .left))
+
 loop-holds : tie.Need-loop-holds Inv-loop μ-loop
-loop-holds c =
-    let start = c .before .before .before .before in
-    let a = start .args in
-    fewest-start (a .none) (a .ahead .now) (a .behind .now) (a .ranks .now) (a .part .now) (a .at) (start .pre .1)
+loop-holds c = folding-start (c .before .before .before .before .pre .1) refl
 
 word-at-requires : tie.Need-word-at-requires Inv-loop μ-loop
 word-at-requires c κs = search needs
@@ -38,24 +38,19 @@ is-entry-requires : tie.Need-is-entry-requires Inv-loop μ-loop
 is-entry-requires c κs = search needs
 
 returns : tie.Need-returns Inv-loop μ-loop
+unfolding fewestFrom
 returns c =
-    let entry = c .before in
-    let word = entry .before in
-    let at-loop = word .before in
-    let a = at-loop .before .before .before .before .before .args in
-    fewest-out (a .none) (a .ahead .now) (a .behind .now) (a .ranks .now) (a .part .now) (a .at) (at-loop .loop .ok) (at-loop .loop .best) (at-loop .loop .i) (at-loop .loop .inv)
-    (sym (ap isEntry (word .word-at .ensures)) ∙ sym (entry .is-entry .ensures) ∙ not-true _ (c .if1 .taken))
+    let here = c .before .before .before .loop .inv in
+    let e = tested isEntry (c .before .before .word-at .ensures) (c .before .is-entry .ensures) (not-true _ (c .if1 .taken)) in
+    record { value = folding-out here e; next = folding-end here e }
 
 traits-of-requires : tie.Need-traits-of-requires Inv-loop μ-loop
 traits-of-requires c κs =
-    let entry = c .before in
-    let word = entry .before in
-    let at-loop = word .before in
-    let start = at-loop .before .before .before .before .before in
+    let at-loop = c .before .before .before in
     let i = at-loop .loop .i in
-    let here = sym (entry .is-entry .ensures) ∙ not-false _ (c .if1 .left) in
-    let inside = entry-inside (start .args .part .now) i (sym (ap isEntry (word .word-at .ensures)) ∙ here) in
-    rw (word .word-at .ensures) (start .pre .0 .by-ahead .within i inside, start .pre .0 .by-behind .within i inside, start .pre .0 .by-ranks .within i inside, sym (ap isEntry (word .word-at .ensures)) ∙ here)
+    let readable = at-loop .before .before .before .before .before .pre .0 in
+    let inside = folding-inside (at-loop .loop .inv) (entry c) in
+    rw (c .before .before .word-at .ensures) (readable .by-ahead .within i inside, readable .by-behind .within i inside, readable .by-ranks .within i inside, entry c)
 
 kept-requires : tie.Need-kept-requires Inv-loop μ-loop
 kept-requires c κs = search needs
@@ -69,32 +64,20 @@ least-requires c κs = search needs
 add-i : tie.Need-add-i Inv-loop μ-loop
 add-i c =
     let test = c .before .before .before .before .before in
-    let entry = test .before in
-    let word = entry .before in
-    let at-loop = word .before in
-    let start = at-loop .before .before .before .before .before in
-    omega (arith, start .good, entry-inside (start .args .part .now) (at-loop .loop .i) (sym (ap isEntry (word .word-at .ensures)) ∙ sym (entry .is-entry .ensures) ∙ not-false _ (test .if1 .left)))
+    let at-loop = test .before .before .before in
+    omega (arith, at-loop .before .before .before .before .before .good, folding-inside (at-loop .loop .inv) (entry test))
 
 loop-less : tie.Need-loop-less Inv-loop μ-loop
-loop-less c =
-    let test = c .before .before .before .before .before in
-    let entry = test .before in
-    let word = entry .before in
-    let at-loop = word .before in
-    let start = at-loop .before .before .before .before .before in
-    omega (arith, entry-inside (start .args .part .now) (at-loop .loop .i) (sym (ap isEntry (word .word-at .ensures)) ∙ sym (entry .is-entry .ensures) ∙ not-false _ (test .if1 .left)))
+loop-less c = let test = c .before .before .before .before .before in omega (arith, folding-inside (test .before .before .before .loop .inv) (entry test))
 
 loop-again : tie.Need-loop-again Inv-loop μ-loop
+unfolding fewestFrom
 loop-again c =
-    let traits = c .before .before .before .before in
-    let test = traits .before in
-    let entry = test .before in
-    let word = entry .before in
-    let at-loop = word .before in
-    let a = at-loop .before .before .before .before .before .args in
-    rw (c .before .least .ensures, c .before .before .kept2 .ensures, c .before .before .before .kept .ensures)
-    (fewest-turn (a .none) (a .ahead .now) (a .behind .now) (a .ranks .now) (a .part .now) (a .at) (at-loop .loop .ok) (at-loop .loop .best) (at-loop .loop .i) (at-loop .loop .inv)
-    (sym (ap isEntry (word .word-at .ensures)) ∙ sym (entry .is-entry .ensures) ∙ not-false _ (test .if1 .left)) (traits .traits-of .result) (rw (sym (word .word-at .ensures)) (traits .traits-of .ensures)))
+    let least = c .before in
+    let traits = least .before .before .before in
+    let word = traits .before .before .before in
+    rw (least .least .ensures, least .before .kept2 .ensures, least .before .before .kept .ensures, traits .traits-of .ensures, word .word-at .ensures)
+    (folding-turn (word .before .loop .inv) (entry (traits .before)) refl)
 
 pub fewest-links-spec : {M : Type 1} → statement M
 fewest-links-spec =

@@ -1,13 +1,13 @@
--- `rank::read::word_at` meets its contract: past the words there is 0.
+-- `library::walk::word_at` meets its contract: past the words there is 0.
 -- Assumes nothing.
 use borrow.Author.Needs.{needs}
 use native.Mathlib.Omega.{arith}
 use mathlib.Core.Path.{sym}
 use lib.ListN.{List·getD-eq-default}
-use Rattle.rank.proofs.read.word_at.Statement.{statement}
-use Rattle.rank.proofs.read.word_at.Tie as tie
-use Rattle.rank.proofs.read.word_at.Reads as reads
-use Rattle.rank.proofs.read.word_at.Lts as lts
+use Rattle.library.proofs.walk.word_at.Statement.{statement}
+use Rattle.library.proofs.walk.word_at.Tie as tie
+use Rattle.library.proofs.walk.word_at.Reads as reads
+use Rattle.library.proofs.walk.word_at.Lts as lts
 
 mul-result : tie.Need-mul-result
 mul-result c = search needs
