@@ -23,7 +23,7 @@ use Rattle.settling.specs.Passes.{Blank}
 use Rattle.runs.specs.Execution.{noStep}
 use Rattle.row.specs.Words.{allFacts, stepRow, rowIn}
 use Rattle.outcome.specs.Walks.{StepRows}
-use Rattle.settling.specs.Passes.{Pass}
+use Rattle.settling.specs.Passes.{Settles}
 use Rattle.outcome.specs.Visited.{lacking, Visitable, visited}
 use Rattle.outcome.proofs.Bridge.{rowOfStep}
 use Rattle.outcome.proofs.Filled.{table-filled}
@@ -107,11 +107,11 @@ module _ (h : Head) (steps sequences table : List ℕ) (asked : FillAsked h step
         within = λ c l. place-is c l .within;
       }
 
-  pub fill-done : (t₀ t : List ℕ) → length t₀ ≡ length table → Blank t₀ → Pass (visited all rs sequences ps) lacking (h .sequences) t₀ t false
+  pub fill-done : (t₀ t : List ℕ) → length t₀ ≡ length table → Blank t₀ → Settles (visited all rs sequences ps) (h .sequences) t₀ t
       → t ≡ outcomes (libraryIn h steps sequences)
-  fill-done t₀ t long clear pass =
-      let p = subst (λ (a : ℕ). Pass (visited a rs sequences ps) lacking (h .sequences) t₀ t false) ones pass in
-      table-filled (libraryIn h steps sequences) h rs sequences ps fill-given fill-low t₀ t (long ∙ asked .long) clear (p .reached) (p .settled refl)
+  fill-done t₀ t long clear settles =
+      let p = subst (λ (a : ℕ). Settles (visited a rs sequences ps) (h .sequences) t₀ t) ones settles in
+      table-filled (libraryIn h steps sequences) h rs sequences ps fill-given fill-low t₀ t (long ∙ asked .long) clear (p .reached) (p .settled)
 
 -- ---- an accepted image
 

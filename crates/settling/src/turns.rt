@@ -75,6 +75,19 @@ pub fn next(order: &[usize], stale: &[u64], n: usize, turn: Turn) -> Turn
     }
 }
 
+// The first turn.
+pub fn first(order: &[usize], stale: &[u64], n: usize) -> Turn
+    requires { ⌜ (length (now stale) ≡ 4) × (n ≤ 256) × Complete (now order) n ⌝ }
+    ensures { λ r. ⌜ NextTurn n (now (stale .entry)) r ⌝ }
+{
+    let start = Turn {
+        number: n,
+        place: 0,
+        forward: true,
+    };
+    next(order, stale, n, start)
+}
+
 // After a visit of number `c` it is no longer stale, and its callers are where the visit changed something.
 pub fn after_visit(stale: &mut [u64], callers: &[u64], c: usize, changed: bool)
     requires { ⌜ (length (now stale) ≡ 4) × (c < 256) × (4 * c + 4 ≤ length (now callers)) ⌝ }

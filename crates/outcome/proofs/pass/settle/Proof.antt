@@ -1,74 +1,102 @@
--- `outcome::pass::settle` meets its contract: each pass that changes something leaves less lacking, and each leaves fresh what is not stale.
+-- `outcome::pass::settle` meets its contract, turn by turn.
 -- Assumes nothing.
+use borrow.Author.Needs.{needs}
 use native.Mathlib.Omega.{arith}
-use mathlib.Core.Path.{_≡_, refl, sym, subst}
+use mathlib.Core.Path.{_≡_, refl, sym, _∙_}
 use lib.ListN.{length}
-use Rattle.settling.specs.Passes.{Reached, here, Pass}
-use Rattle.outcome.specs.Visited.{lacking, visited}
-use Rattle.settling.specs.Stale.{Fresh, isStale}
-use Rattle.outcome.proofs.Visited.{visits-lower, visitable-at}
-use Rattle.settling.proofs.Visits.{reached-length, reached-on, pass-after, swept-pass}
+use Rattle.settling.specs.Passes.{here}
+use Rattle.settling.proofs.Visits.{reached-length}
 use Rattle.settling.proofs.CallerSets.{fresh-start}
+use Rattle.settling.proofs.Settling.{Settling, load, settling-less, settling-turn, settling-end}
+use Rattle.outcome.specs.Visited.{lacking, visited}
+use Rattle.outcome.proofs.Visited.{visits-lower, visitable-at}
+use Rattle.outcome.proofs.Calls.{visits-local}
 use Rattle.outcome.proofs.pass.settle.Statement.{statement}
 use Rattle.outcome.proofs.pass.settle.Tie as tie
 use Rattle.outcome.proofs.pass.settle.Reads as reads
 use Rattle.outcome.proofs.pass.settle.Lts as lts
-use Rattle.outcome.proofs.pass.pass.Reads as pass-reads
+use Rattle.outcome.proofs.pass.visit.Reads as visit-reads
+use Rattle.settling.proofs.turns.after_visit.Reads as after-visit-reads
+use Rattle.settling.proofs.turns.first.Reads as first-reads
+use Rattle.settling.proofs.turns.next.Reads as next-reads
 
 abbrev Inv-loop : tie.InvT-loop
-Inv-loop all steps part places callers order table₀ n stale₀ forward₀ table stale forward =
-    Reached (visited all steps part places) n table₀ table
-    × Fresh (visited all steps part places) n (isStale stale) table
-    × (length stale ≡ 4)
+Inv-loop all steps part places callers order table₀ n stale₀ turn₀ table stale turn =
+    Settling (visited all steps part places) n table₀ table stale turn
 
 abbrev μ-loop : tie.MeasureT-loop
-μ-loop all steps part places callers order table₀ n stale₀ forward₀ table stale forward = lacking table
+μ-loop all steps part places callers order table₀ n stale₀ turn₀ table stale turn = load lacking table stale
+
+slice-aggregate-first : tie.Need-slice-aggregate-first Inv-loop μ-loop
+slice-aggregate-first c = search needs
+
+first-requires : tie.Need-first-requires Inv-loop μ-loop
+first-requires c κs = search needs
 
 loop-holds : tie.Need-loop-holds Inv-loop μ-loop
 loop-holds c =
-    let start = c .before .before .before .before .before .before in
+    let start = c .before .before .before .before .before .before .before .before in
     let a = start .args in
-    (here, fresh-start (visited (a .all) (a .steps .now) (a .part .now) (a .places .now)) (a .n) (a .table .now) (start .pre .2), refl)
+    record {
+      reached = here;
+      fresh = fresh-start (visited (a .all) (a .steps .now) (a .part .now) (a .places .now)) (a .n) (a .table .now) (start .pre .2);
+      four = refl;
+      next = c .first .ensures;
+    }
 
-slice-aggregate-pass : tie.Need-slice-aggregate-pass Inv-loop μ-loop
-slice-aggregate-pass c = sym (c .before .before .loop .inv .2)
+visit-requires : tie.Need-visit-requires Inv-loop μ-loop
+visit-requires c κs =
+    let at-loop = c .before .before .before in
+    let start = at-loop .before .before .before .before .before .before .before .before .before in
+    let a = start .args in
+    (visitable-at (at-loop .loop .table) (reached-length (visits-lower (a .all) (a .steps .now) (a .part .now) (a .places .now) (a .n)) (at-loop .loop .inv .reached)) (start .pre .0), c .before .if1 .taken)
 
-pass-requires : tie.Need-pass-requires Inv-loop μ-loop
-pass-requires c κs =
-    let at-loop = c .before .before in
-    let start = at-loop .before .before .before .before .before .before .before in
-    let a = start .args in (
-      visitable-at (at-loop .loop .table) (reached-length (visits-lower (a .all) (a .steps .now) (a .part .now) (a .places .now) (a .n)) (at-loop .loop .inv .0)) (start .pre .0),
-      record { few = start .pre .2; room = start .pre .3; four = at-loop .loop .inv .2 },
-      start .pre .4,
-      at-loop .loop .inv .1,
-    )
+slice-aggregate-after-visit : tie.Need-slice-aggregate-after-visit Inv-loop μ-loop
+slice-aggregate-after-visit c = search needs
+
+after-visit-requires : tie.Need-after-visit-requires Inv-loop μ-loop
+after-visit-requires c κs = search needs
+
+slice-aggregate-next : tie.Need-slice-aggregate-next Inv-loop μ-loop
+slice-aggregate-next c = search needs
+
+next-requires : tie.Need-next-requires Inv-loop μ-loop
+next-requires c κs = search needs
 
 loop-less : tie.Need-loop-less Inv-loop μ-loop
-loop-less c = c .before .before .before .before .pass .ensures .0 .falls (c .if1 .taken)
+loop-less c =
+    let after = c .before .before .before in
+    let visit = after .before .before .before .before in
+    let at-loop = visit .before .before .before .before in
+    let start = at-loop .before .before .before .before .before .before .before .before .before in
+    let a = start .args in
+    settling-less (a .table .now) (at-loop .loop .table) (at-loop .loop .stale) (at-loop .loop .turn) (a .callers .now) (visit .visit .last .1 .1 .1 .1 .0) (after .after-visit .last .0) (visit .visit .result) (start .pre .2) (visit .before .before .if1 .taken)
+    (at-loop .loop .inv) (visit .visit .ensures) (after .after-visit .ensures)
 
 loop-again : tie.Need-loop-again Inv-loop μ-loop
 loop-again c =
-    let turn = c .before .before .before .before in
-    let at-loop = turn .before .before .before in
-    (reached-on (at-loop .loop .inv .0) (turn .pass .ensures .0 .reached), turn .pass .ensures .1, omega (arith, turn .pass .kept, at-loop .loop .inv .2))
+    let after = c .before .before .before in
+    let visit = after .before .before .before .before in
+    let at-loop = visit .before .before .before .before in
+    let start = at-loop .before .before .before .before .before .before .before .before .before in
+    let a = start .args in
+    let long = reached-length (visits-lower (a .all) (a .steps .now) (a .part .now) (a .places .now) (a .n)) (at-loop .loop .inv .reached) in
+    settling-turn (a .callers .now) (visits-local (a .all) (a .steps .now) (a .part .now) (a .places .now) (a .n))
+    (λ d e l m. start .pre .4 d e l (omega (arith, start .pre .3)))
+    (a .table .now) (at-loop .loop .table) (at-loop .loop .stale) (at-loop .loop .turn) (visit .visit .last .1 .1 .1 .1 .0) (after .after-visit .last .0) (visit .visit .result) (c .next .result)
+    (start .pre .2) (omega (arith, long, start .pre .0 .rows)) (visit .before .before .if1 .taken) (at-loop .loop .inv) (visit .visit .ensures) (after .after-visit .ensures) (omega (arith, after .after-visit .kept)) (c .next .ensures)
 
 same-length : tie.Need-same-length Inv-loop μ-loop
 same-length c =
-    let turn = c .before .before .before .before in
-    let at-loop = turn .before .before .before in
-    let a = at-loop .before .before .before .before .before .before .before .args in
-    reached-length (visits-lower (a .all) (a .steps .now) (a .part .now) (a .places .now) (a .n)) (reached-on (at-loop .loop .inv .0) (turn .pass .ensures .0 .reached))
+    let at-loop = c .before .before in
+    let a = at-loop .before .before .before .before .before .before .before .before .before .args in
+    reached-length (visits-lower (a .all) (a .steps .now) (a .part .now) (a .places .now) (a .n)) (at-loop .loop .inv .reached)
 
 returns : tie.Need-returns Inv-loop μ-loop
 returns c =
-    let turn = c .before .before .before .before in
-    let at-loop = turn .before .before .before in
-    let start = at-loop .before .before .before .before .before .before .before in
-    let a = start .args in
-    subst (Pass (visited (a .all) (a .steps .now) (a .part .now) (a .places .now)) lacking (a .n) (a .table .now) (turn .pass .last .1 .1 .1 .1 .1 .1 .1 .0)) (c .if1 .left)
-    (pass-after (visits-lower (a .all) (a .steps .now) (a .part .now) (a .places .now) (a .n)) (a .table .now) (at-loop .loop .table) (turn .pass .last .1 .1 .1 .1 .1 .1 .1 .0) (turn .pass .result) (start .pre .0 .rows) (at-loop .loop .inv .0)
-    (swept-pass (a .order .now) (at-loop .loop .table) (turn .pass .last .1 .1 .1 .1 .1 .1 .1 .0) (turn .pass .result) (start .pre .1) (turn .pass .ensures .0)))
+    let at-loop = c .before .before in
+    let a = at-loop .before .before .before .before .before .before .before .before .before .args in
+    settling-end (a .table .now) (at-loop .loop .table) (at-loop .loop .stale) (at-loop .loop .turn) (c .if1 .left) (at-loop .loop .inv)
 
 pub settle-spec : {M : Type 1} → statement M
 settle-spec =
@@ -76,9 +104,14 @@ settle-spec =
     (tie.spec
     Inv-loop
     μ-loop
+    slice-aggregate-first
+    first-requires
     loop-holds
-    slice-aggregate-pass
-    pass-requires
+    visit-requires
+    slice-aggregate-after-visit
+    after-visit-requires
+    slice-aggregate-next
+    next-requires
     loop-less
     loop-again
     same-length
