@@ -82,20 +82,20 @@ unfolding checked scan total opened lastOf libraryOf has possible cards card
 cards-pulse = refl
 
 chain-selfCall : chained selfCall 0 2 0 (length (zeros 2)) ≡ answered (shown (untouchedLink 0 1 ∷ []))
-unfolding chained total opened lastOf has possible
+unfolding chained checked scan total opened lastOf libraryOf has possible
 chain-selfCall = refl
 
 chain-L : chained L 1 0 0 (length (zeros 6)) ≡ answered (shown (touchLink 1 0 0 ∷ touchLink 0 0 0 ∷ []))
-unfolding chained total opened lastOf has possible
+unfolding chained checked scan total opened lastOf libraryOf has possible
 chain-L = refl
 
 -- sequence 1 of L, question 3, fact 0: entry 1 of its alternative, step 1, needs the fact
 chain-needed : chained L 1 3 0 (length (zeros 2)) ≡ answered (shown (touchLink 1 0 1 ∷ []))
-unfolding chained total opened lastOf has possible
+unfolding chained checked scan total opened lastOf libraryOf has possible
 chain-needed = refl
 
 chain-detour : chained detour 0 0 0 (length (zeros 4)) ≡ answered (shown (touchLink 0 0 0 ∷ []))
-unfolding chained total opened lastOf has possible
+unfolding chained checked scan total opened lastOf libraryOf has possible
 chain-detour = refl
 
 ready-L : Ready L (zeros 21)

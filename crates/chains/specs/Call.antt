@@ -39,7 +39,7 @@ afterCheck (Accepted h) image c q f room = askedOf h (libraryOf image) c q f roo
 
 -- the chain call on an image, a sequence, a question, a fact and an area of so many words
 unfoldable pub chained : List ℕ → ℕ → ℕ → ℕ → ℕ → Reply
-unfolding checked libraryOf answer chainWords
+unfolding answer chainWords
 chained image c q f room = afterCheck (checked image) image c q f room
 
 -- "the number of links with the words written"; "Words past the chain stay, and "none" writes nothing."; a refusal: "Nothing lent is

@@ -7,10 +7,8 @@ use native.Mathlib.Numerals.{one-add}
 use native.Mathlib.Omega.{arith}
 use mathlib.Core.Path.{_≡_, refl, sym, ap, _∙_, subst}
 use mathlib.Core.Bool.{Bool, true, false, cond, _||_}
-use mathlib.Core.Logic.{_⊎_, inl, inr}
 use mathlib.Core.List.{List, [], _∷_, _++_}
 use lib.ListN.{length, getD, take, drop}
-use lib.Dec.{eqb}
 use borrow.Author.Tests.{eq-eqb, ne-eqb, eqb-true, eqb-false}
 use mir.Val.{boolByte}
 use Rattle.image.specs.Word.{kind, payload, isKind, isFact, isEntry}
@@ -49,10 +47,6 @@ pub has-none : (f : ℕ) → has f [] ≡ false
 unfolding has
 has-none f = refl
 
-pub has-cons : (f g : ℕ) (gs : List ℕ) → has f (g ∷ gs) ≡ (eqb g f || has f gs)
-unfolding has
-has-cons f g gs = refl
-
 -- ---- one word of the decoding
 
 pub entries-nil : entriesFrom [] ≡ []
@@ -70,18 +64,6 @@ entries-cons w ws b e = go (isKind 8 w) (isKind 9 w) (entriesFrom ws) ∙ ap (λ
     go false true es = refl
     go false false es = refl
 
-pub entries-step : (w : ℕ) (ws : List ℕ) → kind w ≡ 8 → entriesFrom (w ∷ ws) ≡ item (step (payload w)) ∷ entriesFrom ws
-unfolding entriesFrom
-entries-step w ws e = simp (is 8 w e)
-
-pub entries-call : (w : ℕ) (ws : List ℕ) → kind w ≡ 9 → entriesFrom (w ∷ ws) ≡ call (payload w) ∷ entriesFrom ws
-unfolding entriesFrom
-entries-call w ws e = simp (is-not 8 w (λ q. omega arith), is 9 w e)
-
-pub entries-end : (w : ℕ) (ws : List ℕ) → kind w < 8 → entriesFrom (w ∷ ws) ≡ []
-unfolding entriesFrom
-entries-end w ws l = simp (is-not 8 w (λ q. omega arith), is-not 9 w (λ q. omega arith))
-
 pub alternatives-nil : alternativesFrom [] ≡ []
 unfolding alternativesFrom
 alternatives-nil = refl
@@ -94,24 +76,6 @@ alternatives-cons w ws a b e f =
     ap (λ (c : Bool). cond c (entriesFrom ws ∷ alternativesFrom ws) (cond (isEntry w) (alternativesFrom ws) [])) e
     ∙ ap (λ (c : Bool). cond a (entriesFrom ws ∷ alternativesFrom ws) (cond c (alternativesFrom ws) [])) f
 
-pub alternatives-open : (w : ℕ) (ws : List ℕ) → kind w ≡ 7 → alternativesFrom (w ∷ ws) ≡ entriesFrom ws ∷ alternativesFrom ws
-unfolding alternativesFrom
-alternatives-open w ws e = simp (is 7 w e)
-
-pub alternatives-entry : (w : ℕ) (ws : List ℕ) → (kind w ≡ 8) ⊎ (kind w ≡ 9) → alternativesFrom (w ∷ ws) ≡ alternativesFrom ws
-unfolding alternativesFrom
-alternatives-entry w ws (inl e) = simp (is-not 7 w (λ q. omega arith), is 8 w e)
-alternatives-entry w ws (inr e) = simp (is-not 7 w (λ q. omega arith), is-not 8 w (λ q. omega arith), is 9 w e)
-
-pub alternatives-end : (w : ℕ) (ws : List ℕ) → kind w < 7 → alternativesFrom (w ∷ ws) ≡ []
-unfolding alternativesFrom
-alternatives-end w ws l =
-    simp (is-not 7 w (λ q. omega arith), is-not 8 w (λ q. omega arith), is-not 9 w (λ q. omega arith))
-
-pub sequences-nil : sequencesFrom [] ≡ []
-unfolding sequencesFrom
-sequences-nil = refl
-
 pub sequences-open : (w : ℕ) (ws : List ℕ) → kind w ≡ 6 → sequencesFrom (w ∷ ws) ≡ alternativesFrom ws ∷ sequencesFrom ws
 unfolding sequencesFrom
 sequences-open w ws e = simp (is 6 w e)
@@ -119,10 +83,6 @@ sequences-open w ws e = simp (is 6 w e)
 pub sequences-skip : (w : ℕ) (ws : List ℕ) → (kind w ≡ 6 → ⊥) → sequencesFrom (w ∷ ws) ≡ sequencesFrom ws
 unfolding sequencesFrom
 sequences-skip w ws d = simp (is-not 6 w d)
-
-pub steps-nil : stepsFrom [] ≡ []
-unfolding stepsFrom
-steps-nil = refl
 
 pub steps-open : (w : ℕ) (ws : List ℕ) → kind w ≡ 5
     → stepsFrom (w ∷ ws) ≡ record { needs = factsFrom 2 ws; sets = factsFrom 3 ws; clears = factsFrom 4 ws } ∷ stepsFrom ws
@@ -132,10 +92,6 @@ steps-open w ws e = simp (is 5 w e)
 pub steps-skip : (w : ℕ) (ws : List ℕ) → (kind w ≡ 5 → ⊥) → stepsFrom (w ∷ ws) ≡ stepsFrom ws
 unfolding stepsFrom
 steps-skip w ws d = simp (is-not 5 w d)
-
-pub facts-nil : (k : ℕ) → factsFrom k [] ≡ []
-unfolding factsFrom
-facts-nil k = refl
 
 pub facts-here : (k w : ℕ) (ws : List ℕ) → 2 ≤ k → k ≤ 4 → kind w ≡ k → factsFrom k (w ∷ ws) ≡ payload w ∷ factsFrom k ws
 unfolding factsFrom
@@ -158,7 +114,7 @@ module _ (P : Entry → Type 0) (Q : List ℕ → Type 0) (later : (w : ℕ) (ws
   after-entry : (w : ℕ) (ws : List ℕ) → isEntry w ≡ true → Q (w ∷ ws) → Q ws
   after-entry w ws e = later w ws (is-not 6 w (λ k. omega (arith, entry-high w e)))
 
-  pub entries-all : (ws : List ℕ) → Q ws → All P (entriesFrom ws)
+  entries-all : (ws : List ℕ) → Q ws → All P (entriesFrom ws)
   entries-all [] q = subst (All P) (sym entries-nil) tt
   entries-all (w ∷ ws) q = go (isEntry w) refl (λ r. entries-all ws r)
     where
