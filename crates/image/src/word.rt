@@ -3,6 +3,12 @@ use crate::answer::Head;
 ghost use mathlib.Core.Path.{_≡_};
 ghost use Rattle.image.specs.Word.{kind, payload, isFact, isEntry, isKind, wrappedSum, folded, sumRight, headOf, headRight};
 
+// The most facts, steps, sequences and words that an image has.
+pub const MOST_FACTS: u32 = 64;
+pub const MOST_STEPS: u32 = 1024;
+pub const MOST_SEQUENCES: u32 = 256;
+pub const MOST_WORDS: usize = 8192;
+
 // Bits 31 to 28.
 pub fn kind_of(w: u32) -> u32
     ensures { λ r. ⌜ r ≡ kind w ⌝ }
