@@ -5,8 +5,11 @@ ghost use Rattle.image.specs.Word.{kind, payload, isFact, isEntry, isKin
 
 // The most facts, steps, sequences and words that an image has.
 pub const MOST_FACTS: u32 = 64;
+
 pub const MOST_STEPS: u32 = 1024;
+
 pub const MOST_SEQUENCES: u32 = 256;
+
 pub const MOST_WORDS: usize = 8192;
 
 // Bits 31 to 28.

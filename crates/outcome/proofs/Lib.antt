@@ -1,11 +1,10 @@
-pub mod Fill
-pub mod Filled
-pub mod Low
-pub mod Visited
 pub mod Walks
 pub mod Bridge
-pub mod Clear
-pub mod Settled
-pub mod StepRows
 pub mod Stores
+pub mod Visited
+pub mod Low
+pub mod Settled
+pub mod Filled
+pub mod Fill
+pub mod StepRows
 pub mod Calls

@@ -6,7 +6,7 @@ use native.Mathlib.Omega.{arith}
 use mathlib.Core.Path.{_≡_, refl, sym, ap, _∙_, subst}
 use mathlib.Core.Bool.{true}
 use mathlib.Core.List.{List, [], _∷_, _++_}
-use lib.ListN.{length, getD, take, drop, List·getD-append, List·getD-eq-default}
+use lib.ListN.{length, getD, take, drop, replicate, length-replicate, List·getD-append, List·getD-eq-default}
 use lib.Seq.{getD-drop}
 use lib.Dec.{leb}
 use borrow.Author.Tests.{leb-true}
@@ -14,7 +14,7 @@ use Rattle.general.proofs.Bools.{and-parts}
 use Rattle.image.specs.declared.answer.Head.{Head}
 use Rattle.reader.specs.Checked.{accepts}
 use Rattle.rules.specs.Rules.{opened}
-use Rattle.library.specs.Library.{Library, Step, stepsFrom, stepsPart, sequencesPart, libraryOf}
+use Rattle.library.specs.Library.{Library, Step, stepsFrom, sequencesFrom, stepsPart, sequencesPart, libraryOf}
 use Rattle.library.specs.Tables.{StepsAsked, SequencesAsked, maskOf, masks, placesFrom}
 use Rattle.library.proofs.Accepted.{faultless, parts, library-is}
 use Rattle.library.proofs.Lookup.{noFacts, words-at, Placed, place-at, places-length}
@@ -39,6 +39,18 @@ module _ (image : List ℕ) (h : Head) (accepted : accepts image h) where
 
   pub few-sequences : h .sequences ≤ 256
   few-sequences = faultless image h accepted .sequences-high
+
+  -- areas of zeros for so many steps and sequences
+  pub areas-asked : (steps sequences : ℕ) → h .steps ≤ steps → h .sequences ≤ sequences
+      → TablesAsked h image (replicate (3 * steps) 0) (replicate sequences 0) (replicate (4 * sequences) 0) (replicate sequences 0)
+  areas-asked steps sequences a c =
+      record {
+        accepted = accepted;
+        masks-room = omega (arith, length-replicate {A = ℕ} (3 * steps) 0);
+        places-room = omega (arith, length-replicate {A = ℕ} sequences 0);
+        callers-room = omega (arith, length-replicate {A = ℕ} (4 * sequences) 0);
+        order-room = omega (arith, length-replicate {A = ℕ} sequences 0);
+      }
 
 -- ---- what the makers ask, and what they have made
 
@@ -99,6 +111,10 @@ module _ {h : Head} {image ms₀ ps₀ ms ps callers order : List ℕ} (accepted
   module _ {part : List ℕ} (sequences : part ≡ sequencesPart image) where
     opened-is : opened 6 part ≡ h .sequences
     opened-is = ap (opened 6) sequences ∙ parts image h accepted .sequences-opened
+
+    -- the library's sequences stand in the part
+    pub sequences-are : libraryOf image .sequences ≡ sequencesFrom part
+    sequences-are = ap (λ (L : Library). L .sequences) (library-is image h accepted) ∙ ap sequencesFrom (sym sequences)
 
     places-are : ps ≡ placesFrom 0 part ++ drop (h .sequences) ps₀
     places-are = made .placed ∙ ap (λ (x : List ℕ). placesFrom 0 x ++ drop (h .sequences) ps₀) (sym sequences)
