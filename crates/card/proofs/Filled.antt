@@ -43,10 +43,6 @@ module _ (image area : List ℕ) (h : Head) (accepted : checked image ≡ Checke
       called image area (Checked.Accepted h) (Cards.Refused CardArea) area accepted
       (ap (λ (b : Bool). cond b (Cards.Refused CardArea) (Cards.Filled (h .sequences))) (lt-ltb (length area) (cardWords * h .sequences) l)) refl
 
-  -- the outcome table of an accepted image has at most 256 rows
-  pub call-rows : rowWords * h .sequences ≤ 2048
-  call-rows = omega (arith, faultless image h accepted .sequences-high)
-
   -- the cards of the outcome table
   pub cards-written : (table rest after : List ℕ) → table ≡ outcomes (libraryOf image) ++ rest
       → after ≡ tableCards table 0 (h .sequences) ++ drop (cardWords * h .sequences) area → after ≡ cards (libraryOf image) ++ drop (cardWords * h .sequences) area

@@ -1,14 +1,15 @@
 -- The card call's answer for every image and every card area, the area after it, and the number that the C side gets (document 01,
 -- "Turned down, in checking order", "The card" and "Chains").
-use Prim.Native.Nat.{ℕ, _*_}
+use Prim.Native.Nat.{ℕ, _*_, _≤_}
 use mathlib.Core.Path.{_≡_}
 use mathlib.Core.Bool.{cond}
 use mathlib.Core.List.{List, _++_}
 use lib.ListN.{length, drop}
 use lib.Dec.{ltb}
 use Rattle.image.specs.Answer.{refusalAnswer}
-use Rattle.reader.specs.Checked.{checked}
+use Rattle.reader.specs.Checked.{checked, accepts}
 use Rattle.library.specs.Library.{libraryOf}
+use Rattle.image.specs.declared.answer.Head.{Head}
 use Rattle.image.specs.declared.answer.Refusal.the-variants.{CardArea}
 use Rattle.image.specs.declared.answer.Checked.{Checked}
 use Rattle.cards.specs.Layout.{cardWords}
@@ -43,3 +44,8 @@ cardsAnswer (Cards.Refused r) = refusalAnswer r
 pub record Called (image before : List ℕ) (found : Cards) (after : List ℕ) : Type 0 where
   pub answer : found ≡ cardsOf image before
   pub area : after ≡ cardArea image before
+
+-- what the cards ask: an accepted image, and room for them
+pub record FillAsked (h : Head) (image area : List ℕ) : Type 0 where
+  pub accepted : accepts image h
+  pub room : cardWords * h .sequences ≤ length area

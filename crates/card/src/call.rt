@@ -3,28 +3,79 @@ use crate::answer::Cards;
 use image::answer::Checked;
 use image::answer::Head;
 use image::answer::Refusal;
+use outcome::table::MOST_ROWS;
+use outcome::table::MOST_STEP_ROWS;
+use outcome::table::SMALL_ROWS;
+use outcome::table::SMALL_STEP_ROWS;
 use outcome::table::outcome_table;
 use reader::check::check;
 use row::card::CARD_WORDS;
 use row::card::write_cards;
+use tables::size::MOST_CALLERS;
+use tables::size::MOST_MASKS;
+use tables::size::MOST_PLACES;
+use tables::size::SMALL_CALLERS;
+use tables::size::SMALL_MASKS;
+use tables::size::SMALL_PLACES;
+use tables::size::is_small;
 ghost use mathlib.Core.Path.{_≡_};
+ghost use mathlib.Core.Bool.{true};
 ghost use mathlib.Core.List.{_++_};
-ghost use Prim.Native.Nat.{_*_, _≤_};
-ghost use lib.ListN.{length, drop};
+ghost use Prim.Native.Nat.{_*_};
+ghost use lib.ListN.{drop};
 ghost use Rattle.library.specs.Library.{libraryOf};
-ghost use Rattle.outcome.specs.Area.{TableAsked};
 ghost use Rattle.cards.specs.Layout.{cardWords};
 ghost use Rattle.cards.specs.Card.{cards};
 ghost use Rattle.reader.specs.Checked.{accepts};
-ghost use Rattle.card.specs.Answer.{Called};
+ghost use Rattle.tables.specs.Tables.{isSmall};
+ghost use Rattle.card.specs.Answer.{Called, FillAsked};
 
-// Fills the cards of an accepted image by way of its outcome table, in an area that has room for it.
-fn fill_by(h: Head, image: &[u32], table: &mut [u64], area: &mut [u64])
-    requires { ⌜ TableAsked h (now image) (now table) × (cardWords * h .sequences ≤ length (now area)) ⌝ }
+// Fills the cards of an accepted image by way of its outcome table, in small areas that have the room.
+fn fill_small(h: Head, image: &[u32], area: &mut [u64])
+    requires { ⌜ FillAsked h (now image) (now area) × (isSmall h ≡ true) ⌝ }
     ensures { λ _. ⌜ now (area .exit) ≡ cards (libraryOf (now (image .entry))) ++ drop (cardWords * h .sequences) (now (area .entry)) ⌝ }
 {
-    outcome_table(h, image, table);
-    write_cards(h.sequences as usize, table, area);
+    let mut masks = [0u64; SMALL_MASKS];
+    let mut places = [0u32; SMALL_PLACES];
+    let mut callers = [0u64; SMALL_CALLERS];
+    let mut order = [0usize; SMALL_PLACES];
+    let mut rows = [0u64; SMALL_STEP_ROWS];
+    let mut table = [0u64; SMALL_ROWS];
+    outcome_table(
+        h,
+        image,
+        &mut masks,
+        &mut places,
+        &mut callers,
+        &mut order,
+        &mut rows,
+        &mut table,
+    );
+    write_cards(h.sequences as usize, &table, area);
+}
+
+// The same in areas that have the room for every image.
+fn fill_large(h: Head, image: &[u32], area: &mut [u64])
+    requires { ⌜ FillAsked h (now image) (now area) ⌝ }
+    ensures { λ _. ⌜ now (area .exit) ≡ cards (libraryOf (now (image .entry))) ++ drop (cardWords * h .sequences) (now (area .entry)) ⌝ }
+{
+    let mut masks = [0u64; MOST_MASKS];
+    let mut places = [0u32; MOST_PLACES];
+    let mut callers = [0u64; MOST_CALLERS];
+    let mut order = [0usize; MOST_PLACES];
+    let mut rows = [0u64; MOST_STEP_ROWS];
+    let mut table = [0u64; MOST_ROWS];
+    outcome_table(
+        h,
+        image,
+        &mut masks,
+        &mut places,
+        &mut callers,
+        &mut order,
+        &mut rows,
+        &mut table,
+    );
+    write_cards(h.sequences as usize, &table, area);
 }
 
 // Fills the cards of an accepted image, where the area has room for them: nothing is written before that is known.
@@ -32,16 +83,13 @@ fn fill(h: Head, image: &[u32], area: &mut [u64]) -> Cards
     requires { ⌜ accepts (now image) h ⌝ }
     ensures { λ r. ⌜ Called (now (image .entry)) (now (area .entry)) r (now (area .exit)) ⌝ }
 {
-    let n = h.sequences as usize;
-    if area.len() < CARD_WORDS * n {
+    if area.len() < CARD_WORDS * h.sequences as usize {
         return Cards::Refused(Refusal::CardArea);
     }
-    if n <= 32 {
-        let mut table = [0u64; 256];
-        fill_by(h, image, &mut table, area);
+    if is_small(h) {
+        fill_small(h, image, area);
     } else {
-        let mut table = [0u64; 2048];
-        fill_by(h, image, &mut table, area);
+        fill_large(h, image, area);
     }
     Cards::Filled(h.sequences)
 }

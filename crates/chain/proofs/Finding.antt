@@ -7,29 +7,24 @@ use native.Mathlib.Omega.{arith}
 use mathlib.Core.Path.{_≡_, refl, sym, ap, _∙_, subst}
 use mathlib.Core.Logic.{_≢_, _↔_}
 use mathlib.Core.Bool.{Bool, true, false, cond, not}
-use mathlib.Core.List.{List, [], _∷_, _++_}
-use lib.ListN.{length, getD, take, drop, replicate, length-replicate, List·getD-append, List·getD-eq-default}
-use lib.Seq.{getD-drop, getD-take, ext-getD, length-take-le}
-use Rattle.reader.specs.Checked.{checked}
+use mathlib.Core.List.{List, []}
+use lib.ListN.{length, getD, take, drop, replicate, length-replicate, List·getD-eq-default}
+use lib.Seq.{getD-take, ext-getD, length-take-le}
+use Rattle.reader.specs.Checked.{accepts}
 use Rattle.rules.specs.Rules.{opened}
-use Rattle.library.specs.Library.{Library, Step, Entry, alternativesFrom, stepsFrom, stepsPart, sequencesPart, libraryOf, Item, step}
+use Rattle.library.specs.Library.{Library, Sequence, Entry, alternativesFrom, sequencesPart, libraryOf, Item, step}
+use Rattle.library.specs.Walk.{alternativesAt}
 use Rattle.general.specs.Tests.{All}
 use Rattle.library.specs.Accepted.{SequenceWord, Counted}
-use Rattle.library.specs.Tables.{StepsAsked, SequencesAsked, maskOf, masks, placesFrom}
-use Rattle.library.specs.Walk.{alternativesAt}
 use Rattle.image.specs.declared.answer.Head.{Head}
-use Rattle.image.specs.declared.answer.Checked.the-variants.{Accepted}
-use Rattle.library.proofs.Accepted.{faultless, parts, counted, library-is}
-use Rattle.library.proofs.Lookup as lookup
-use Rattle.library.proofs.Lookup.{mask-none, masks-length, row-at, places-length, place-at}
+use Rattle.library.proofs.Accepted.{faultless, parts, counted}
 use Rattle.library.proofs.Rows.{all-at}
 use Rattle.settling.specs.Passes.{Blank, Complete}
-use Rattle.outcome.specs.Area.{TableAsked, Prepared, libraryIn}
-use Rattle.runs.specs.Execution.{noStep, stepOf}
+use Rattle.tables.specs.Tables.{TablesAsked, Prepared}
+use Rattle.tables.proofs.Tables.{few-sequences, step-masks, sequences-are, place-is, place-within}
 use Rattle.runs.specs.Possible.{hasRun, possibleOutcome}
 use Rattle.runs.specs.Run.{RunOf, alternativesOf}
 use Rattle.settling.proofs.Visits.{blank-zeros}
-use Rattle.outcome.proofs.Fill.{fill-asked, prepare-asked}
 use Rattle.runs.proofs.Outcome.{present≢untouched, absent≢untouched}
 use Rattle.runs.specs.Touch.{Mark, present, absent, untouched, Question, untouchedOn, lastSet}
 use Rattle.runs.specs.Algebra.{sameMark}
@@ -39,7 +34,7 @@ use Rattle.chains.specs.Answer.{answer, ranksIn}
 use Rattle.rank.specs.Visits.{Visits, Settled}
 use Rattle.rank.specs.Tables.{inRanks, passIn, lookIn, Rankable, Readable, Visitable, Steppable, Ranked}
 use Rattle.link.specs.Choice.{Choosable, answerIn}
-use Rattle.chain.specs.Described.{Asks, Masked, Placed, StepsBy, Described, FindAsked, Made, Unranked, Findable, Marked, quietly, whether, isFirst, markNumber, sideBy, markBy, questionBy}
+use Rattle.chain.specs.Described.{Asks, Masked, Placed, StepsBy, Described, FindAsked, RanksAsked, AreasAsked, Unranked, Findable, Marked, quietly, whether, isFirst, markNumber, sideBy, markBy, questionBy}
 use Rattle.question.specs.declared.asked.Asked.{Asked}
 use Rattle.chains.proofs.Entries.{quiet-run, any-run}
 use Rattle.chains.proofs.Passing.{Passable, pass-reached, pass-exact}
@@ -48,102 +43,53 @@ use Rattle.rank.proofs.Visits.{settled-good, touch-good, settled-touch, settled
 use Rattle.rank.proofs.Settling.{rankable-at, pass-kept, pass-visits, pass-settled}
 use Rattle.chain.proofs.Describes.{steps-marked, steps-any, pass-is, pass-look, depth-look, touch-look, touch-answer, quiet-answer}
 
--- past the words of a list there is nothing
-blank-after : (xs rest : List ℕ) (k : ℕ) → Blank rest → length xs ≤ k → getD (xs ++ rest) k 0 ≡ 0
-blank-after [] rest k blank le = blank k
-blank-after (x ∷ xs) rest zero blank le = absurd (omega arith)
-blank-after (x ∷ xs) rest (suc k) blank le = blank-after xs rest k blank (omega arith)
+-- ---- the areas
 
-blank-drop : (n : ℕ) (zeros : List ℕ) → Blank zeros → Blank (drop n zeros)
-blank-drop n zeros blank k = getD-drop n zeros k 0 ∙ blank (n + k)
+-- of words that are all `none`
+ranks-asked : (h : Head) (q : Asked) (m : ℕ) → q .none + h .steps ≤ m → RanksAsked h q (replicate m (q .none))
+ranks-asked h q m l = record { room = omega (arith, length-replicate m (q .none)); empty = start-unranked [] (λ T es. 0) (q .none) m }
 
--- ---- the steps' masks
-
--- three words a step; past the steps, those of a step that names no fact
-step-words : (ss : List Step) (rest : List ℕ) → Blank rest → (a : ℕ)
-    → (getD (masks ss ++ rest) (3 * a) 0 ≡ maskOf (getD ss a noStep .needs))
-    × (getD (masks ss ++ rest) (3 * a + 1) 0 ≡ maskOf (getD ss a noStep .sets))
-    × (getD (masks ss ++ rest) (3 * a + 2) 0 ≡ maskOf (getD ss a noStep .clears))
-step-words ss rest blank a =
-    elim (decLt a (length ss)) [
-      | yes l ↦
-          let row = row-at ss a noStep l in (
-            List·getD-append (masks ss) rest 0 (3 * a) (omega (arith, masks-length ss)) ∙ row .0,
-            List·getD-append (masks ss) rest 0 (3 * a + 1) (omega (arith, masks-length ss)) ∙ row .1,
-            List·getD-append (masks ss) rest 0 (3 * a + 2) (omega (arith, masks-length ss)) ∙ row .2,
-          )
-      | no l ↦
-          let past : getD ss a noStep ≡ noStep = List·getD-eq-default ss noStep {n = a} (omega arith) in
-          let nothing : (k : ℕ) → 3 * length ss ≤ k → getD (masks ss ++ rest) k 0 ≡ maskOf [] =
-          λ k le. blank-after (masks ss) rest k blank (omega (arith, masks-length ss)) ∙ sym mask-none in (
-            nothing (3 * a) (omega arith) ∙ ap (λ (s : Step). maskOf (s .needs)) (sym past),
-            nothing (3 * a + 1) (omega arith) ∙ ap (λ (s : Step). maskOf (s .sets)) (sym past),
-            nothing (3 * a + 2) (omega arith) ∙ ap (λ (s : Step). maskOf (s .clears)) (sym past),
-          )
-    ]
-
--- ---- an accepted image
-
--- what the makers of the tables ask
-module _ (image : List ℕ) (h : Head) (accepted : checked image ≡ Accepted h) where
-  pub image-long : 2 ≤ length image
-  image-long = faultless image h accepted .low
-
-  pub few-sequences : h .sequences ≤ 256
-  few-sequences = faultless image h accepted .sequences-high
-
-  pub few-steps : h .steps ≤ 1024
-  few-steps = faultless image h accepted .steps-high
-
-  pub few-words : (q : Asked) → q .none ≡ h .sequences + 2 → q .none + h .steps ≤ 1282
-  few-words q e = omega (arith, few-sequences, few-steps)
-
-  -- the areas for the masks and the places are what their makers ask
-  pub tables-asked : (first part ms : List ℕ) → first ≡ stepsPart image → part ≡ sequencesPart image → Blank ms → 3 * h .steps ≤ length ms
-      → StepsAsked h first ms × SequencesAsked h part (replicate 256 0) × (h .sequences ≤ 256) × (h .sequences ≤ 256)
-  tables-asked first part ms p q blank wide =
-      let area = replicate {A = ℕ} 2048 0 in
-      let zeros = replicate {A = ℕ} 256 0 in
-      let asked : TableAsked h image area = record { accepted = accepted; room = omega (arith, few-sequences, length-replicate {A = ℕ} 2048 0) } in
-      prepare-asked h first part (take (8 * h .sequences) area) ms zeros zeros (fill-asked h image area asked first part p q)
-      (record { blank = blank; wide = wide; narrow = refl; long = refl })
-
-touch-asked : (k : ℕ) → k ≤ 2 → k ≢ 2 → markBy k ≢ untouched
-touch-asked zero l t = present≢untouched
-touch-asked (suc zero) l t = absent≢untouched
-touch-asked (suc (suc zero)) l t = absurd (t refl)
-touch-asked (suc (suc (suc k))) l t = absurd (omega arith)
-
--- from blank areas
-pub made-of : (image : List ℕ) (h : Head) (first part ms₀ ms ps : List ℕ) → first ≡ stepsPart image → part ≡ sequencesPart image → Blank ms₀
-    → 3 * h .steps ≤ length ms₀ → Prepared h first part ms₀ (replicate 256 0) ms ps → length ms ≡ length ms₀ → length ps ≡ 256 → Made image h ms ps
-made-of image h first part ms₀ ms ps steps sequences blank wide made same narrow =
+-- for so many steps and sequences
+pub areas-asked : (h : Head) (q : Asked) → q .none ≡ h .sequences + 2 → (steps sequences : ℕ) → h .steps ≤ steps → h .sequences ≤ sequences
+    → AreasAsked h q (replicate (3 * steps) 0) (replicate (4 * sequences) 0) (replicate (sequences + 2 + steps) (q .none))
+    (replicate (sequences + 2 + steps) (q .none)) (replicate (sequences + 2 + steps) (q .none))
+areas-asked h q none steps sequences a c =
+    let ranks = ranks-asked h q (sequences + 2 + steps) (omega arith) in
     record {
-      past-masks = drop (3 * h .steps) ms₀;
-      blank-masks = blank-drop (3 * h .steps) ms₀ blank;
-      masked = made .masked ∙ ap (λ (x : List ℕ). masks (stepsFrom x) ++ drop (3 * h .steps) ms₀) steps;
-      past-places = drop (h .sequences) (replicate 256 0);
-      blank-places = blank-drop (h .sequences) (replicate 256 0) (blank-zeros 256);
-      placed = made .placed ∙ ap (λ (x : List ℕ). placesFrom 0 x ++ drop (h .sequences) (replicate 256 0)) sequences;
-      wide = omega arith;
-      narrow = narrow;
+      masks-room = omega (arith, length-replicate {A = ℕ} (3 * steps) 0);
+      masks-blank = blank-zeros (3 * steps);
+      callers-room = omega (arith, length-replicate {A = ℕ} (4 * sequences) 0);
+      ahead-asked = ranks;
+      behind-asked = ranks;
+      links-asked = ranks;
     }
 
--- a part of an area whose words are all `none`
-pub prefix-long : (n m x : ℕ) → n ≤ m → n ≡ length (take n (replicate m x))
-prefix-long n m x l = sym (length-take-le n (replicate m x) (omega (arith, length-replicate m x)))
+-- the part of an area that has the words
+module _ {h : Head} {q : Asked} {T : List ℕ} (asked : RanksAsked h q T) where
+  pub ranks-long : q .none + h .steps ≡ length (take (q .none + h .steps) T)
+  ranks-long = sym (length-take-le (q .none + h .steps) T (asked .room))
 
-pub prefix-unranked : (h : Head) (q : Asked) (m : ℕ) → q .none + h .steps ≤ m → Unranked h q (take (q .none + h .steps) (replicate m (q .none)))
-prefix-unranked h q m l =
+  pub ranks-unranked : Unranked h q (take (q .none + h .steps) T)
+  ranks-unranked =
+      record {
+        long = sym ranks-long;
+        empty = λ k.
+            elim (decLt k (q .none + h .steps)) [
+              | yes below ↦ getD-take (q .none + h .steps) T k (q .none) below ∙ asked .empty k
+              | no above ↦ List·getD-eq-default (take (q .none + h .steps) T) (q .none) {n = k} (omega (arith, ranks-long))
+            ];
+      }
+
+-- what the makers of the tables ask
+pub tables-asked : {h : Head} {image : List ℕ} {q : Asked} {c : ℕ} {masks callers ahead behind links : List ℕ} → FindAsked h image q c
+    → AreasAsked h q masks callers ahead behind links → TablesAsked h image masks (replicate 256 0) callers (replicate 256 0)
+tables-asked {h} {image} asked areas =
     record {
-      long = sym (prefix-long (q .none + h .steps) m (q .none) l);
-      empty = λ k.
-          elim (decLt k (q .none + h .steps)) [
-            | yes below ↦ getD-take (q .none + h .steps) (replicate m (q .none)) k (q .none) below ∙ start-unranked [] (λ T es. 0) (q .none) m k
-            | no above ↦
-                List·getD-eq-default (take (q .none + h .steps) (replicate m (q .none))) (q .none) {n = k}
-                (omega (arith, prefix-long (q .none + h .steps) m (q .none) l))
-          ];
+      accepted = asked .accepted;
+      masks-room = areas .masks-room;
+      places-room = few-sequences image h (asked .accepted);
+      callers-room = areas .callers-room;
+      order-room = few-sequences image h (asked .accepted);
     }
 
 -- ---- what each part of the search asks, by what is asked of the tables
@@ -194,88 +140,69 @@ module _ {q : Asked} {n : ℕ} {masks ahead behind links part places order : Lis
         complete = asked .complete;
       }
 
-module _ (image : List ℕ) (h : Head) (accepted : checked image ≡ Accepted h) (ms ps : List ℕ) (made : Made image h ms ps) (part : List ℕ)
-    (sequences : part ≡ sequencesPart image) where
-  abbrev L : Library
-  L = libraryOf image
+-- ---- the tables of an accepted image
 
-  library-made : L ≡ libraryIn h (stepsPart image) part
-  library-made = library-is image h accepted ∙ ap (libraryIn h (stepsPart image)) (sym sequences)
-
-  places-are : ps ≡ placesFrom 0 part ++ made .past-places
-  places-are = made .placed ∙ ap (λ (x : List ℕ). placesFrom 0 x ++ made .past-places) (sym sequences)
-
-  opened-is : opened 6 part ≡ h .sequences
-  opened-is = ap (opened 6) sequences ∙ parts image h accepted .sequences-opened
-
-  place-is : (c : ℕ) → c < h .sequences → lookup.Placed part c (getD ps c 0)
-  place-is c l =
-      let count = opened-is in
-      let word : getD ps c 0 ≡ getD (placesFrom 0 part) c 0 =
-      ap (λ (x : List ℕ). getD x c 0) places-are
-      ∙ List·getD-append (placesFrom 0 part) (made .past-places) 0 c (omega (arith, places-length 0 part)) in
-      subst (lookup.Placed part c) (sym word) (place-at part c (omega arith))
-
-  masks-made : Masked L ms
-  masks-made =
-      let has = counted image h accepted in
-      let steps : (a : ℕ) → getD (stepsFrom (stepsPart image)) a noStep ≡ stepOf L (step a) = λ a. ap (λ (M : Library). stepOf M (step a)) (sym library-made) in
-      let words = step-words (stepsFrom (stepsPart image)) (made .past-masks) (made .blank-masks) in
+module _ {h : Head} {image ms₀ ps₀ ms ps callers order : List ℕ} (accepted : accepts image h) (made : Prepared h image ms₀ ps₀ ms ps callers order)
+    {part : List ℕ} (sequences : part ≡ sequencesPart image) where
+  pub masks-made : Blank ms₀ → Masked (libraryOf image) ms
+  masks-made blank =
+      let words = step-masks accepted made blank in
       record {
-        narrow = omega (arith, has .facts, faultless image h accepted .facts-high);
-        needs = λ a. ap (λ (x : List ℕ). getD x (3 * a) 0) (made .masked) ∙ words a .0 ∙ ap (λ (s : Step). maskOf (s .needs)) (steps a);
-        sets = λ a. ap (λ (x : List ℕ). getD x (3 * a + 1) 0) (made .masked) ∙ words a .1 ∙ ap (λ (s : Step). maskOf (s .sets)) (steps a);
-        clears = λ a. ap (λ (x : List ℕ). getD x (3 * a + 2) 0) (made .masked) ∙ words a .2 ∙ ap (λ (s : Step). maskOf (s .clears)) (steps a);
+        narrow = omega (arith, counted image h accepted .facts, faultless image h accepted .facts-high);
+        needs = λ a. words a .0;
+        sets = λ a. words a .1;
+        clears = λ a. words a .2;
       }
 
-  places-made : Placed L part ps
+  pub places-made : Placed (libraryOf image) part ps
   places-made c l =
       ap (λ (n : ℕ). alternativesFrom (drop n part)) (add-one (getD ps c 0))
-      ∙ place-is c (omega (arith, counted image h accepted .sequences)) .reads ∙ ap (λ (M : Library). alternativesOf (M .sequences) c) (sym library-made)
+      ∙ place-is accepted made sequences c (omega (arith, counted image h accepted .sequences)) .reads
+      ∙ ap (λ (S : List Sequence). alternativesOf S c) (sym (sequences-are accepted made sequences))
 
-  -- ---- the areas are what the readers ask
-
-  module _ (q : Asked) (fact : q .fact < h .facts) (no-rank : q .none ≡ h .sequences + 2) where
+  -- the tables are what the readers ask
+  module _ {q : Asked} {c : ℕ} (asked : FindAsked h image q c) where
     tables-rankable : (T : List ℕ) → length T ≡ q .none + h .steps → Rankable (q .none) T part
     tables-rankable T long =
         record {
           within = λ i l.
+              let none = asked .none in
               let w = all-at (SequenceWord h) part (subst (All (SequenceWord h)) (sym sequences) (parts image h accepted .sequences)) 0 i l in
               record { step = λ k. omega (arith, w .step k); sequence = λ k. (omega (arith, w .sequence k), omega (arith, w .sequence k)) };
         }
 
-    pub tables-findable : (ahead behind links order : List ℕ) → length ahead ≡ q .none + h .steps → length behind ≡ q .none + h .steps
-        → length links ≡ q .none + h .steps → 0 < h .sequences → Complete order (h .sequences) → Findable q (h .sequences) ms ahead behind links part ps order
-    tables-findable ahead behind links order a-long b-long long some complete =
-        let count = opened-is in
+    pub tables-findable : {ahead behind links : List ℕ} → Unranked h q ahead → Unranked h q behind → Unranked h q links → Blank ps₀ → 3 * h .steps ≤ length ms
+        → h .sequences ≤ length ps → Findable q (h .sequences) ms ahead behind links part ps (take (h .sequences) order)
+    tables-findable {links = links} a-yet b-yet yet blank masked placed =
+        let none = asked .none in
         record {
-          steppable =
-              record {
-                fact = omega (arith, faultless image h accepted .facts-high);
-                sequences = omega arith;
-                masked = omega (arith, made .wide);
-              };
-          rankable = tables-rankable links long;
-          ahead-long = a-long ∙ sym long;
-          behind-long = b-long ∙ sym long;
+          steppable = record { fact = omega (arith, asked .fact, faultless image h accepted .facts-high); sequences = omega (arith, yet .long); masked = omega (arith, yet .long) };
+          rankable = tables-rankable links (yet .long);
+          ahead-long = a-yet .long ∙ sym (yet .long);
+          behind-long = b-yet .long ∙ sym (yet .long);
           few = few-sequences image h accepted;
-          ranked = omega arith;
-          placed = omega (arith, faultless image h accepted .sequences-high, made .narrow);
+          ranked = omega (arith, yet .long);
+          placed = placed;
           opened =
               record {
-                within = λ c.
-                    elim (decLt c (h .sequences)) [
-                      | yes l ↦ place-is c l .within
-                      | no l ↦
-                          let first = place-is 0 some .within in
-                          omega (arith, ap (λ (x : List ℕ). getD x c 0) places-are, blank-after (placesFrom 0 part) (made .past-places) c (made .blank-places) (omega (arith, places-length 0 part)))
-                    ];
+                within = place-within accepted made sequences blank (omega (arith, asked .sequence));
                 short = omega (arith, ap length sequences, parts image h accepted .sequences-short);
               };
-          complete = complete;
+          complete = made .complete;
         }
 
-  -- ---- the answer
+-- ---- the answer
+
+touch-asked : (k : ℕ) → k ≤ 2 → k ≢ 2 → markBy k ≢ untouched
+touch-asked zero l t = present≢untouched
+touch-asked (suc zero) l t = absent≢untouched
+touch-asked (suc (suc zero)) l t = absurd (t refl)
+touch-asked (suc (suc (suc k))) l t = absurd (omega arith)
+
+module _ (image : List ℕ) (h : Head) (accepted : accepts image h) (ms ps part : List ℕ) (masks-are : Masked (libraryOf image) ms)
+    (places-are : Placed (libraryOf image) part ps) where
+  abbrev L : Library
+  L = libraryOf image
 
   -- the question that the code is asked
   mark-number : (m : ℕ) → m ≤ 2 → m ≡ markNumber (markBy m)
@@ -329,7 +256,7 @@ module _ (image : List ℕ) (h : Head) (accepted : checked image ≡ Accepted h)
     -- by a look that the tables have, where the ranks of the steps are those that are written
     module _ (look : Look) (looks : (T : List ℕ) → drop m T ≡ drop m (ranked .start) → lookIn q ahead behind T ≡ look (inRanks m T)) where
       reads : (d : ℕ) → d < h .sequences → alternativesAt part ps d ≡ alternativesOf (L .sequences) d
-      reads d l = places-made d (omega (arith, has .sequences))
+      reads d l = places-are d (omega (arith, has .sequences))
 
       made-kept : drop m ranks ≡ drop m (ranked .start)
       made-kept =
@@ -383,7 +310,7 @@ module _ (image : List ℕ) (h : Head) (accepted : checked image ≡ Accepted h)
         → (ranked : Ranked false (quietly q) r (h .sequences) ms ahead behind part ps before ranks)
         → StepsBy (q .none) 0 (hasMark L (questionBy (quietly q)) (q .fact)) (ranked .start)
     quiet-steps r ahead behind before ranks yet ranked =
-        steps-marked L (quietly q) (questionBy (quietly q)) ms quiet-asks masks-made before (ranked .start) (omega (arith, counted image h accepted .steps, yet .long)) (ranked .steps) 0 refl
+        steps-marked L (quietly q) (questionBy (quietly q)) ms quiet-asks masks-are before (ranked .start) (omega (arith, counted image h accepted .steps, yet .long)) (ranked .steps) 0 refl
 
     -- the entries that can stay untouched, and those that have a run
     stays-done : (links₀ stays₀ stays : List ℕ) → Unranked h q stays₀ → Ranked false (quietly q) (whether q) (h .sequences) ms links₀ links₀ part ps stays₀ stays
@@ -396,7 +323,7 @@ module _ (image : List ℕ) (h : Head) (accepted : checked image ≡ Accepted h)
         → (e : Entry) → passIn (unranked L) runs e ≡ canRun L Q (q .fact) e
     runs-done links₀ runs₀ runs yet ranked =
         entries-pass true (quietly q) (whether q) no-rank no-rank links₀ links₀ runs₀ runs (again yet) ranked refl (λ (a : Item). true)
-        (steps-any L (quietly q) (questionBy (quietly q)) ms quiet-asks masks-made runs₀ (ranked .start) (omega (arith, counted image h accepted .steps, yet .long)) (ranked .steps))
+        (steps-any L (quietly q) (questionBy (quietly q)) ms quiet-asks masks-are runs₀ (ranked .start) (omega (arith, counted image h accepted .steps, yet .long)) (ranked .steps))
         (λ d. hasRun L d) (any-run L)
 
     -- by the tables for the entries ahead of the position and those behind it
@@ -425,7 +352,7 @@ module _ (image : List ℕ) (h : Head) (accepted : checked image ≡ Accepted h)
 
       steps-by : (past : ℕ) → past ≡ cond (sameMark untouched (Q .mark)) 0 (q .none) → StepsBy (q .none) past (hasMark L Q (q .fact)) (ranked .start)
       steps-by past end =
-          steps-marked L q Q ms asks masks-made links₀ (ranked .start) (omega (arith, counted image h accepted .steps, yet .long)) (ranked .steps) past end
+          steps-marked L q Q ms asks masks-are links₀ (ranked .start) (omega (arith, counted image h accepted .steps, yet .long)) (ranked .steps) past end
 
       -- a question that asks for no touch
       quiet-done : Q .mark ≡ untouched → answerIn q ahead behind links part ps c ≡ answer L Q c (q .fact)
@@ -436,7 +363,7 @@ module _ (image : List ℕ) (h : Head) (accepted : checked image ≡ Accepted h)
           let looks : (T : List ℕ) → drop (unranked L) T ≡ drop (unranked L) (ranked .start) → lookIn q ahead behind T ≡ look (inRanks (unranked L) T) =
           λ T same. depth-look L q Q asks ahead behind quiet test T (steps-stay false q q no-rank no-rank ahead behind links₀ links yet ranked 0 test T same steps) in
           let kept = made-kept false q q no-rank no-rank ahead behind links₀ links yet ranked look looks in
-          quiet-answer L q Q asks ahead behind part ps places-made links quiet
+          quiet-answer L q Q asks ahead behind part ps places-are links quiet
           (steps-stay false q q no-rank no-rank ahead behind links₀ links yet ranked 0 test links kept steps) c listed
           ∙ settled-untouched L Q (q .fact) (unranked L) (take (unranked L) links) (omega arith) quiet
           (made-visits false q q no-rank no-rank ahead behind links₀ links yet ranked look looks)
@@ -456,7 +383,7 @@ module _ (image : List ℕ) (h : Head) (accepted : checked image ≡ Accepted h)
           touch-good L Q (q .fact) (unranked L) (take (unranked L) links) (omega arith) touch
           (made-visits false q q no-rank no-rank ahead behind links₀ links yet ranked look looks)
           (made-settled false q q no-rank no-rank ahead behind links₀ links yet ranked look looks) in
-          touch-answer L q Q asks ahead behind part ps places-made links touch described
+          touch-answer L q Q asks ahead behind part ps places-are links touch described
           (steps-stay false q q no-rank no-rank ahead behind links₀ links yet ranked (unranked L) test links kept steps) (good .reached) (good .closed) c listed
           ∙ settled-touch L Q (q .fact) (unranked L) (take (unranked L) links) (omega arith) touch good c
         where

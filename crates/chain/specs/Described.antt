@@ -4,21 +4,23 @@ use Prim.Native.Nat.{ℕ, _+_, _*_, _≤_, _<_}
 use mathlib.Core.Path.{_≡_}
 use mathlib.Core.Bool.{Bool, true, false, cond, not}
 use mathlib.Core.Logic.{_≢_}
-use mathlib.Core.List.{List, [], _∷_, _++_}
+use mathlib.Core.List.{List, [], _∷_}
 use lib.ListN.{length, getD, drop}
-use Rattle.reader.specs.Checked.{checked}
-use Rattle.library.specs.Library.{Library, Entry, stepsFrom, stepsPart, sequencesPart, Item, step}
-use Rattle.image.specs.declared.answer.Head.{Head}
-use Rattle.image.specs.declared.answer.Checked.the-variants.{Accepted}
-use Rattle.library.specs.Tables.{maskOf, masks, placesFrom}
+use Rattle.reader.specs.Checked.{accepts}
+use Rattle.library.specs.Library.{Library, Entry, libraryOf, Item, step}
 use Rattle.library.specs.Walk.{alternativesAt}
+use Rattle.image.specs.declared.answer.Head.{Head}
+use Rattle.library.specs.Tables.{maskOf}
 use Rattle.settling.specs.Passes.{Blank, Complete}
 use Rattle.runs.specs.Run.{alternativesOf}
 use Rattle.runs.specs.Execution.{stepOf}
 use Rattle.runs.specs.Touch.{Side, last, first, Mark, present, absent, untouched, Question}
 use Rattle.chains.specs.Ranks.{unranked, aheadOf, behindOf}
 use Rattle.rank.specs.Tables.{passIn, Rankable, Steppable, Ranked}
-use Rattle.link.specs.Choice.{Opened}
+use Rattle.link.specs.Choice.{Opened, answerIn}
+use Rattle.question.specs.Answer.{told}
+use Rattle.question.specs.Reply.{Answered}
+use Rattle.chains.specs.Answer.{answer}
 use Rattle.question.specs.declared.asked.Asked.{Asked}
 
 -- a side and a mark as the code has them
@@ -72,31 +74,34 @@ questionBy q = record { side = sideBy (q .first); mark = markBy (q .mark) }
 
 -- what the search for an answer asks: an accepted image, and a sequence, a mark and a fact that there are
 pub record FindAsked (h : Head) (image : List ℕ) (q : Asked) (c : ℕ) : Type 0 where
-  pub accepted : checked image ≡ Accepted h
+  pub accepted : accepts image h
   pub sequence : c < h .sequences
   pub mark : q .mark ≤ 2
   pub fact : q .fact < h .facts
   pub none : q .none ≡ h .sequences + 2
 
--- what is made of an accepted image on the way: its masks and places. Words past them are 0.
-pub record Made (image : List ℕ) (h : Head) (ms ps : List ℕ) : Type 0 where
-  pub past-masks : List ℕ
-  pub blank-masks : Blank past-masks
-  pub masked : ms ≡ masks (stepsFrom (stepsPart image)) ++ past-masks
-  pub past-places : List ℕ
-  pub blank-places : Blank past-places
-  pub placed : ps ≡ placesFrom 0 (sequencesPart image) ++ past-places
-  pub wide : 3 * h .steps ≤ length ms
-  pub narrow : length ps ≡ 256
+-- the answer to the question of sequence c, and the area after it, by the rank that was found
+abbrev pub AnswerFound : List ℕ → Asked → ℕ → List ℕ → ℕ → List ℕ → Type 0
+AnswerFound image q c area rank after = Answered (answer (libraryOf image) (questionBy q) c (q .fact)) area (told q rank (length area)) after
 
--- a table without a rank, which has a word for each sequence and each step
+-- an area without a rank, which has a word for each sequence and each step
+pub record RanksAsked (h : Head) (q : Asked) (T : List ℕ) : Type 0 where
+  pub room : q .none + h .steps ≤ length T
+  pub empty : (k : ℕ) → getD T k (q .none) ≡ q .none
+
+-- the areas that the answer is found in
+pub record AreasAsked (h : Head) (q : Asked) (masks callers ahead behind links : List ℕ) : Type 0 where
+  pub masks-room : 3 * h .steps ≤ length masks
+  pub masks-blank : Blank masks
+  pub callers-room : 4 * h .sequences ≤ length callers
+  pub ahead-asked : RanksAsked h q ahead
+  pub behind-asked : RanksAsked h q behind
+  pub links-asked : RanksAsked h q links
+
+-- a table without a rank, which has a word for each sequence and each step and no other
 pub record Unranked (h : Head) (q : Asked) (T : List ℕ) : Type 0 where
   pub long : length T ≡ q .none + h .steps
   pub empty : (k : ℕ) → getD T k (q .none) ≡ q .none
-
--- the three tables that the answer is found in
-abbrev pub TablesAsked : Head → Asked → List ℕ → List ℕ → List ℕ → Type 0
-TablesAsked h q stays runs links = Unranked h q stays × Unranked h q runs × Unranked h q links
 
 -- ---- the tables, whatever image they are of
 
@@ -125,3 +130,12 @@ whether q = record { first = q .first; mark = 3; fact = q .fact; none = q .none 
 pub record Marked (q : Asked) (n : ℕ) (masks blank part places ahead₀ behind₀ ahead behind : List ℕ) : Type 0 where
   pub ahead-marked : q .mark ≢ 2 → Ranked (not (q .first)) (quietly q) (whether q) n masks blank blank part places ahead₀ ahead
   pub behind-marked : q .mark ≢ 2 → Ranked (q .first) (quietly q) (whether q) n masks blank blank part places behind₀ behind
+
+-- tables of ranks from those before, and the answer by them in the area
+pub record Found (q : Asked) (n c : ℕ) (masks part places ahead₀ behind₀ links₀ area : List ℕ) (rank : ℕ) (after : List ℕ) : Type 0 where
+  pub ahead : List ℕ
+  pub behind : List ℕ
+  pub links : List ℕ
+  pub marked : Marked q n masks links₀ part places ahead₀ behind₀ ahead behind
+  pub ranked : Ranked false q q n masks ahead behind part places links₀ links
+  pub answered : Answered (answerIn q ahead behind links part places c) area (told q rank (length area)) after

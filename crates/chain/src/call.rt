@@ -1,10 +1,10 @@
 // The chain call: refusals 1 to 7 and 9 to 12, a chain, or none.
 use image::answer::Checked;
 use image::answer::Head;
+use image::word::MOST_SEQUENCES;
+use image::word::MOST_STEPS;
 use library::parts::sequences_part;
-use library::parts::steps_part;
 use link::write::write_chain;
-use outcome::table::prepare;
 use question::answer::Chained;
 use question::answer::told_of;
 use question::asked::Asked;
@@ -14,18 +14,29 @@ use question::asked::read_question;
 use rank::entry::write_step_ranks;
 use rank::pass::settle;
 use reader::check::check;
-ghost use mathlib.Core.Bool.{false};
-ghost use Prim.Native.Nat.{_+_, _*_, _≤_, _<_};
-ghost use lib.ListN.{length};
-ghost use Rattle.question.specs.Answer.{told};
-ghost use Rattle.library.specs.Library.{libraryOf};
-ghost use Rattle.settling.specs.Passes.{Blank, Complete};
-ghost use Rattle.chains.specs.Answer.{answer};
+use tables::prepare::prepare;
+use tables::size::MOST_CALLERS;
+use tables::size::MOST_MASKS;
+use tables::size::MOST_PLACES;
+use tables::size::SMALL_CALLERS;
+use tables::size::SMALL_MASKS;
+use tables::size::SMALL_SEQUENCES;
+use tables::size::SMALL_STEPS;
+use tables::size::is_small;
+ghost use mathlib.Core.Path.{_≡_};
+ghost use mathlib.Core.Bool.{true};
+ghost use Prim.Native.Nat.{_<_};
+ghost use Rattle.settling.specs.Passes.{Complete};
+ghost use Rattle.tables.specs.Tables.{isSmall};
 ghost use Rattle.rank.specs.Tables.{Steppable, Visitable, Ranked};
-ghost use Rattle.link.specs.Choice.{answerIn};
-ghost use Rattle.chain.specs.Described.{FindAsked, TablesAsked, Findable, Marked, questionBy};
+ghost use Rattle.chain.specs.Described.{FindAsked, AreasAsked, AnswerFound, Findable, Marked, Found};
 ghost use Rattle.reader.specs.Checked.{accepts};
-ghost use Rattle.question.specs.Reply.{Answered, Called};
+ghost use Rattle.question.specs.Reply.{Called};
+
+// A table of ranks has a word for each sequence, two between, and a word for each step.
+pub const SMALL_RANKS: usize = SMALL_SEQUENCES as usize + 2 + SMALL_STEPS as usize;
+
+pub const MOST_RANKS: usize = MOST_SEQUENCES as usize + 2 + MOST_STEPS as usize;
 
 // Ranks the steps by one question and the sequences by another, in a table that has no rank yet.
 fn rank(
@@ -106,23 +117,25 @@ fn mark_entries(
     }
 }
 
-// Ranks the sequences by the question and writes the chain of sequence `c`. Answers its rank.
-fn link(
+// Ranks the sequences by the question and writes the chain of sequence `c`, with the tables that a question for a touch needs. One that asks
+// for no touch is answered by the depths of the sequences that can stay untouched, and by no other table. Answers the rank.
+fn find_by(
     q: Asked,
     masks: &[u64],
-    ahead: &[u32],
-    behind: &[u32],
     part: &[u32],
     places: &[u32],
     order: &[usize],
+    ahead: &mut [u32],
+    behind: &mut [u32],
     links: &mut [u32],
     area: &mut [u32],
     n: usize,
     c: u32,
 ) -> u32
     requires { ⌜ Findable q n (now masks) (now ahead) (now behind) (now links) (now part) (now places) (now order) × (c < n) ⌝ }
-    ensures { λ r. ⌜ Ranked false q q n (now (masks .entry)) (now (ahead .entry)) (now (behind .entry)) (now (part .entry)) (now (places .entry)) (now (links .entry)) (now (links .exit)) × Answered (answerIn q (now (ahead .entry)) (now (behind .entry)) (now (links .exit)) (now (part .entry)) (now (places .entry)) c) (now (area .entry)) (told q r (length (now (area .entry)))) (now (area .exit)) ⌝ }
+    ensures { λ r. ⌜ Found q n c (now (masks .entry)) (now (part .entry)) (now (places .entry)) (now (ahead .entry)) (now (behind .entry)) (now (links .entry)) (now (area .entry)) r (now (area .exit)) ⌝ }
 {
+    mark_entries(q, masks, links, part, places, order, ahead, behind, n);
     rank(
         false,
         q,
@@ -139,128 +152,97 @@ fn link(
     write_chain(q, ahead, behind, links, part, places, area, c)
 }
 
-// So with the tables that a question for a touch needs. One that asks for no touch is answered by the depths of the sequences that can stay
-// untouched, and by no other table.
-fn find_by(
-    q: Asked,
-    masks: &[u64],
-    part: &[u32],
-    places: &[u32],
-    order: &[usize],
-    ahead: &mut [u32],
-    behind: &mut [u32],
-    links: &mut [u32],
-    area: &mut [u32],
-    n: usize,
-    c: u32,
-) -> u32
-    requires { ⌜ Findable q n (now masks) (now ahead) (now behind) (now links) (now part) (now places) (now order) × (c < n) ⌝ }
-    ensures { λ r. ⌜ Marked q n (now (masks .entry)) (now (links .entry)) (now (part .entry)) (now (places .entry)) (now (ahead .entry)) (now (behind .entry)) (now (ahead .exit)) (now (behind .exit)) × Ranked false q q n (now (masks .entry)) (now (ahead .exit)) (now (behind .exit)) (now (part .entry)) (now (places .entry)) (now (links .entry)) (now (links .exit)) × Answered (answerIn q (now (ahead .exit)) (now (behind .exit)) (now (links .exit)) (now (part .entry)) (now (places .entry)) c) (now (area .entry)) (told q r (length (now (area .entry)))) (now (area .exit)) ⌝ }
-{
-    mark_entries(q, masks, links, part, places, order, ahead, behind, n);
-    link(
-        q,
-        masks,
-        ahead,
-        behind,
-        part,
-        places,
-        order,
-        links,
-        area,
-        n,
-        c,
-    )
-}
-
-// Finds the answer to a question of sequence `c` of an accepted image, in lent areas. The masks, the places and the order of visits are made
-// first.
+// Finds the answer to a question of sequence `c` of an accepted image, in lent areas.
 fn find_in(
     h: Head,
     image: &[u32],
     q: Asked,
     c: u32,
     masks: &mut [u64],
+    callers: &mut [u64],
     ahead: &mut [u32],
     behind: &mut [u32],
     links: &mut [u32],
     area: &mut [u32],
 ) -> u32
-    requires { ⌜ FindAsked h (now image) q c × Blank (now masks) × (3 * h .steps ≤ length (now masks)) × TablesAsked h q (now ahead) (now behind) (now links) ⌝ }
-    ensures { λ r. ⌜ Answered (answer (libraryOf (now (image .entry))) (questionBy q) c (q .fact)) (now (area .entry)) (told q r (length (now (area .entry)))) (now (area .exit)) ⌝ }
+    requires { ⌜ FindAsked h (now image) q c × AreasAsked h q (now masks) (now callers) (now ahead) (now behind) (now links) ⌝ }
+    ensures { λ r. ⌜ AnswerFound (now (image .entry)) q c (now (area .entry)) r (now (area .exit)) ⌝ }
 {
-    let mut places = [0u32; 256];
-    let mut order = [0usize; 256];
+    let mut places = [0u32; MOST_PLACES];
+    let mut order = [0usize; MOST_PLACES];
     let n = h.sequences as usize;
+    let words = q.none as usize + h.steps as usize;
     let part = sequences_part(image);
-    prepare(h, steps_part(image), part, masks, &mut places, &mut order);
+    prepare(h, image, masks, &mut places, callers, &mut order);
     find_by(
         q,
         masks,
         part,
         &places,
         &order[..n],
-        ahead,
-        behind,
-        links,
+        &mut ahead[..words],
+        &mut behind[..words],
+        &mut links[..words],
         area,
         n,
         c,
     )
 }
 
-// So with small areas of its own, which have the room where there are few steps and sequences.
+// The same in small areas that have the room.
 fn find_small(h: Head, image: &[u32], q: Asked, c: u32, area: &mut [u32]) -> u32
-    requires { ⌜ FindAsked h (now image) q c × (q .none + h .steps ≤ 98) ⌝ }
-    ensures { λ r. ⌜ Answered (answer (libraryOf (now (image .entry))) (questionBy q) c (q .fact)) (now (area .entry)) (told q r (length (now (area .entry)))) (now (area .exit)) ⌝ }
+    requires { ⌜ FindAsked h (now image) q c × (isSmall h ≡ true) ⌝ }
+    ensures { λ r. ⌜ AnswerFound (now (image .entry)) q c (now (area .entry)) r (now (area .exit)) ⌝ }
 {
-    let words = q.none as usize + h.steps as usize;
-    let mut masks = [0u64; 288];
-    let mut ahead = [q.none; 98];
-    let mut behind = [q.none; 98];
-    let mut links = [q.none; 98];
+    let mut masks = [0u64; SMALL_MASKS];
+    let mut callers = [0u64; SMALL_CALLERS];
+    let mut ahead = [q.none; SMALL_RANKS];
+    let mut behind = [q.none; SMALL_RANKS];
+    let mut links = [q.none; SMALL_RANKS];
     find_in(
         h,
         image,
         q,
         c,
         &mut masks,
-        &mut ahead[..words],
-        &mut behind[..words],
-        &mut links[..words],
+        &mut callers,
+        &mut ahead,
+        &mut behind,
+        &mut links,
         area,
     )
 }
 
-// So with areas that have the room for every image.
+// The same in areas that have the room for every image.
 fn find_large(h: Head, image: &[u32], q: Asked, c: u32, area: &mut [u32]) -> u32
     requires { ⌜ FindAsked h (now image) q c ⌝ }
-    ensures { λ r. ⌜ Answered (answer (libraryOf (now (image .entry))) (questionBy q) c (q .fact)) (now (area .entry)) (told q r (length (now (area .entry)))) (now (area .exit)) ⌝ }
+    ensures { λ r. ⌜ AnswerFound (now (image .entry)) q c (now (area .entry)) r (now (area .exit)) ⌝ }
 {
-    let words = q.none as usize + h.steps as usize;
-    let mut masks = [0u64; 3072];
-    let mut ahead = [q.none; 1282];
-    let mut behind = [q.none; 1282];
-    let mut links = [q.none; 1282];
+    let mut masks = [0u64; MOST_MASKS];
+    let mut callers = [0u64; MOST_CALLERS];
+    let mut ahead = [q.none; MOST_RANKS];
+    let mut behind = [q.none; MOST_RANKS];
+    let mut links = [q.none; MOST_RANKS];
     find_in(
         h,
         image,
         q,
         c,
         &mut masks,
-        &mut ahead[..words],
-        &mut behind[..words],
-        &mut links[..words],
+        &mut callers,
+        &mut ahead,
+        &mut behind,
+        &mut links,
         area,
     )
 }
 
-// So with small areas where they have the room, since it takes time to make them. Answers the rank of the sequence.
+// Finds the answer to a question of sequence `c` of an accepted image. Answers the rank of the sequence.
 fn find(h: Head, image: &[u32], q: Asked, c: u32, area: &mut [u32]) -> u32
     requires { ⌜ FindAsked h (now image) q c ⌝ }
-    ensures { λ r. ⌜ Answered (answer (libraryOf (now (image .entry))) (questionBy q) c (q .fact)) (now (area .entry)) (told q r (length (now (area .entry)))) (now (area .exit)) ⌝ }
+    ensures { λ r. ⌜ AnswerFound (now (image .entry)) q c (now (area .entry)) r (now (area .exit)) ⌝ }
 {
-    if q.none as usize + h.steps as usize <= 98 {
+    if is_small(h) {
         return find_small(h, image, q, c, area);
     }
     find_large(h, image, q, c, area)

@@ -2,11 +2,12 @@
 -- Assumes nothing.
 use Prim.Native.Nat.{ℕ, zero, suc, _+_, _*_, _^_, _≤_, _<_}
 use native.Mathlib.Nat.{le-of-suc-le-suc, zero-add}
+use native.Mathlib.Decide.{decLt}
 use native.Mathlib.Omega.{arith}
-use mathlib.Core.Path.{_≡_, refl, ap, ap₂, _∙_}
+use mathlib.Core.Path.{_≡_, refl, sym, ap, ap₂, _∙_}
 use mathlib.Core.Bool.{Bool, true, false, cond, _||_}
 use mathlib.Core.List.{List, [], _∷_}
-use lib.ListN.{length, getD, drop}
+use lib.ListN.{length, getD, drop, List·getD-eq-default}
 use mir.Val.{boolByte}
 use Rattle.column.specs.Column.{bit}
 use Rattle.column.specs.Sets.{inColumn}
@@ -58,6 +59,28 @@ row-at (s ∷ ss) (suc a) d l =
     let k : 3 * suc a + 2 ≡ suc (suc (suc (3 * a + 2))) = omega arith in
     let ih = row-at ss a d (le-of-suc-le-suc l) in
     (rw n (ih .0), rw m (ih .1), rw k (ih .2))
+
+-- a step that names no fact
+abbrev pub noFacts : Step
+noFacts = record { needs = []; sets = []; clears = [] }
+
+-- the words of step a; past the steps, those of one that names no fact
+pub words-at : (ss : List Step) (a : ℕ)
+    → (getD (masks ss) (3 * a) 0 ≡ maskOf (getD ss a noFacts .needs))
+    × (getD (masks ss) (3 * a + 1) 0 ≡ maskOf (getD ss a noFacts .sets))
+    × (getD (masks ss) (3 * a + 2) 0 ≡ maskOf (getD ss a noFacts .clears))
+words-at ss a =
+    elim (decLt a (length ss)) [
+      | yes l ↦ row-at ss a noFacts l
+      | no l ↦
+          let past : getD ss a noFacts ≡ noFacts = List·getD-eq-default ss noFacts {n = a} (omega arith) in
+          let nothing : (k : ℕ) → 3 * length ss ≤ k → getD (masks ss) k 0 ≡ maskOf [] =
+          λ k le. List·getD-eq-default (masks ss) 0 {n = k} (omega (arith, masks-length ss)) ∙ sym mask-none in (
+            nothing (3 * a) (omega arith) ∙ ap (λ (s : Step). maskOf (s .needs)) (sym past),
+            nothing (3 * a + 1) (omega arith) ∙ ap (λ (s : Step). maskOf (s .sets)) (sym past),
+            nothing (3 * a + 2) (omega arith) ∙ ap (λ (s : Step). maskOf (s .clears)) (sym past),
+          )
+    ]
 
 -- word j, which has index p where the first word has index i, opens sequence c
 record Opens (ws : List ℕ) (i c p : ℕ) : Type 0 where

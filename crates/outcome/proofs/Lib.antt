@@ -6,6 +6,5 @@ pub mod Settled
 pub mod Filled
 pub mod Fill
 pub mod Walks
-pub mod Clear
 pub mod StepRows
 pub mod Calls

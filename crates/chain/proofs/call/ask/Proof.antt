@@ -4,7 +4,7 @@ use borrow.Author.Needs.{needs}
 use native.Mathlib.Omega.{arith}
 use mathlib.Core.Path.{sym, _∙_}
 use Rattle.chain.proofs.Calls.{in-range, call-out, find-asked, call-told}
-use Rattle.chain.proofs.Finding.{few-sequences}
+use Rattle.tables.proofs.Tables.{few-sequences}
 use Rattle.chain.proofs.call.ask.Statement.{statement}
 use Rattle.chain.proofs.call.ask.Tie as tie
 use Rattle.chain.proofs.call.ask.Reads as reads

@@ -3,32 +3,35 @@
 use borrow.Author.Needs.{needs}
 use native.Mathlib.Omega.{arith}
 use mathlib.Core.Path.{sym}
-use lib.Seq.{length-take-le}
 use lib.ListN.{length}
+use lib.Seq.{length-take-le}
 use Rattle.question.specs.Answer as words
 use Rattle.link.proofs.Writing.{answered-same}
-use Rattle.chain.proofs.Finding.{image-long, few-sequences, tables-asked, made-of, tables-findable, found-done}
+use Rattle.settling.proofs.Visits.{blank-zeros}
+use Rattle.tables.proofs.Tables.{image-long, few-sequences}
+use Rattle.chain.proofs.Finding.{ranks-long, ranks-unranked, tables-asked, masks-made, places-made, tables-findable, found-done}
 use Rattle.chain.proofs.call.find_in.Statement.{statement}
 use Rattle.chain.proofs.call.find_in.Tie as tie
 use Rattle.chain.proofs.call.find_in.Reads as reads
 use Rattle.chain.proofs.call.find_in.Lts as lts
 use Rattle.chain.proofs.call.find_by.Reads as find-by-reads
 use Rattle.library.proofs.parts.sequences_part.Reads as sequences-part-reads
-use Rattle.library.proofs.parts.steps_part.Reads as steps-part-reads
-use Rattle.outcome.proofs.table.prepare.Reads as prepare-reads
+use Rattle.tables.proofs.prepare.prepare.Reads as prepare-reads
 
 cast-n : tie.Need-cast-n
 cast-n c = search needs
 
-sequences-part-requires : tie.Need-sequences-part-requires
-sequences-part-requires c κs =
-    let start = c .before .before .before .before .before .before .before in
-    image-long (start .args .image .now) (start .args .h) (start .pre .0 .accepted)
+cast-words : tie.Need-cast-words
+cast-words c = search needs
 
-steps-part-requires : tie.Need-steps-part-requires
-steps-part-requires c κs =
-    let start = c .before .before .before .before .before .before .before .before in
-    image-long (start .args .image .now) (start .args .h) (start .pre .0 .accepted)
+cast-words-2 : tie.Need-cast-words-2
+cast-words-2 c = search needs
+
+add-words : tie.Need-add-words
+add-words c = search needs
+
+sequences-part-requires : tie.Need-sequences-part-requires
+sequences-part-requires c κs = let start = c .before .before .before .before .before .before .before .before .before .before in image-long (start .args .image .now) (start .args .h) (start .pre .0 .accepted)
 
 slice-aggregate-prepare : tie.Need-slice-aggregate-prepare
 slice-aggregate-prepare c = search needs
@@ -37,39 +40,49 @@ slice-aggregate-prepare-2 : tie.Need-slice-aggregate-prepare-2
 slice-aggregate-prepare-2 c = search needs
 
 prepare-requires : tie.Need-prepare-requires
-prepare-requires c κs =
-    let first = c .before .before .before in
-    let part = first .before in
-    let start = part .before .before .before .before .before .before .before .before in
-    let a = start .args in
-    tables-asked (a .image .now) (a .h) (start .pre .0 .accepted) _ _ _ (first .steps-part .ensures) (part .sequences-part .ensures) (start .pre .1) (start .pre .2)
+prepare-requires c κs = let start = c .before .before .before .before .before .before .before .before .before .before .before .before .before .before .before in tables-asked (start .pre .0) (start .pre .1)
 
 slice-aggregate-find-by : tie.Need-slice-aggregate-find-by
 slice-aggregate-find-by c = search needs
 
 array-share-prefix-order : tie.Need-array-share-prefix-order
-array-share-prefix-order c =
-    let prepared = c .before .before .before .before .before .before in
-    let start = prepared .before .before .before .before .before .before .before .before .before .before .before .before .before in
-    omega (arith, prepared .prepare .kept, few-sequences (start .args .image .now) (start .args .h) (start .pre .0 .accepted))
+array-share-prefix-order c = let start = c .before .before .before .before .before .before .before .before .before .before .before .before .before .before .before .before .before .before .before .before .before .before .before .before in omega (arith, c .before .before .before .before .before .before .before .before .prepare .kept, few-sequences (start .args .image .now) (start .args .h) (start .pre .0 .accepted))
 
 slice-aggregate-find-by-2 : tie.Need-slice-aggregate-find-by-2
 slice-aggregate-find-by-2 c =
-    let prepared = c .before .before .before .before .before .before .before in
-    let start = prepared .before .before .before .before .before .before .before .before .before .before .before .before .before in
-    sym (length-take-le _ _ (omega (arith, prepared .prepare .kept, few-sequences (start .args .image .now) (start .args .h) (start .pre .0 .accepted))))
+    let start = c .before .before .before .before .before .before .before .before .before .before .before .before .before .before .before .before .before .before .before .before .before .before .before .before .before in
+    sym (length-take-le _ _ (omega (arith, c .before .before .before .before .before .before .before .before .before .prepare .kept, few-sequences (start .args .image .now) (start .args .h) (start .pre .0 .accepted))))
+
+slice-relend-prefix-find-by : tie.Need-slice-relend-prefix-find-by
+slice-relend-prefix-find-by c = c .before .before .before .before .before .before .before .before .before .before .before .before .before .before .before .before .before .before .before .before .before .before .before .before .before .pre .1 .ahead-asked .room
+
+slice-aggregate-find-by-3 : tie.Need-slice-aggregate-find-by-3
+slice-aggregate-find-by-3 c = ranks-long (c .before .before .before .before .before .before .before .before .before .before .before .before .before .before .before .before .before .before .before .before .before .before .before .before .before .before .pre .1 .ahead-asked)
+
+slice-relend-prefix-find-by-2 : tie.Need-slice-relend-prefix-find-by-2
+slice-relend-prefix-find-by-2 c = c .before .before .before .before .before .before .before .before .before .before .before .before .before .before .before .before .before .before .before .before .before .before .before .before .before .before .pre .1 .behind-asked .room
+
+slice-aggregate-find-by-4 : tie.Need-slice-aggregate-find-by-4
+slice-aggregate-find-by-4 c = ranks-long (c .before .before .before .before .before .before .before .before .before .before .before .before .before .before .before .before .before .before .before .before .before .before .before .before .before .before .before .pre .1 .behind-asked)
+
+slice-relend-prefix-find-by-3 : tie.Need-slice-relend-prefix-find-by-3
+slice-relend-prefix-find-by-3 c = c .before .before .before .before .before .before .before .before .before .before .before .before .before .before .before .before .before .before .before .before .before .before .before .before .before .before .before .pre .1 .links-asked .room
+
+slice-aggregate-find-by-5 : tie.Need-slice-aggregate-find-by-5
+slice-aggregate-find-by-5 c = ranks-long (c .before .before .before .before .before .before .before .before .before .before .before .before .before .before .before .before .before .before .before .before .before .before .before .before .before .before .before .before .pre .1 .links-asked)
 
 find-by-requires : tie.Need-find-by-requires
 find-by-requires c κs =
-    let prepared = c .before .before .before .before .before .before .before .before .before .before .before in
-    let first = prepared .before .before .before .before in
-    let part = first .before in
-    let start = part .before .before .before .before .before .before .before .before in
-    let a = start .args in
+    let made = c .before .before .before .before .before .before .before .before .before .before .before .before .before in
+    let part = made .before .before .before .before .before in
+    let start = part .before .before .before .before .before .before .before .before .before .before .before in
     let asked = start .pre .0 in
-    let tables = start .pre .3 in
-    let made = made-of (a .image .now) (a .h) _ _ _ _ _ (first .steps-part .ensures) (part .sequences-part .ensures) (start .pre .1) (start .pre .2) (prepared .prepare .ensures .0) (omega (arith, prepared .prepare .kept)) (omega (arith, prepared .prepare .kept)) in
-    (tables-findable (a .image .now) (a .h) (asked .accepted) _ _ made _ (part .sequences-part .ensures) (a .q) (asked .fact) (asked .none) _ _ _ _ (tables .0 .long) (tables .1 .long) (tables .2 .long) (omega (arith, asked .sequence)) (prepared .prepare .ensures .1), asked .sequence)
+    let areas = start .pre .1 in (
+      tables-findable (asked .accepted) (made .prepare .ensures) (part .sequences-part .ensures) asked (ranks-unranked (areas .ahead-asked)) (ranks-unranked (areas .behind-asked))
+          (ranks-unranked (areas .links-asked)) (blank-zeros 256) (omega (arith, made .prepare .kept, areas .masks-room))
+          (omega (arith, made .prepare .kept, few-sequences (start .args .image .now) (start .args .h) (asked .accepted))),
+      asked .sequence,
+    )
 
 same-length : tie.Need-same-length
 same-length c = search needs
@@ -86,39 +99,51 @@ same-length-4 c = search needs
 same-length-5 : tie.Need-same-length-5
 same-length-5 c = search needs
 
+same-length-6 : tie.Need-same-length-6
+same-length-6 c = search needs
+
 returns : tie.Need-returns
 returns c =
     let found = c .before .before .before .before .before .before .before .before in
-    let prepared = found .before .before .before .before .before .before .before .before .before .before .before .before in
-    let first = prepared .before .before .before .before in
-    let part = first .before in
-    let start = part .before .before .before .before .before .before .before .before in
+    let made = found .before .before .before .before .before .before .before .before .before .before .before .before .before .before in
+    let part = made .before .before .before .before .before in
+    let start = part .before .before .before .before .before .before .before .before .before .before .before in
     let a = start .args in
     let asked = start .pre .0 in
-    let tables = start .pre .3 in
-    let made = made-of (a .image .now) (a .h) _ _ _ _ _ (first .steps-part .ensures) (part .sequences-part .ensures) (start .pre .1) (start .pre .2) (prepared .prepare .ensures .0) (omega (arith, prepared .prepare .kept)) (omega (arith, prepared .prepare .kept)) in
-    let told = found .find-by .ensures in
+    let areas = start .pre .1 in
+    let by = found .find-by .ensures in
     answered-same {found = words.told (a .q) (found .find-by .result) (length (a .area .now))}
-    (found-done (a .image .now) (a .h) (asked .accepted) _ _ made _ (part .sequences-part .ensures) (a .q) (a .c) asked _ _ _ _ (tables .2) (told .1) _ _ (tables .0) (tables .1) (told .0))
-    (told .2)
+    (found-done (a .image .now) (a .h) (asked .accepted) _ _ _ (masks-made (asked .accepted) (made .prepare .ensures) (part .sequences-part .ensures) (areas .masks-blank))
+    (places-made (asked .accepted) (made .prepare .ensures) (part .sequences-part .ensures)) (a .q) (a .c) asked _ _ _ _ (ranks-unranked (areas .links-asked)) (by .ranked) _ _
+    (ranks-unranked (areas .ahead-asked)) (ranks-unranked (areas .behind-asked)) (by .marked))
+    (by .answered)
 
 pub find-in-spec : {M : Type 1} → statement M
 find-in-spec =
     tie.close
     (tie.spec
     cast-n
+    cast-words
+    cast-words-2
+    add-words
     sequences-part-requires
-    steps-part-requires
     slice-aggregate-prepare
     slice-aggregate-prepare-2
     prepare-requires
     slice-aggregate-find-by
     array-share-prefix-order
     slice-aggregate-find-by-2
+    slice-relend-prefix-find-by
+    slice-aggregate-find-by-3
+    slice-relend-prefix-find-by-2
+    slice-aggregate-find-by-4
+    slice-relend-prefix-find-by-3
+    slice-aggregate-find-by-5
     find-by-requires
     same-length
     same-length-2
     same-length-3
     same-length-4
     same-length-5
+    same-length-6
     returns)

@@ -1,7 +1,6 @@
 -- `chain::call::mark_entries` meets its contract, by that of the ranks.
 -- Assumes nothing.
 use borrow.Author.Needs.{needs}
-use native.Mathlib.Omega.{arith}
 use Rattle.chain.proofs.Finding.{mark-asked}
 use Rattle.chain.proofs.call.mark_entries.Statement.{statement}
 use Rattle.chain.proofs.call.mark_entries.Tie as tie

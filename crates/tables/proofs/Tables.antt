@@ -1,0 +1,146 @@
+-- The tables of an accepted image: what their makers ask, and what the tables say where they are looked up.
+-- Assumes nothing.
+use Prim.Native.Nat.{ℕ, zero, suc, _+_, _*_, _≤_, _<_}
+use native.Mathlib.Decide.{decLt}
+use native.Mathlib.Omega.{arith}
+use mathlib.Core.Path.{_≡_, refl, sym, ap, _∙_, subst}
+use mathlib.Core.Bool.{true}
+use mathlib.Core.List.{List, [], _∷_, _++_}
+use lib.ListN.{length, getD, take, drop, replicate, length-replicate, List·getD-append, List·getD-eq-default}
+use lib.Seq.{getD-drop}
+use lib.Dec.{leb}
+use borrow.Author.Tests.{leb-true}
+use Rattle.general.proofs.Bools.{and-parts}
+use Rattle.image.specs.declared.answer.Head.{Head}
+use Rattle.reader.specs.Checked.{accepts}
+use Rattle.rules.specs.Rules.{opened}
+use Rattle.library.specs.Library.{Library, Step, stepsFrom, sequencesFrom, stepsPart, sequencesPart, libraryOf}
+use Rattle.library.specs.Tables.{StepsAsked, SequencesAsked, maskOf, masks, placesFrom}
+use Rattle.library.proofs.Accepted.{faultless, parts, library-is}
+use Rattle.library.proofs.Lookup.{noFacts, words-at, Placed, place-at, places-length}
+use Rattle.settling.specs.Passes.{Blank, Complete}
+use Rattle.settling.specs.Stale.{CallersWritten}
+use Rattle.tables.specs.Tables.{smallSteps, smallSequences, isSmall, TablesAsked, Prepared}
+
+-- ---- the size of an image
+
+pub small-steps : (h : Head) → isSmall h ≡ true → h .steps ≤ smallSteps
+small-steps h e = leb-true (h .steps) smallSteps (and-parts (leb (h .steps) smallSteps) (leb (h .sequences) smallSequences) e .0)
+
+pub small-sequences : (h : Head) → isSmall h ≡ true → h .sequences ≤ smallSequences
+small-sequences h e = leb-true (h .sequences) smallSequences (and-parts (leb (h .steps) smallSteps) (leb (h .sequences) smallSequences) e .1)
+
+module _ (image : List ℕ) (h : Head) (accepted : accepts image h) where
+  pub image-long : 2 ≤ length image
+  image-long = faultless image h accepted .low
+
+  pub few-steps : h .steps ≤ 1024
+  few-steps = faultless image h accepted .steps-high
+
+  pub few-sequences : h .sequences ≤ 256
+  few-sequences = faultless image h accepted .sequences-high
+
+  -- areas of zeros for so many steps and sequences
+  pub areas-asked : (steps sequences : ℕ) → h .steps ≤ steps → h .sequences ≤ sequences
+      → TablesAsked h image (replicate (3 * steps) 0) (replicate sequences 0) (replicate (4 * sequences) 0) (replicate sequences 0)
+  areas-asked steps sequences a c =
+      record {
+        accepted = accepted;
+        masks-room = omega (arith, length-replicate {A = ℕ} (3 * steps) 0);
+        places-room = omega (arith, length-replicate {A = ℕ} sequences 0);
+        callers-room = omega (arith, length-replicate {A = ℕ} (4 * sequences) 0);
+        order-room = omega (arith, length-replicate {A = ℕ} sequences 0);
+      }
+
+-- ---- what the makers ask, and what they have made
+
+module _ {h : Head} {image ms₀ ps₀ callers₀ order₀ : List ℕ} (asked : TablesAsked h image ms₀ ps₀ callers₀ order₀) where
+  pub steps-asked : {first : List ℕ} → first ≡ stepsPart image → StepsAsked h first ms₀
+  steps-asked e =
+      let p = parts image h (asked .accepted) in
+      subst (λ (x : List ℕ). StepsAsked h x ms₀) (sym e)
+      (record {
+        facts = faultless image h (asked .accepted) .facts-high;
+        words = p .steps;
+        numbered = p .steps-numbered;
+        opened = p .steps-opened;
+        room = asked .masks-room;
+      })
+
+  pub sequences-asked : {part : List ℕ} → part ≡ sequencesPart image → SequencesAsked h part ps₀
+  sequences-asked e =
+      let p = parts image h (asked .accepted) in
+      subst (λ (x : List ℕ). SequencesAsked h x ps₀) (sym e)
+      (record { short = p .sequences-short; numbered = p .sequences-numbered; opened = p .sequences-opened; room = asked .places-room })
+
+  pub prepared : {first part ms ps callers order : List ℕ} → first ≡ stepsPart image → part ≡ sequencesPart image
+      → ms ≡ masks (stepsFrom first) ++ drop (3 * h .steps) ms₀ → ps ≡ placesFrom 0 part ++ drop (h .sequences) ps₀
+      → CallersWritten (h .sequences) part ps callers → Complete (take (h .sequences) order) (h .sequences) → Prepared h image ms₀ ps₀ ms ps callers order
+  prepared {ps = ps} {callers = callers} first part masked placed called complete =
+      record {
+        masked = masked ∙ ap (λ (x : List Step). masks x ++ drop (3 * h .steps) ms₀) (ap stepsFrom first ∙ ap (λ (L : Library). L .steps) (sym (library-is image h (asked .accepted))));
+        placed = placed ∙ ap (λ (x : List ℕ). placesFrom 0 x ++ drop (h .sequences) ps₀) part;
+        called = subst (λ (x : List ℕ). CallersWritten (h .sequences) x ps callers) part called;
+        complete = complete;
+      }
+
+-- ---- the tables, where they are looked up
+
+-- a table in an area that was blank, at any index
+past-blank : (xs rest : List ℕ) → Blank rest → (k : ℕ) → getD (xs ++ rest) k 0 ≡ getD xs k 0
+past-blank [] rest blank k = blank k
+past-blank (x ∷ xs) rest blank zero = refl
+past-blank (x ∷ xs) rest blank (suc k) = past-blank xs rest blank k
+
+blank-drop : (n : ℕ) (zeros : List ℕ) → Blank zeros → Blank (drop n zeros)
+blank-drop n zeros blank k = getD-drop n zeros k 0 ∙ blank (n + k)
+
+module _ {h : Head} {image ms₀ ps₀ ms ps callers order : List ℕ} (accepted : accepts image h) (made : Prepared h image ms₀ ps₀ ms ps callers order) where
+  -- the masks of step a, by a blank area; past the steps, those of one that names no fact
+  pub step-masks : Blank ms₀ → (a : ℕ)
+      → (getD ms (3 * a) 0 ≡ maskOf (getD (libraryOf image .steps) a noFacts .needs))
+      × (getD ms (3 * a + 1) 0 ≡ maskOf (getD (libraryOf image .steps) a noFacts .sets))
+      × (getD ms (3 * a + 2) 0 ≡ maskOf (getD (libraryOf image .steps) a noFacts .clears))
+  step-masks blank a =
+      let ss = libraryOf image .steps in
+      let word : (k : ℕ) → getD ms k 0 ≡ getD (masks ss) k 0 =
+      λ k. ap (λ (x : List ℕ). getD x k 0) (made .masked) ∙ past-blank (masks ss) _ (blank-drop (3 * h .steps) ms₀ blank) k in
+      let words = words-at ss a in
+      (word (3 * a) ∙ words .0, word (3 * a + 1) ∙ words .1, word (3 * a + 2) ∙ words .2)
+
+  module _ {part : List ℕ} (sequences : part ≡ sequencesPart image) where
+    opened-is : opened 6 part ≡ h .sequences
+    opened-is = ap (opened 6) sequences ∙ parts image h accepted .sequences-opened
+
+    -- the library's sequences stand in the part
+    pub sequences-are : libraryOf image .sequences ≡ sequencesFrom part
+    sequences-are = ap (λ (L : Library). L .sequences) (library-is image h accepted) ∙ ap sequencesFrom (sym sequences)
+
+    places-are : ps ≡ placesFrom 0 part ++ drop (h .sequences) ps₀
+    places-are = made .placed ∙ ap (λ (x : List ℕ). placesFrom 0 x ++ drop (h .sequences) ps₀) (sym sequences)
+
+    -- the place of sequence c
+    pub place-is : (c : ℕ) → c < h .sequences → Placed part c (getD ps c 0)
+    place-is c l =
+        let count = opened-is in
+        let word : getD ps c 0 ≡ getD (placesFrom 0 part) c 0 =
+        ap (λ (x : List ℕ). getD x c 0) places-are
+        ∙ List·getD-append (placesFrom 0 part) (drop (h .sequences) ps₀) 0 c (omega (arith, places-length 0 part)) in
+        subst (Placed part c) (sym word) (place-at part c (omega arith))
+
+    -- by a blank area no place is past the part, whatever its index
+    pub place-within : Blank ps₀ → 0 < h .sequences → (c : ℕ) → getD ps c 0 < length part
+    place-within blank some c =
+        elim (decLt c (h .sequences)) [
+          | yes l ↦ place-is c l .within
+          | no l ↦
+              let count = opened-is in
+              let word : getD ps c 0 ≡ 0 =
+              ap (λ (x : List ℕ). getD x c 0) places-are ∙ past-blank (placesFrom 0 part) _ (blank-drop (h .sequences) ps₀ blank) c
+              ∙ List·getD-eq-default (placesFrom 0 part) 0 {n = c} (omega (arith, places-length 0 part)) in
+              omega (arith, place-is 0 some .within)
+        ]
+
+    -- each sequence is among the callers of those that it calls
+    pub called-in : CallersWritten (h .sequences) part ps callers
+    called-in = subst (λ (x : List ℕ). CallersWritten (h .sequences) x ps callers) (sym sequences) (made .called)

@@ -1,0 +1,41 @@
+-- What every call starts from: the tables that are made of an accepted image, and the areas that are lent for them.
+use Prim.Native.Nat.{ℕ, _*_, _≤_}
+use mathlib.Core.Path.{_≡_}
+use mathlib.Core.Bool.{Bool, _&&_}
+use mathlib.Core.List.{List, _++_}
+use lib.ListN.{length, take, drop}
+use lib.Dec.{leb}
+use Rattle.reader.specs.Checked.{accepts}
+use Rattle.library.specs.Library.{libraryOf, sequencesPart}
+use Rattle.library.specs.Tables.{masks, placesFrom}
+use Rattle.settling.specs.Passes.{Complete}
+use Rattle.settling.specs.Stale.{CallersWritten}
+use Rattle.image.specs.declared.answer.Head.{Head}
+
+-- the steps and the sequences that small areas have room for
+abbrev pub smallSteps : ℕ
+smallSteps = 64
+
+abbrev pub smallSequences : ℕ
+smallSequences = 32
+
+-- the head counts no more
+abbrev pub isSmall : Head → Bool
+isSmall h = leb (h .steps) smallSteps && leb (h .sequences) smallSequences
+
+-- what is asked: an accepted image, and room for three masks a step, a place of each sequence, four words a sequence for its callers, and a
+-- number of each sequence
+pub record TablesAsked (h : Head) (image ms ps callers order : List ℕ) : Type 0 where
+  pub accepted : accepts image h
+  pub masks-room : 3 * h .steps ≤ length ms
+  pub places-room : h .sequences ≤ length ps
+  pub callers-room : 4 * h .sequences ≤ length callers
+  pub order-room : h .sequences ≤ length order
+
+-- what is written, from the areas before on: the masks are those of the library's steps and the places those of its sequences, and words past
+-- them stay; each sequence is among the callers of those that it calls; the order names each sequence
+pub record Prepared (h : Head) (image ms₀ ps₀ ms ps callers order : List ℕ) : Type 0 where
+  pub masked : ms ≡ masks (libraryOf image .steps) ++ drop (3 * h .steps) ms₀
+  pub placed : ps ≡ placesFrom 0 (sequencesPart image) ++ drop (h .sequences) ps₀
+  pub called : CallersWritten (h .sequences) (sequencesPart image) ps callers
+  pub complete : Complete (take (h .sequences) order) (h .sequences)
