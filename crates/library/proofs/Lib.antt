@@ -1,6 +1,6 @@
-pub mod Accepted
 pub mod Decode
-pub mod Rows
 pub mod Seam
+pub mod Accepted
 pub mod Lookup
+pub mod Rows
 pub mod Sizes

@@ -11,7 +11,7 @@ use lib.Seq.{drop-cons, drop-length, take-length, take-suc}
 use borrow.Author.Tests.{eqb-false}
 use mir.Val.{boolByte}
 use Rattle.column.specs.Column.{withFact}
-use Rattle.column.proofs.Bits.{column-with, column-none}
+use Rattle.column.proofs.Bits.{column-with}
 use Rattle.image.specs.Word.{kind, payload, isKind}
 use Rattle.rules.specs.Rules.{opened}
 use Rattle.library.specs.Library.{has, Step, factsFrom, stepsFrom}
@@ -22,6 +22,7 @@ use Rattle.library.specs.Tables.{maskOf, masks, placesFrom, masksFrom, w
 use Rattle.image.specs.declared.answer.Head.{Head}
 use Rattle.library.specs.declared.tables.Masks.{Masks}
 use Rattle.library.proofs.Decode.{is, kind-is, steps-open, steps-skip, facts-here, facts-other, facts-end}
+use Rattle.library.proofs.Lookup.{mask-none}
 use Rattle.reader.proofs.Walk.{opened-snoc}
 
 -- ---- lists
@@ -63,10 +64,6 @@ opened-within : (k j : ℕ) (ws : List ℕ) → opened k (take j ws) ≤ opened 
 opened-within k j ws = omega (arith, opened-append k (take j ws) (drop j ws), ap (opened k) (take-append-drop j ws))
 
 -- ---- masks
-
-mask-none : maskOf [] ≡ 0
-unfolding maskOf has
-mask-none = column-none 64
 
 mask-cons : (f : ℕ) (fs : List ℕ) → f < 64 → withFact (maskOf fs) f ≡ maskOf (f ∷ fs)
 unfolding maskOf has

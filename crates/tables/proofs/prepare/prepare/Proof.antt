@@ -36,7 +36,7 @@ write-places-requires c κs = sequences-asked (c .before .before .before .before
 write-callers-requires : tie.Need-write-callers-requires
 write-callers-requires c κs =
     let start = c .before .before .before .before .before .before .before .before .before .before .before .before .before .before .before .before .before .before in
-    (few-sequences (start .args .image .now) (start .args .h) (start .pre .accepted), omega (arith, c .before .before .before .before .write-places .kept, start .pre .places-room))
+    (omega (arith, few-sequences (start .args .image .now) (start .args .h) (start .pre .accepted)), omega (arith, c .before .before .before .before .write-places .kept, start .pre .places-room))
 
 visiting-order-requires : tie.Need-visiting-order-requires
 visiting-order-requires c κs = let start = c .before .before .before .before .before .before .before .before .before .before .before .before .before .before .before .before .before .before .before .before .before .before .before in (few-sequences (start .args .image .now) (start .args .h) (start .pre .accepted), start .pre .order-room)
