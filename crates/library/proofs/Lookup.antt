@@ -40,13 +40,13 @@ unfolding maskOf
 mask-lt facts = column-lt 64 (λ (g : ℕ). has g facts)
 
 -- three words a step
-pub masks-length : (ss : List Step) → length (masks ss) ≡ 3 * length ss
+masks-length : (ss : List Step) → length (masks ss) ≡ 3 * length ss
 unfolding masks
 masks-length [] = refl
 masks-length (s ∷ ss) = omega (arith, masks-length ss)
 
 -- the words of step a
-pub row-at : (ss : List Step) (a : ℕ) (d : Step) → a < length ss
+row-at : (ss : List Step) (a : ℕ) (d : Step) → a < length ss
     → (getD (masks ss) (3 * a) 0 ≡ maskOf (getD ss a d .needs))
     × (getD (masks ss) (3 * a + 1) 0 ≡ maskOf (getD ss a d .sets))
     × (getD (masks ss) (3 * a + 2) 0 ≡ maskOf (getD ss a d .clears))

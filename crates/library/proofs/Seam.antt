@@ -63,6 +63,16 @@ pub passed-end : (ws : List ℕ) (i : ℕ) → i ≡ length ws → Passed ws i �
 unfolding beforeSequences
 passed-end ws i e passed = omega (arith, passed .before, ap (λ (x : List ℕ). length (beforeSequences x)) (ap (λ (n : ℕ). drop n ws) e ∙ drop-length ws))
 
+-- where the second part has so many words, the first has the others
+module _ (image ws : List ℕ) (same : ws ≡ between image) (after : ℕ) (rest : after ≡ length (sequencesPart image)) where
+  pub rest-within : after ≤ length ws
+  unfolding sequencesPart
+  rest-within = omega (arith, ap length (parts-joined ws), length-append (beforeSequences ws) (fromSequences ws), ap (λ (x : List ℕ). length (fromSequences x)) same)
+
+  pub seam-at : length ws - after ≡ length (beforeSequences ws)
+  unfolding sequencesPart
+  seam-at = omega (arith, ap length (parts-joined ws), length-append (beforeSequences ws) (fromSequences ws), ap (λ (x : List ℕ). length (fromSequences x)) same)
+
 -- the two slices that meet after r words
 module _ (image ws : List ℕ) (r : ℕ) (same : ws ≡ between image) (at : r ≡ length (beforeSequences ws)) where
   pub seam-within : (r ≤ length ws) × (r ≤ length image)

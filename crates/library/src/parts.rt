@@ -58,16 +58,6 @@ fn words_between(image: &[u32]) -> &[u32]
     &image[1..last]
 }
 
-// The steps' part, from the word after the head.
-pub fn steps_part(image: &[u32]) -> &[u32]
-    requires { ⌜ 2 ≤ length (now image) ⌝ }
-    ensures { λ r. ⌜ now r ≡ stepsPart (now (image .entry)) ⌝ }
-{
-    let words = words_between(image);
-    let at = first_sequence(words);
-    &words[..at]
-}
-
 // The sequences' part, from the first sequence.
 pub fn sequences_part(image: &[u32]) -> &[u32]
     requires { ⌜ 2 ≤ length (now image) ⌝ }
@@ -76,4 +66,14 @@ pub fn sequences_part(image: &[u32]) -> &[u32]
     let words = words_between(image);
     let at = first_sequence(words);
     &words[at..]
+}
+
+// The steps' part, from the word after the head: what is left where the sequences' part has so many words.
+pub fn steps_part(image: &[u32], after: usize) -> &[u32]
+    requires { ⌜ (2 ≤ length (now image)) × (after ≡ length (sequencesPart (now image))) ⌝ }
+    ensures { λ r. ⌜ now r ≡ stepsPart (now (image .entry)) ⌝ }
+{
+    let words = words_between(image);
+    let at = words.len() - after;
+    &words[..at]
 }

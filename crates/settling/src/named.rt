@@ -1,4 +1,5 @@
 // Orders of visits: whether an order names every number, which is tested at run time, and the turns in it and against it.
+use image::word::MOST_SEQUENCES;
 ghost use mathlib.Core.Path.{_≡_};
 ghost use mathlib.Core.Bool.{true, false};
 ghost use Prim.Native.Nat.{_+_, _≤_, _<_};
@@ -47,7 +48,7 @@ fn all_marked(seen: &[u32], n: usize) -> bool
 pub fn complete(order: &[usize], n: usize) -> bool
     ensures { λ r. ⌜ (r ≡ true → Complete (now (order .entry)) n) ⌝ }
 {
-    let mut seen = [0u32; 256];
+    let mut seen = [0u32; MOST_SEQUENCES as usize];
     mark(order, &mut seen);
     all_marked(&seen, n)
 }

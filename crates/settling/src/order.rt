@@ -5,6 +5,7 @@ use crate::callers::is_stale;
 use crate::callers::remove;
 use crate::named::complete;
 use crate::named::write_numbers;
+use image::word::MOST_SEQUENCES;
 ghost use mathlib.Core.Path.{_≡_};
 ghost use Prim.Native.Nat.{_+_, _*_, _≤_, _<_};
 ghost use lib.ListN.{length, set, take};
@@ -155,7 +156,7 @@ pub fn visiting_order(callers: &[u64], order: &mut [usize], n: usize)
     requires { ⌜ (n ≤ 256) × (n ≤ length (now order)) ⌝ }
     ensures { λ _. ⌜ Complete (take n (now (order .exit))) n ⌝ }
 {
-    let mut stack = [0usize; 256];
+    let mut stack = [0usize; MOST_SEQUENCES as usize];
     finishing_order(callers, &mut stack, order, n);
     if complete(&order[..n], n) {
         return;

@@ -1,4 +1,4 @@
-// What every call starts from, made of an accepted image in lent areas: the steps' masks, the sequences' places, which sequences call which, and
-// an order of visits. And how large the areas are.
+// What every call starts from: the masks of the steps, the places of the sequences, which of them call which and an order of visits, made of an
+// accepted image in areas of two sizes.
 pub mod prepare;
 pub mod size;

@@ -22,7 +22,7 @@ pub fn prepare(
 {
     let n = h.sequences as usize;
     let part = sequences_part(image);
-    write_masks(h, steps_part(image), masks);
+    write_masks(h, steps_part(image, part.len()), masks);
     write_places(h, part, places);
     write_callers(part, places, callers, n);
     visiting_order(callers, order, n);

@@ -1,33 +1,32 @@
--- `library::parts::steps_part` meets its contract.
+-- `library::parts::steps_part` meets its contract: the first part has the words that the second has not.
 -- Assumes nothing.
 use borrow.Author.Needs.{needs}
+use native.Mathlib.Omega.{arith}
 use mathlib.Core.Path.{sym}
 use lib.Seq.{length-take-le}
-use Rattle.library.proofs.Seam.{seam-within, first-part}
+use Rattle.library.proofs.Seam.{rest-within, seam-at, first-part}
 use Rattle.library.proofs.parts.steps_part.Statement.{statement}
 use Rattle.library.proofs.parts.steps_part.Tie as tie
 use Rattle.library.proofs.parts.steps_part.Reads as reads
 use Rattle.library.proofs.parts.steps_part.Lts as lts
-use Rattle.library.proofs.parts.first_sequence.Reads as first-sequence-reads
 use Rattle.library.proofs.parts.words_between.Reads as words-between-reads
 
 words-between-requires : tie.Need-words-between-requires
 words-between-requires c κs = search needs
 
-first-sequence-requires : tie.Need-first-sequence-requires
-first-sequence-requires c κs = search needs
+sub-at : tie.Need-sub-at
+sub-at c = let start = c .before .before in rest-within (start .args .image .now) _ (c .words-between .ensures) (start .args .after) (start .pre .1)
 
 slice-aggregate-result : tie.Need-slice-aggregate-result
-slice-aggregate-result c =
-    let words = c .before .before in
-    sym (length-take-le _ _ (seam-within (words .before .before .args .image .now) (words .words-between .result .now) (c .before .first-sequence .result) (words .words-between .ensures) (c .before .first-sequence .ensures) .0))
+slice-aggregate-result c = sym (length-take-le _ _ (omega arith))
 
 returns : tie.Need-returns
 returns c =
-    let words = c .before .before in
-    first-part (words .before .before .args .image .now) _ _ (words .words-between .ensures) (c .before .first-sequence .ensures)
+    let words = c .before .words-between in
+    let start = c .before .before .before in
+    let image = start .args .image .now in
+    first-part image _ _ (words .ensures) (seam-at image _ (words .ensures) (start .args .after) (start .pre .1))
 
 pub steps-part-spec : {M : Type 1} → statement M
 steps-part-spec =
-    tie.close
-    (tie.spec words-between-requires first-sequence-requires slice-aggregate-result returns)
+    tie.close (tie.spec words-between-requires sub-at slice-aggregate-result returns)

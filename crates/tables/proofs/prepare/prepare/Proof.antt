@@ -2,6 +2,8 @@
 -- Assumes nothing.
 use borrow.Author.Needs.{needs}
 use native.Mathlib.Omega.{arith}
+use mathlib.Core.Path.{ap}
+use lib.ListN.{length}
 use Rattle.tables.proofs.Tables.{image-long, few-sequences, steps-asked, sequences-asked, prepared}
 use Rattle.tables.proofs.prepare.prepare.Statement.{statement}
 use Rattle.tables.proofs.prepare.prepare.Tie as tie
@@ -21,7 +23,9 @@ sequences-part-requires : tie.Need-sequences-part-requires
 sequences-part-requires c κs = let start = c .before .before .before .before .before .before in image-long (start .args .image .now) (start .args .h) (start .pre .accepted)
 
 steps-part-requires : tie.Need-steps-part-requires
-steps-part-requires c κs = let start = c .before .before .before .before .before .before .before in image-long (start .args .image .now) (start .args .h) (start .pre .accepted)
+steps-part-requires c κs =
+    let start = c .before .before .before .before .before .before .before in
+    (image-long (start .args .image .now) (start .args .h) (start .pre .accepted), ap length (c .sequences-part .ensures))
 
 write-masks-requires : tie.Need-write-masks-requires
 write-masks-requires c κs = steps-asked (c .before .before .before .before .before .before .before .before .before .pre) (c .before .steps-part .ensures)
@@ -32,7 +36,7 @@ write-places-requires c κs = sequences-asked (c .before .before .before .before
 write-callers-requires : tie.Need-write-callers-requires
 write-callers-requires c κs =
     let start = c .before .before .before .before .before .before .before .before .before .before .before .before .before .before .before .before .before .before in
-    (few-sequences (start .args .image .now) (start .args .h) (start .pre .accepted), omega (arith, c .before .before .before .before .write-places .kept, start .pre .places-room))
+    (omega (arith, few-sequences (start .args .image .now) (start .args .h) (start .pre .accepted)), omega (arith, c .before .before .before .before .write-places .kept, start .pre .places-room))
 
 visiting-order-requires : tie.Need-visiting-order-requires
 visiting-order-requires c κs = let start = c .before .before .before .before .before .before .before .before .before .before .before .before .before .before .before .before .before .before .before .before .before .before .before in (few-sequences (start .args .image .now) (start .args .h) (start .pre .accepted), start .pre .order-room)
