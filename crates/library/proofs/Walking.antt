@@ -1,6 +1,6 @@
 -- The words of a sequence at an index: one word more of entries and of alternatives, where the entries of an alternative end, and the
 -- loops over them. There is one record for a loop over the entries of an alternative and one for a loop over the alternatives of a sequence:
--- what the loop makes of those that are left is the whole. Each has laws for the start, a turn and the way out.
+-- what the loop makes of those that are left is the whole. Each has laws for the start, a turn and the ways out.
 -- Assumes nothing.
 use Prim.Native.Nat.{ℕ, zero, suc, _+_, _-_, _≤_, _<_}
 use native.Mathlib.Decide.{decLt}
@@ -90,7 +90,7 @@ module _ (part : List ℕ) (at : ℕ) where
 
 -- ---- a loop over the entries of an alternative, which stand from index `at` on
 
--- at the head, with the entries from i on left
+-- at the head, with the entries from i on left: they are those that are left of all, and end where all end
 pub record Folding (part : List ℕ) {R : Type 0} (whole : R) (at : ℕ) (rest : List Entry → R) (i : ℕ) : Type 0 where
   pub low : at ≤ i
   pub within : i ≤ length part
@@ -117,6 +117,7 @@ module _ {part : List ℕ} {R : Type 0} {whole : R} {at : ℕ} {rest : List Entr
     next-entry =
         drop-next (entriesFrom (drop at part)) (i - at) (entryOf (getD part i 0)) (entriesFrom (drop (i + 1) part)) (here .passed ∙ entries-at part i true e)
 
+    -- it is one of the words
     pub folding-inside : i < length part
     folding-inside = entry-inside part i e
 
@@ -156,9 +157,17 @@ pub record Walking (part : List ℕ) {R : Type 0} (whole : R) (rest : List Alter
   pub within : i ≤ length part
   pub same : rest (alternativesFrom (drop i part)) ≡ whole
 
+pub walking-start : {part : List ℕ} {R : Type 0} {whole : R} {rest : List Alternative → R} {at : ℕ} → at ≤ length part
+    → rest (alternativesFrom (drop at part)) ≡ whole → Walking part whole rest at
+walking-start l same = record { within = l; same = same }
+
 module _ {part : List ℕ} {R : Type 0} {whole : R} {rest : List Alternative → R} {i : ℕ} (here : Walking part whole rest i) where
-  pub walking-inside : isKind 7 (getD part i 0) ≡ true → i < length part
-  walking-inside = opener-inside part i
+  -- a word that opens an alternative or is an entry is one of the words
+  pub walking-opener-inside : isKind 7 (getD part i 0) ≡ true → i < length part
+  walking-opener-inside = opener-inside part i
+
+  pub walking-entry-inside : isEntry (getD part i 0) ≡ true → i < length part
+  walking-entry-inside = entry-inside part i
 
   -- the alternative that stands here, and those after it
   pub walking-here : isKind 7 (getD part i 0) ≡ true → rest (entriesFrom (drop (i + 1) part) ∷ alternativesFrom (drop (i + 1) part)) ≡ whole
@@ -175,9 +184,6 @@ module _ {part : List ℕ} {R : Type 0} {whole : R} {rest : List Alternative →
       }
 
   -- an entry
-  pub walking-within : isEntry (getD part i 0) ≡ true → i < length part
-  walking-within = entry-inside part i
-
   pub walking-skip : isKind 7 (getD part i 0) ≡ false → isEntry (getD part i 0) ≡ true → Walking part whole rest (i + 1)
   walking-skip e f =
       record { within = omega (arith, entry-inside part i f); same = sym (ap rest (alternatives-at part i false true e f)) ∙ here .same }

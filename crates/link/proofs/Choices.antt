@@ -22,7 +22,7 @@ use Rattle.link.specs.Choice.{linkIn, Chosen}
 use Rattle.rank.specs.declared.entry.Traits.{Traits}
 use Rattle.rank.specs.declared.read.Read.{Read}
 use Rattle.library.proofs.Walking.{Folding, folding-start, folding-inside, folding-turn, folding-read, folding-entry, folding-out, folding-end}
-use Rattle.library.proofs.Walking.{Walking, walking-inside, walking-here, walking-turn, walking-skip, walking-out}
+use Rattle.library.proofs.Walking.{Walking, walking-start, walking-opener-inside, walking-here, walking-turn, walking-skip, walking-out}
 use Rattle.rank.proofs.Walk.{tail-from}
 
 -- ---- the index from which on all entries pass
@@ -160,7 +160,7 @@ module _ (none : ℕ) (ahead behind ranks part : List ℕ) (k : ℕ) where
       pub walk : (c : ℕ) → Walking part (all c) (left read c) i
 
     pub choosing-start : at ≤ length part → Choosing 0 at
-    choosing-start l = record { read = []; count = refl; low = omega arith; walk = λ c. record { within = l; same = refl } }
+    choosing-start l = record { read = []; count = refl; low = omega arith; walk = λ c. walking-start l refl }
 
     module _ (alternative i : ℕ) (here : Choosing alternative i) where
       pub choosing-skip : isKind 7 (getD part i 0) ≡ false → isEntry (getD part i 0) ≡ true → Choosing alternative (i + 1)
@@ -220,7 +220,7 @@ module _ (none : ℕ) (ahead behind ranks part : List ℕ) (k : ℕ) where
       choosing-found e quiet quieted ok j placed e′ t told taken =
           let es = entriesFrom (drop (i + 1) part) in
           let more = alternativesFrom (drop (i + 1) part) in
-          let l = walking-inside (here .walk 0) e in
+          let l = walking-opener-inside (here .walk 0) e in
           let l′ = folding-inside placed e′ in
           let found = placing-found (i + 1) quiet quieted ok j placed e′ t told taken in
           let opened : (c : ℕ) → left (here .read) c (es ∷ more) ≡ all c = λ c. walking-here (here .walk c) e in
@@ -251,7 +251,7 @@ module _ (value : Alternative → ℕ) (part : List ℕ) (k at : ℕ) where
     pub walk : Walking part first (after alternative) i
 
   pub picking-start : at ≤ length part → Picking 0 at
-  picking-start l = record { low = omega arith; walk = record { within = l; same = refl } }
+  picking-start l = record { low = omega arith; walk = walking-start l refl }
 
   module _ (alternative i : ℕ) (here : Picking alternative i) where
     pub picking-skip : isKind 7 (getD part i 0) ≡ false → isEntry (getD part i 0) ≡ true → Picking alternative (i + 1)

@@ -15,7 +15,7 @@ use Rattle.outcome.specs.declared.read.Read.{Read}
 abbrev pub Within : List ℕ → List ℕ → ℕ → Type 0
 Within steps table w = (kind w ≡ 8 → 8 * payload w + 8 ≤ length steps) × (kind w ≡ 9 → 8 * payload w + 8 ≤ length table)
 
--- so of each word
+-- each entry among the words does
 abbrev pub Readable : List ℕ → List ℕ → List ℕ → Type 0
 Readable steps table part = (i : ℕ) → i < length part → Within steps table (getD part i 0)
 

@@ -8,7 +8,7 @@ use mathlib.Core.Bool.{true, false}
 use Prim.Native.Nat.{_-_}
 use lib.ListN.{length, getD}
 use Rattle.image.specs.Word.{isKind, isEntry}
-use Rattle.library.proofs.Walking.{tested, walking-inside, walking-within}
+use Rattle.library.proofs.Walking.{tested, walking-opener-inside, walking-entry-inside}
 use Rattle.rank.specs.Tables.{depthIn}
 use Rattle.link.proofs.Choices.{Picking, picking-start, picking-skip, picking-turn, picking-found, picking-out}
 use Rattle.link.proofs.link.chosen_alternative.Statement.{statement}
@@ -44,7 +44,7 @@ is-kind-requires c κs = search needs
 greatest-depth-requires : tie.Need-greatest-depth-requires Inv-found μ-found
 greatest-depth-requires c κs =
     let at-loop = c .before .before .before in
-    (at-loop .before .before .before .pre .0, omega (arith, walking-inside (at-loop .found .inv .walk) (opener c)))
+    (at-loop .before .before .before .pre .0, omega (arith, walking-opener-inside (at-loop .found .inv .walk) (opener c)))
 
 add-alternative : tie.Need-add-alternative Inv-found μ-found
 add-alternative c =
@@ -54,7 +54,7 @@ add-alternative c =
 found-less : tie.Need-found-less Inv-found μ-found
 found-less c =
     let read = c .before .before in
-    omega (arith, read .greatest-depth .ensures .next, walking-inside (read .before .before .before .before .found .inv .walk) (opener (read .before)))
+    omega (arith, read .greatest-depth .ensures .next, walking-opener-inside (read .before .before .before .before .found .inv .walk) (opener (read .before)))
 
 found-again : tie.Need-found-again Inv-found μ-found
 found-again c =
@@ -67,7 +67,7 @@ is-entry-requires c κs = search needs
 found-less-2 : tie.Need-found-less-2 Inv-found μ-found
 found-less-2 c =
     let word = c .before .before .before .before in
-    omega (arith, walking-within (word .before .found .inv .walk) (tested isEntry (word .word-at .ensures) (c .before .is-entry .ensures) (not-false _ (c .if3 .left))))
+    omega (arith, walking-entry-inside (word .before .found .inv .walk) (tested isEntry (word .word-at .ensures) (c .before .is-entry .ensures) (not-false _ (c .if3 .left))))
 
 found-again-2 : tie.Need-found-again-2 Inv-found μ-found
 found-again-2 c =

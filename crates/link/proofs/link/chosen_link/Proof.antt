@@ -8,7 +8,7 @@ use mathlib.Core.Bool.{true, false}
 use Prim.Native.Nat.{_-_}
 use lib.ListN.{length, getD}
 use Rattle.image.specs.Word.{isKind, isEntry}
-use Rattle.library.proofs.Walking.{tested, folding-inside, walking-inside, walking-within}
+use Rattle.library.proofs.Walking.{tested, folding-inside, walking-opener-inside, walking-entry-inside}
 use Rattle.link.proofs.Choices.{Placing, placing-start, placing-turn}
 use Rattle.link.proofs.Choices.{Choosing, choosing-start, choosing-skip, choosing-turn, choosing-out, choosing-found}
 use Rattle.link.proofs.link.chosen_link.Statement.{statement}
@@ -55,12 +55,12 @@ is-kind-requires c κs = search needs
 quiet-from-requires : tie.Need-quiet-from-requires Inv-loop μ-loop Inv-found μ-found
 quiet-from-requires c κs =
     let at-found = c .before .before .before in
-    (at-found .before .before .before .before .before .pre .0 .by-behind, omega (arith, walking-inside (at-found .found .inv .walk 0) (opener c)))
+    (at-found .before .before .before .before .before .pre .0 .by-behind, omega (arith, walking-opener-inside (at-found .found .inv .walk 0) (opener c)))
 
 loop-holds : tie.Need-loop-holds Inv-loop μ-loop Inv-found μ-found
 loop-holds c =
     let test = c .before in
-    placing-start _ _ _ _ _ _ _ (omega (arith, walking-inside (test .before .before .before .found .inv .walk 0) (opener test)))
+    placing-start _ _ _ _ _ _ _ (omega (arith, walking-opener-inside (test .before .before .before .found .inv .walk 0) (opener test)))
 
 word-at-requires-2 : tie.Need-word-at-requires-2 Inv-loop μ-loop Inv-found μ-found
 word-at-requires-2 c κs = search needs
@@ -116,7 +116,7 @@ found-less : tie.Need-found-less Inv-loop μ-loop Inv-found μ-found
 found-less c =
     let at-loop = c .before .before .before in
     let test = at-loop .before .before in
-    omega (arith, at-loop .loop .inv .low, walking-inside (test .before .before .before .found .inv .walk 0) (opener test))
+    omega (arith, at-loop .loop .inv .low, walking-opener-inside (test .before .before .before .found .inv .walk 0) (opener test))
 
 found-again : tie.Need-found-again Inv-loop μ-loop Inv-found μ-found
 found-again c =
@@ -131,7 +131,7 @@ is-entry-requires-2 c κs = search needs
 found-less-2 : tie.Need-found-less-2 Inv-loop μ-loop Inv-found μ-found
 found-less-2 c =
     let word = c .before .before .before .before in
-    omega (arith, walking-within (word .before .found .inv .walk 0) (tested isEntry (word .word-at .ensures) (c .before .is-entry2 .ensures) (not-false _ (c .if4 .left))))
+    omega (arith, walking-entry-inside (word .before .found .inv .walk 0) (tested isEntry (word .word-at .ensures) (c .before .is-entry2 .ensures) (not-false _ (c .if4 .left))))
 
 found-again-2 : tie.Need-found-again-2 Inv-loop μ-loop Inv-found μ-found
 found-again-2 c =

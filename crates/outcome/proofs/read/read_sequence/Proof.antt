@@ -9,7 +9,7 @@ use Prim.Native.Nat.{_-_}
 use lib.ListN.{length, getD, drop}
 use Rattle.image.specs.Word.{isKind, isEntry}
 use Rattle.library.specs.Library.{alternativesFrom}
-use Rattle.library.proofs.Walking.{tested, Walking, walking-inside, walking-turn, walking-skip, walking-within, walking-out}
+use Rattle.library.proofs.Walking.{tested, Walking, walking-start, walking-opener-inside, walking-turn, walking-skip, walking-entry-inside, walking-out}
 use Rattle.row.specs.Words.{noRow}
 use Rattle.outcome.specs.Walks.{unitedFrom}
 use Rattle.outcome.proofs.Walks.{uniting-empties}
@@ -35,7 +35,7 @@ none-requires : tie.Need-none-requires Inv-loop μ-loop
 none-requires c κs = search needs
 
 loop-holds : tie.Need-loop-holds Inv-loop μ-loop
-loop-holds c = rw (c .none .ensures) (record { within = c .before .before .before .before .pre .1; same = refl })
+loop-holds c = rw (c .none .ensures) (walking-start (c .before .before .before .before .pre .1) refl)
 
 word-at-requires : tie.Need-word-at-requires Inv-loop μ-loop
 word-at-requires c κs = search needs
@@ -56,7 +56,7 @@ read-alternative-requires : tie.Need-read-alternative-requires Inv-loop μ-loop
 read-alternative-requires c κs =
     let test = c .before .before .before in
     let at-loop = test .before .before .before in
-    (at-loop .before .before .before .before .before .pre .0, omega (arith, walking-inside (at-loop .loop .inv) (opener test)))
+    (at-loop .before .before .before .before .before .pre .0, omega (arith, walking-opener-inside (at-loop .loop .inv) (opener test)))
 
 united-requires : tie.Need-united-requires Inv-loop μ-loop
 united-requires c κs = search needs
@@ -65,7 +65,7 @@ loop-less : tie.Need-loop-less Inv-loop μ-loop
 loop-less c =
     let read = c .before .before in
     let test = read .before .before .before .before in
-    omega (arith, read .read-alternative .ensures .next, walking-inside (test .before .before .before .loop .inv) (opener test))
+    omega (arith, read .read-alternative .ensures .next, walking-opener-inside (test .before .before .before .loop .inv) (opener test))
 
 loop-again : tie.Need-loop-again Inv-loop μ-loop
 unfolding unitedFrom
@@ -87,12 +87,12 @@ united-requires-2 c κs = search needs
 empties-end-requires : tie.Need-empties-end-requires Inv-loop μ-loop
 empties-end-requires c κs =
     let test = c .before .before .before .before .before .before in
-    omega (arith, walking-inside (test .before .before .before .loop .inv) (opener test))
+    omega (arith, walking-opener-inside (test .before .before .before .loop .inv) (opener test))
 
 loop-less-2 : tie.Need-loop-less-2 Inv-loop μ-loop
 loop-less-2 c =
     let test = c .before .before .before .before .before .before .before in
-    omega (arith, c .empties-end .ensures .low, walking-inside (test .before .before .before .loop .inv) (opener test))
+    omega (arith, c .empties-end .ensures .low, walking-opener-inside (test .before .before .before .loop .inv) (opener test))
 
 loop-again-2 : tie.Need-loop-again-2 Inv-loop μ-loop
 loop-again-2 c =
@@ -117,7 +117,7 @@ returns c =
 loop-less-3 : tie.Need-loop-less-3 Inv-loop μ-loop
 loop-less-3 c =
     let word = c .before .before .before .before in
-    omega (arith, walking-within (word .before .loop .inv) (tested isEntry (word .word-at .ensures) (c .before .is-entry2 .ensures) (not-false _ (c .if3 .left))))
+    omega (arith, walking-entry-inside (word .before .loop .inv) (tested isEntry (word .word-at .ensures) (c .before .is-entry2 .ensures) (not-false _ (c .if3 .left))))
 
 loop-again-3 : tie.Need-loop-again-3 Inv-loop μ-loop
 loop-again-3 c =

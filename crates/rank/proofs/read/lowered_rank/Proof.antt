@@ -9,7 +9,7 @@ use Prim.Native.Nat.{_-_}
 use lib.ListN.{length, getD, drop}
 use Rattle.image.specs.Word.{isKind, isEntry}
 use Rattle.library.specs.Library.{alternativesFrom}
-use Rattle.library.proofs.Walking.{tested, Walking, walking-inside, walking-turn, walking-skip, walking-within, walking-out}
+use Rattle.library.proofs.Walking.{tested, Walking, walking-start, walking-opener-inside, walking-turn, walking-skip, walking-entry-inside, walking-out}
 use Rattle.rank.specs.Walk.{loweredFrom}
 use Rattle.rank.specs.Tables.{lookIn}
 use Rattle.rank.proofs.Walk.{lowered-least}
@@ -34,7 +34,7 @@ other : (c : tie.Else1 Inv-loop μ-loop)
 other c = tested (isKind 7) (c .before .before .word-at .ensures) (c .before .is-kind .ensures) (c .if1 .left)
 
 loop-holds : tie.Need-loop-holds Inv-loop μ-loop
-loop-holds c = record { within = c .before .before .before .before .pre .1; same = refl }
+loop-holds c = walking-start (c .before .before .before .before .pre .1) refl
 
 word-at-requires : tie.Need-word-at-requires Inv-loop μ-loop
 word-at-requires c κs = search needs
@@ -48,7 +48,7 @@ is-kind-requires c κs = search needs
 read-alternative-requires : tie.Need-read-alternative-requires Inv-loop μ-loop
 read-alternative-requires c κs =
     let at-loop = c .before .before .before .before in
-    (at-loop .before .before .before .before .before .pre .0, omega (arith, walking-inside (at-loop .loop .inv) (opener c)))
+    (at-loop .before .before .before .before .before .pre .0, omega (arith, walking-opener-inside (at-loop .loop .inv) (opener c)))
 
 lower-requires : tie.Need-lower-requires Inv-loop μ-loop
 lower-requires c κs = search needs
@@ -56,7 +56,7 @@ lower-requires c κs = search needs
 loop-less : tie.Need-loop-less Inv-loop μ-loop
 loop-less c =
     let test = c .before .before in
-    omega (arith, c .before .read-alternative .ensures .next, walking-inside (test .before .before .before .before .loop .inv) (opener test))
+    omega (arith, c .before .read-alternative .ensures .next, walking-opener-inside (test .before .before .before .before .loop .inv) (opener test))
 
 loop-again : tie.Need-loop-again Inv-loop μ-loop
 loop-again c =
@@ -70,7 +70,7 @@ is-entry-requires c κs = search needs
 loop-less-2 : tie.Need-loop-less-2 Inv-loop μ-loop
 loop-less-2 c =
     let word = c .before .before .before .before in
-    omega (arith, walking-within (word .before .before .loop .inv) (tested isEntry (word .word-at .ensures) (c .before .is-entry .ensures) (not-false _ (c .if2 .left))))
+    omega (arith, walking-entry-inside (word .before .before .loop .inv) (tested isEntry (word .word-at .ensures) (c .before .is-entry .ensures) (not-false _ (c .if2 .left))))
 
 loop-again-2 : tie.Need-loop-again-2 Inv-loop μ-loop
 loop-again-2 c =
