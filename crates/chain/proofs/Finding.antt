@@ -19,9 +19,10 @@ use Rattle.library.specs.Accepted.{SequenceWord, Counted}
 use Rattle.image.specs.declared.answer.Head.{Head}
 use Rattle.library.proofs.Accepted.{faultless, parts, counted}
 use Rattle.library.proofs.Rows.{all-at}
-use Rattle.settling.specs.Passes.{Blank, Complete}
+use Rattle.settling.specs.Passes.{Blank}
+use Rattle.settling.specs.Stale.{Scheduled}
 use Rattle.tables.specs.Tables.{TablesAsked, Prepared}
-use Rattle.tables.proofs.Tables.{few-sequences, step-masks, sequences-are, place-is, place-within}
+use Rattle.tables.proofs.Tables.{few-sequences, step-masks, sequences-are, place-is, place-within, scheduled}
 use Rattle.runs.specs.Possible.{hasRun, possibleOutcome}
 use Rattle.runs.specs.Run.{RunOf, alternativesOf}
 use Rattle.settling.proofs.Visits.{blank-zeros}
@@ -40,7 +41,7 @@ use Rattle.chains.proofs.Entries.{quiet-run, any-run}
 use Rattle.chains.proofs.Passing.{Passable, pass-reached, pass-exact}
 use Rattle.chains.proofs.Ranks.{start-unranked}
 use Rattle.rank.proofs.Visits.{settled-good, touch-good, settled-touch, settled-untouched}
-use Rattle.rank.proofs.Settling.{rankable-at, pass-kept, pass-visits, pass-settled}
+use Rattle.rank.proofs.Settling.{rankable-at, settled-kept, settled-visits, settled-all}
 use Rattle.chain.proofs.Describes.{steps-marked, steps-any, pass-is, pass-look, depth-look, touch-look, touch-answer, quiet-answer}
 
 -- ---- the areas
@@ -94,26 +95,27 @@ tables-asked {h} {image} asked areas =
 
 -- ---- what each part of the search asks, by what is asked of the tables
 
-module _ {q : Asked} {n : ℕ} {masks ahead behind links part places order : List ℕ} (asked : Findable q n masks ahead behind links part places order) where
+module _ {q : Asked} {n : ℕ} {masks ahead behind links part places callers order : List ℕ}
+    (asked : Findable q n masks ahead behind links part places callers order) where
   visited : (T A B : List ℕ) → length T ≡ length links → length A ≡ length links → length B ≡ length links → Readable (q .none) A B T part
   visited T A B t a b =
       record { by-ahead = rankable-at A a (asked .rankable); by-behind = rankable-at B b (asked .rankable); by-ranks = rankable-at T t (asked .rankable) }
 
   -- to mark the entries
   pub mark-asked : (T : List ℕ) → length T ≡ length links
-      → Steppable (quietly q) masks T × Visitable (whether q) n links links T part places × Complete order n
+      → Steppable (quietly q) masks T × Visitable (whether q) n links links T part places × Scheduled n part places callers order
   mark-asked T long = (
     record { fact = asked .steppable .fact; sequences = omega (arith, asked .steppable .sequences); masked = omega (arith, asked .steppable .masked) },
-    record { readable = visited T links links long refl refl; ranked = omega (arith, asked .ranked); placed = asked .placed; within = λ c l. asked .opened .within c },
-    asked .complete,
+    record { readable = visited T links links long refl refl; low = asked .low; ranked = omega (arith, asked .ranked); placed = asked .placed; within = λ c l. asked .opened .within c },
+    asked .scheduled,
   )
 
   -- to rank the sequences by the question
-  pub rank-asked : Steppable q masks links × Visitable q n ahead behind links part places × Complete order n
+  pub rank-asked : Steppable q masks links × Visitable q n ahead behind links part places × Scheduled n part places callers order
   rank-asked = (
     asked .steppable,
-    record { readable = visited links ahead behind refl (asked .ahead-long) (asked .behind-long); ranked = asked .ranked; placed = asked .placed; within = λ c l. asked .opened .within c },
-    asked .complete,
+    record { readable = visited links ahead behind refl (asked .ahead-long) (asked .behind-long); low = asked .low; ranked = asked .ranked; placed = asked .placed; within = λ c l. asked .opened .within c },
+    asked .scheduled,
   )
 
   -- to write the chain
@@ -121,23 +123,23 @@ module _ {q : Asked} {n : ℕ} {masks ahead behind links part places order : Lis
       → Choosable (q .none) ahead behind T part places × (c < 2 ^ 28) × (c < length T)
   write-asked T long c l = (
     record { readable = visited T ahead behind long (asked .ahead-long) (asked .behind-long); opened = asked .opened },
-    omega (arith, asked .few),
+    omega (arith, asked .scheduled .few),
     omega (arith, asked .ranked),
   )
 
   -- other tables of the same length
-  pub findable-at : (A B : List ℕ) → length A ≡ length ahead → length B ≡ length behind → Findable q n masks A B links part places order
+  pub findable-at : (A B : List ℕ) → length A ≡ length ahead → length B ≡ length behind → Findable q n masks A B links part places callers order
   findable-at A B a b =
       record {
         steppable = asked .steppable;
         rankable = asked .rankable;
         ahead-long = a ∙ asked .ahead-long;
         behind-long = b ∙ asked .behind-long;
-        few = asked .few;
+        low = asked .low;
         ranked = asked .ranked;
         placed = asked .placed;
         opened = asked .opened;
-        complete = asked .complete;
+        scheduled = asked .scheduled;
       }
 
 -- ---- the tables of an accepted image
@@ -172,15 +174,16 @@ module _ {h : Head} {image ms₀ ps₀ ms ps callers order : List ℕ} (accepted
         }
 
     pub tables-findable : {ahead behind links : List ℕ} → Unranked h q ahead → Unranked h q behind → Unranked h q links → Blank ps₀ → 3 * h .steps ≤ length ms
-        → h .sequences ≤ length ps → Findable q (h .sequences) ms ahead behind links part ps (take (h .sequences) order)
-    tables-findable {links = links} a-yet b-yet yet blank masked placed =
+        → h .sequences ≤ length ps → 4 * h .sequences ≤ length callers
+        → Findable q (h .sequences) ms ahead behind links part ps callers (take (h .sequences) order)
+    tables-findable {links = links} a-yet b-yet yet blank masked placed room =
         let none = asked .none in
         record {
           steppable = record { fact = omega (arith, asked .fact, faultless image h accepted .facts-high); sequences = omega (arith, yet .long); masked = omega (arith, yet .long) };
           rankable = tables-rankable links (yet .long);
           ahead-long = a-yet .long ∙ sym (yet .long);
           behind-long = b-yet .long ∙ sym (yet .long);
-          few = few-sequences image h accepted;
+          low = omega arith;
           ranked = omega (arith, yet .long);
           placed = placed;
           opened =
@@ -188,7 +191,7 @@ module _ {h : Head} {image ms₀ ps₀ ms ps callers order : List ℕ} (accepted
                 within = place-within accepted made sequences blank (omega (arith, asked .sequence));
                 short = omega (arith, ap length sequences, parts image h accepted .sequences-short);
               };
-          complete = made .complete;
+          scheduled = scheduled accepted made sequences room;
         }
 
 -- ---- the answer
@@ -260,18 +263,18 @@ module _ (image : List ℕ) (h : Head) (accepted : accepts image h) (ms ps part 
 
       made-kept : drop m ranks ≡ drop m (ranked .start)
       made-kept =
-          pass-kept q ahead behind part ps (drop m (ranked .start)) (L .sequences) look m (h .sequences) (sym (has .sequences)) (omega (arith, has .sequences)) q-none looks
+          settled-kept q ahead behind part ps (drop m (ranked .start)) (L .sequences) look m (h .sequences) (sym (has .sequences)) (omega (arith, has .sequences)) q-none looks
           reads refl (ranked .settled)
 
       made-visits : Visits (L .sequences) look m (replicate m m) (take m ranks)
       made-visits =
           subst (λ (b : List ℕ). Visits (L .sequences) look m b (take m ranks)) start-none
-          (pass-visits q ahead behind part ps (drop m (ranked .start)) (L .sequences) look m (h .sequences) (sym (has .sequences)) (omega (arith, has .sequences)) q-none looks
+          (settled-visits q ahead behind part ps (drop m (ranked .start)) (L .sequences) look m (h .sequences) (sym (has .sequences)) (omega (arith, has .sequences)) q-none looks
           reads refl (ranked .settled))
 
       made-settled : Settled (L .sequences) look m (take m ranks)
       made-settled =
-          pass-settled q ahead behind part ps (drop m (ranked .start)) (L .sequences) look m (h .sequences) (sym (has .sequences)) (omega (arith, has .sequences)) q-none looks
+          settled-all q ahead behind part ps (drop m (ranked .start)) (L .sequences) look m (h .sequences) (sym (has .sequences)) (omega (arith, has .sequences)) q-none looks
           reads refl (ranked .settled)
 
     -- where it is only asked whether all entries pass: an entry has a rank exactly where it passes, a sequence where it has a run whose steps do

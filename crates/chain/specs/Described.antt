@@ -11,7 +11,8 @@ use Rattle.library.specs.Library.{Library, Entry, libraryOf, Item, step}
 use Rattle.library.specs.Walk.{alternativesAt}
 use Rattle.image.specs.declared.answer.Head.{Head}
 use Rattle.library.specs.Tables.{maskOf}
-use Rattle.settling.specs.Passes.{Blank, Complete}
+use Rattle.settling.specs.Passes.{Blank}
+use Rattle.settling.specs.Stale.{Scheduled}
 use Rattle.runs.specs.Run.{alternativesOf}
 use Rattle.runs.specs.Execution.{stepOf}
 use Rattle.runs.specs.Touch.{Side, last, first, Mark, present, absent, untouched, Question}
@@ -105,18 +106,17 @@ pub record Unranked (h : Head) (q : Asked) (T : List ℕ) : Type 0 where
 
 -- ---- the tables, whatever image they are of
 
--- what is asked of the tables that the ranks are worked out in: each has a word for each sequence and each step, and the order names each
--- sequence
-pub record Findable (q : Asked) (n : ℕ) (masks ahead behind links part places order : List ℕ) : Type 0 where
+-- what is asked of the tables that the ranks are worked out in: each has a word for each sequence and each step
+pub record Findable (q : Asked) (n : ℕ) (masks ahead behind links part places callers order : List ℕ) : Type 0 where
   pub steppable : Steppable q masks links
   pub rankable : Rankable (q .none) links part
   pub ahead-long : length ahead ≡ length links
   pub behind-long : length behind ≡ length links
-  pub few : n ≤ 256
+  pub low : n ≤ q .none
   pub ranked : n ≤ length links
   pub placed : n ≤ length places
   pub opened : Opened part places
-  pub complete : Complete order n
+  pub scheduled : Scheduled n part places callers order
 
 -- the same question for "untouched", and where only a rank counts
 abbrev pub quietly : Asked → Asked

@@ -26,7 +26,7 @@ use tables::size::is_small;
 ghost use mathlib.Core.Path.{_≡_};
 ghost use mathlib.Core.Bool.{true};
 ghost use Prim.Native.Nat.{_<_};
-ghost use Rattle.settling.specs.Passes.{Complete};
+ghost use Rattle.settling.specs.Stale.{Scheduled};
 ghost use Rattle.tables.specs.Tables.{isSmall};
 ghost use Rattle.rank.specs.Tables.{Steppable, Visitable, Ranked};
 ghost use Rattle.chain.specs.Described.{FindAsked, AreasAsked, AnswerFound, Findable, Marked, Found};
@@ -48,15 +48,16 @@ fn rank(
     behind: &[u32],
     part: &[u32],
     places: &[u32],
+    callers: &[u64],
     order: &[usize],
     ranks: &mut [u32],
     n: usize,
 )
-    requires { ⌜ Steppable p (now masks) (now ranks) × Visitable q n (now ahead) (now behind) (now ranks) (now part) (now places) × Complete (now order) n ⌝ }
+    requires { ⌜ Steppable p (now masks) (now ranks) × Visitable q n (now ahead) (now behind) (now ranks) (now part) (now places) × Scheduled n (now part) (now places) (now callers) (now order) ⌝ }
     ensures { λ _. ⌜ Ranked any p q n (now (masks .entry)) (now (ahead .entry)) (now (behind .entry)) (now (part .entry)) (now (places .entry)) (now (ranks .entry)) (now (ranks .exit)) ⌝ }
 {
     write_step_ranks(any, p, masks, ranks);
-    settle(q, ahead, behind, part, places, order, ranks, n);
+    settle(q, ahead, behind, part, places, callers, order, ranks, n);
 }
 
 // The tables of the entries that pass ahead of the position and behind it, for a question that asks for a touch: on the first side those ahead
@@ -67,12 +68,13 @@ fn mark_entries(
     blank: &[u32],
     part: &[u32],
     places: &[u32],
+    callers: &[u64],
     order: &[usize],
     ahead: &mut [u32],
     behind: &mut [u32],
     n: usize,
 )
-    requires { ⌜ Findable q n (now masks) (now ahead) (now behind) (now blank) (now part) (now places) (now order) ⌝ }
+    requires { ⌜ Findable q n (now masks) (now ahead) (now behind) (now blank) (now part) (now places) (now callers) (now order) ⌝ }
     ensures { λ _. ⌜ Marked q n (now (masks .entry)) (now (blank .entry)) (now (part .entry)) (now (places .entry)) (now (ahead .entry)) (now (behind .entry)) (now (ahead .exit)) (now (behind .exit)) ⌝ }
 {
     if q.mark != 2 {
@@ -97,6 +99,7 @@ fn mark_entries(
             blank,
             part,
             places,
+            callers,
             order,
             ahead,
             n,
@@ -110,6 +113,7 @@ fn mark_entries(
             blank,
             part,
             places,
+            callers,
             order,
             behind,
             n,
@@ -124,6 +128,7 @@ fn find_by(
     masks: &[u64],
     part: &[u32],
     places: &[u32],
+    callers: &[u64],
     order: &[usize],
     ahead: &mut [u32],
     behind: &mut [u32],
@@ -132,10 +137,21 @@ fn find_by(
     n: usize,
     c: u32,
 ) -> u32
-    requires { ⌜ Findable q n (now masks) (now ahead) (now behind) (now links) (now part) (now places) (now order) × (c < n) ⌝ }
+    requires { ⌜ Findable q n (now masks) (now ahead) (now behind) (now links) (now part) (now places) (now callers) (now order) × (c < n) ⌝ }
     ensures { λ r. ⌜ Found q n c (now (masks .entry)) (now (part .entry)) (now (places .entry)) (now (ahead .entry)) (now (behind .entry)) (now (links .entry)) (now (area .entry)) r (now (area .exit)) ⌝ }
 {
-    mark_entries(q, masks, links, part, places, order, ahead, behind, n);
+    mark_entries(
+        q,
+        masks,
+        links,
+        part,
+        places,
+        callers,
+        order,
+        ahead,
+        behind,
+        n,
+    );
     rank(
         false,
         q,
@@ -145,6 +161,7 @@ fn find_by(
         behind,
         part,
         places,
+        callers,
         order,
         links,
         n,
@@ -179,6 +196,7 @@ fn find_in(
         masks,
         part,
         &places,
+        callers,
         &order[..n],
         &mut ahead[..words],
         &mut behind[..words],

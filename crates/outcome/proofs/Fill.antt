@@ -4,7 +4,6 @@ use Prim.Native.Nat.{ℕ, zero, suc, _*_, _≤_}
 use native.Mathlib.Decide.{decLt}
 use native.Mathlib.Omega.{arith}
 use mathlib.Core.Path.{_≡_, refl, sym, ap, _∙_, subst}
-use mathlib.Core.Bool.{false}
 use mathlib.Core.List.{List, [], _∷_}
 use lib.ListN.{length, getD, take, replicate, length-replicate}
 use lib.Seq.{length-take-le}
@@ -17,16 +16,16 @@ use Rattle.library.proofs.Lookup.{mask-low}
 use Rattle.library.proofs.Rows.{all-at}
 use Rattle.runs.specs.Execution.{noStep}
 use Rattle.row.specs.Words.{allFacts, stepRow, rowIn}
-use Rattle.settling.specs.Passes.{Blank, Complete, Settles}
-use Rattle.settling.specs.Stale.{CallersWritten}
+use Rattle.settling.specs.Passes.{Blank, Settles}
+use Rattle.settling.specs.Stale.{Scheduled}
 use Rattle.tables.specs.Tables.{Prepared}
 use Rattle.settling.proofs.Visits.{blank-zeros}
 use Rattle.reader.specs.Checked.{accepts}
 use Rattle.tables.proofs.Tables as tables
-use Rattle.tables.proofs.Tables.{few-sequences, step-masks, sequences-are, place-is, called-in}
+use Rattle.tables.proofs.Tables.{step-masks, sequences-are, place-is, scheduled}
 use Rattle.outcome.specs.Area.{outcomes, OutcomesAsked}
 use Rattle.outcome.specs.Walks.{StepRows}
-use Rattle.outcome.specs.Visited.{lacking, Visitable, visited}
+use Rattle.outcome.specs.Visited.{Visitable, visited}
 use Rattle.outcome.proofs.Bridge.{Stepped}
 use Rattle.outcome.proofs.Filled.{table-filled}
 use Rattle.outcome.proofs.Low.{LowRow, none-low, step-low}
@@ -102,8 +101,8 @@ module _ {h : Head} {image ms₀ ps₀ callers₀ order₀ rs₀ table : List �
         ]
 
     -- what the passes ask
-    pub settle-asked : Visitable (h .sequences) rs part ps (take (8 * h .sequences) table) × Complete (take (h .sequences) order) (h .sequences)
-        × (h .sequences ≤ 256) × (4 * h .sequences ≤ length callers) × CallersWritten (h .sequences) part ps callers
+    pub settle-asked : Visitable (h .sequences) rs part ps (take (8 * h .sequences) table)
+        × Scheduled (h .sequences) part ps callers (take (h .sequences) order)
     settle-asked = (
       record {
         readable = λ i l.
@@ -113,10 +112,7 @@ module _ {h : Head} {image ms₀ ps₀ callers₀ order₀ rs₀ table : List �
         placed = omega (arith, asked .tables .places-room);
         within = λ c l. place-is (asked .tables .accepted) made sequences c l .within;
       },
-      made .complete,
-      few-sequences image h (asked .tables .accepted),
-      omega (arith, asked .tables .callers-room),
-      called-in (asked .tables .accepted) made sequences,
+      scheduled (asked .tables .accepted) made sequences (omega (arith, asked .tables .callers-room)),
     )
 
     pub outcomes-done : (t : List ℕ) → Settles (visited all rs part ps) (h .sequences) (take (8 * h .sequences) table) t → t ≡ outcomes L

@@ -1,18 +1,17 @@
 // The outcome table settled: a visit unites the row of a sequence with what its alternatives give, and sequences are visited until no visit
 // changes a row.
 use crate::read::read_sequence;
-use row::words::ALL_BITS;
 use row::words::put_row;
 use row::words::row_at;
 use row::words::same;
 use row::words::united;
+use settling::turns::ALL_STALE;
 use settling::turns::after_visit;
 use settling::turns::first;
 use settling::turns::next;
-ghost use Prim.Native.Nat.{_+_, _*_, _≤_, _<_};
-ghost use lib.ListN.{length};
-ghost use Rattle.settling.specs.Stale.{CallersWritten};
-ghost use Rattle.settling.specs.Passes.{Visit, Settles, Complete};
+ghost use Prim.Native.Nat.{_<_};
+ghost use Rattle.settling.specs.Stale.{Scheduled};
+ghost use Rattle.settling.specs.Passes.{Visit, Settles};
 ghost use Rattle.outcome.specs.Visited.{lacking, Visitable, visited};
 
 // Unites the row of sequence `c` with what its alternatives give. Answers whether that changed it.
@@ -46,10 +45,10 @@ pub fn settle(
     table: &mut [u64],
     n: usize,
 )
-    requires { ⌜ Visitable n (now steps) (now part) (now places) (now table) × Complete (now order) n × (n ≤ 256) × (4 * n ≤ length (now callers)) × CallersWritten n (now part) (now places) (now callers) ⌝ }
+    requires { ⌜ Visitable n (now steps) (now part) (now places) (now table) × Scheduled n (now part) (now places) (now callers) (now order) ⌝ }
     ensures { λ _. ⌜ Settles (visited all (now (steps .entry)) (now (part .entry)) (now (places .entry))) n (now (table .entry)) (now (table .exit)) ⌝ }
 {
-    let mut stale = [ALL_BITS; 4];
+    let mut stale = [ALL_STALE; 4];
     let mut turn = first(order, &stale, n);
     while turn.number < n {
         let c = turn.number;

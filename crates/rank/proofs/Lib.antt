@@ -3,3 +3,4 @@ pub mod Walk
 pub mod Looks
 pub mod Slots
 pub mod Settling
+pub mod Calls

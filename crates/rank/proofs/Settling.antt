@@ -2,8 +2,7 @@
 -- Assumes nothing.
 use Prim.Native.Nat.{ℕ, _+_, _≤_, _<_}
 use native.Mathlib.Omega.{arith}
-use mathlib.Core.Path.{_≡_, refl, sym, ap, _∙_, subst}
-use mathlib.Core.Bool.{false}
+use mathlib.Core.Path.{_≡_, sym, ap, _∙_, subst}
 use mathlib.Core.List.{List}
 use lib.ListN.{length, getD, set, take, drop, length-set}
 use lib.Seq.{set-getD, take-set-lt, drop-set-lt, getD-take}
@@ -73,9 +72,9 @@ readable-at U e r = record { by-ahead = r .by-ahead; by-behind = r .by-behind; b
 pub visitable-at : {q : Asked} {n : ℕ} {ahead behind T part places : List ℕ} (U : List ℕ) → length U ≡ length T → Visitable q n ahead behind T part places
     → Visitable q n ahead behind U part places
 visitable-at U e v =
-    record { readable = readable-at U e (v .readable); ranked = omega (arith, v .ranked); placed = v .placed; within = v .within }
+    record { readable = readable-at U e (v .readable); low = v .low; ranked = omega (arith, v .ranked); placed = v .placed; within = v .within }
 
--- Where the words hold the alternatives of each sequence, and the tables say of an alternative what the look says, the passes lower the ranks
+-- Where the words hold the alternatives of each sequence, and the tables say of an alternative what the look says, visits lower the ranks
 -- of the sequences as the definitions do, and those of the steps stay.
 module _ (q : Asked) (ahead behind part places steps : List ℕ) (S : List Sequence) (look : Look) (none n : ℕ) (count : n ≡ length S) (low : n ≤ none)
     (absent : q .none ≡ none) (looks : (T : List ℕ) → drop none T ≡ steps → lookIn q ahead behind T ≡ look (inRanks none T))
@@ -105,14 +104,14 @@ module _ (q : Asked) (ahead behind part places steps : List ℕ) (S : List Seque
   reached-visits {before} (passes.next {table = T} c lt r) kept =
       subst (passes.Reached (visited S look none) n (take none before)) (sym (visit-same T c lt (reached-kept r kept))) (passes.next c lt (reached-visits r kept))
 
-  module _ {before after : List ℕ} (kept : drop none before ≡ steps) (p : passes.Pass (visitedRanks q ahead behind part places) total n before after false) where
-    pub pass-kept : drop none after ≡ steps
-    pass-kept = reached-kept (p .reached) kept
+  module _ {before after : List ℕ} (kept : drop none before ≡ steps) (p : passes.Settles (visitedRanks q ahead behind part places) n before after) where
+    pub settled-kept : drop none after ≡ steps
+    settled-kept = reached-kept (p .reached) kept
 
-    pub pass-visits : Visits S look none (take none before) (take none after)
-    pass-visits = subst (λ (m : ℕ). passes.Reached (visited S look none) m (take none before) (take none after)) count (reached-visits (p .reached) kept)
+    pub settled-visits : Visits S look none (take none before) (take none after)
+    settled-visits = subst (λ (m : ℕ). passes.Reached (visited S look none) m (take none before) (take none after)) count (reached-visits (p .reached) kept)
 
-    pub pass-settled : Settled S look none (take none after)
-    pass-settled c lt =
+    pub settled-all : Settled S look none (take none after)
+    settled-all c lt =
         let below : c < n = omega arith in
-        sym (visit-same after c below pass-kept) ∙ ap (take none) (p .settled refl c below)
+        sym (visit-same after c below settled-kept) ∙ ap (take none) (p .settled c below)

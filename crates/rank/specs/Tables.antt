@@ -3,7 +3,7 @@
 -- (proofs/Describes) shows that the tables of an accepted image say what `Ranks` says of its library.
 use Prim.Native.Nat.{ℕ, _+_, _*_, _≤_, _<_}
 use mathlib.Core.Path.{_≡_}
-use mathlib.Core.Bool.{Bool, true, false, cond, _||_}
+use mathlib.Core.Bool.{Bool, true, cond, _||_}
 use mathlib.Core.List.{List}
 use lib.ListN.{length, getD, set, take, drop}
 use lib.Dec.{eqb, ltb}
@@ -11,8 +11,8 @@ use Rattle.column.specs.Sets.{inColumn}
 use Rattle.image.specs.Word.{kind, payload, isKind}
 use Rattle.library.specs.Library.{Alternative, Entry, step, item, call, entriesFrom}
 use Rattle.library.specs.Walk.{entriesEnd, alternativesAt}
-use Rattle.settling.specs.Passes.{Pass}
-use Rattle.general.specs.Scan.{every, total}
+use Rattle.settling.specs.Passes.{Settles}
+use Rattle.general.specs.Scan.{every}
 use Rattle.chains.specs.Ranks.{Ranks}
 use Rattle.rank.specs.Walk.{loweredFrom, depthFrom, fewestFrom}
 use Rattle.question.specs.declared.asked.Asked.{Asked}
@@ -119,6 +119,7 @@ pub record AlternativeRead (worth : Alternative → ℕ) (part : List ℕ) (at :
 -- what a visit of the sequences below n asks of the areas
 pub record Visitable (q : Asked) (n : ℕ) (ahead behind ranks part places : List ℕ) : Type 0 where
   pub readable : Readable (q .none) ahead behind ranks part
+  pub low : n ≤ q .none
   pub ranked : n ≤ length ranks
   pub placed : n ≤ length places
   pub within : (c : ℕ) → c < n → getD places c 0 < length part
@@ -137,4 +138,4 @@ module _ (q : Asked) (ahead behind part places : List ℕ) where
 pub record Ranked (any : Bool) (p q : Asked) (n : ℕ) (masks ahead behind part places before after : List ℕ) : Type 0 where
   pub start : List ℕ
   pub steps : Stepped any p masks before start
-  pub settled : Pass (visitedRanks q ahead behind part places) total n start after false
+  pub settled : Settles (visitedRanks q ahead behind part places) n start after

@@ -1,10 +1,13 @@
-// Ranks lowered in place until no visit changes them, by passes like those of the outcome table.
+// Ranks lowered in place, turn by turn, until no visit changes them.
 use crate::read::lowered_rank;
 use question::asked::Asked;
-use settling::named::place_of;
-ghost use mathlib.Core.Bool.{false};
+use settling::turns::ALL_STALE;
+use settling::turns::after_visit;
+use settling::turns::first;
+use settling::turns::next;
 ghost use Prim.Native.Nat.{_<_};
-ghost use Rattle.settling.specs.Passes.{Visit, Pass, Swept, Complete};
+ghost use Rattle.settling.specs.Passes.{Visit, Settles};
+ghost use Rattle.settling.specs.Stale.{Scheduled};
 ghost use Rattle.general.specs.Scan.{total};
 ghost use Rattle.rank.specs.Tables.{Visitable, visitedRanks};
 
@@ -29,49 +32,27 @@ fn visit(
     new < old
 }
 
-// Visits the sequences that `order` names, first to last or last to first; other numbers are passed over. Answers whether anything changed.
-fn pass(
-    q: Asked,
-    ahead: &[u32],
-    behind: &[u32],
-    part: &[u32],
-    places: &[u32],
-    order: &[usize],
-    forward: bool,
-    ranks: &mut [u32],
-    n: usize,
-) -> bool
-    requires { ⌜ Visitable q n (now ahead) (now behind) (now ranks) (now part) (now places) ⌝ }
-    ensures { λ r. ⌜ Swept (visitedRanks q (now (ahead .entry)) (now (behind .entry)) (now (part .entry)) (now (places .entry))) total n (now (order .entry)) (now (ranks .entry)) (now (ranks .exit)) r ⌝ }
-{
-    let mut changed = false;
-    let mut i = 0;
-    while i < order.len() {
-        let c = order[place_of(forward, order.len(), i)];
-        i += 1;
-        if c < n {
-            changed = visit(q, ahead, behind, part, places, ranks, n, c) | changed;
-        }
-    }
-    changed
-}
-
-// Passes in an order that names every sequence and against it, in turn, until one changes nothing.
+// Visits stale sequences, in the order and against it in turn, until none is stale. At first every sequence is.
 pub fn settle(
     q: Asked,
     ahead: &[u32],
     behind: &[u32],
     part: &[u32],
     places: &[u32],
+    callers: &[u64],
     order: &[usize],
     ranks: &mut [u32],
     n: usize,
 )
-    requires { ⌜ Visitable q n (now ahead) (now behind) (now ranks) (now part) (now places) × Complete (now order) n ⌝ }
-    ensures { λ _. ⌜ Pass (visitedRanks q (now (ahead .entry)) (now (behind .entry)) (now (part .entry)) (now (places .entry))) total n (now (ranks .entry)) (now (ranks .exit)) false ⌝ }
+    requires { ⌜ Visitable q n (now ahead) (now behind) (now ranks) (now part) (now places) × Scheduled n (now part) (now places) (now callers) (now order) ⌝ }
+    ensures { λ _. ⌜ Settles (visitedRanks q (now (ahead .entry)) (now (behind .entry)) (now (part .entry)) (now (places .entry))) n (now (ranks .entry)) (now (ranks .exit)) ⌝ }
 {
-    let mut forward = true;
-    while pass(q, ahead, behind, part, places, order, forward, ranks, n) {
-        forward = !forward;
+    let mut stale = [ALL_STALE; 4];
+    let mut turn = first(order, &stale, n);
+    while turn.number < n {
+        let c = turn.number;
+        let fell = visit(q, ahead, behind, part, places, ranks, n, c);
+        after_visit(&mut stale, callers, c, fell);
+        turn = next(order, &stale, n, turn);
     }
 }

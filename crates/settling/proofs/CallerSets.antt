@@ -20,7 +20,7 @@ use Rattle.image.specs.Word.{payload, isKind}
 use Rattle.column.specs.Column.{bit, withFact}
 use Rattle.column.specs.Sets.{inColumn, difference}
 use Rattle.column.proofs.Bits.{bit-none, bit-le, bit-or, bit-and, bit-not, bit-pow}
-use Rattle.settling.specs.Stale.{Fresh, isStale, isCaller, callsIn, calls, Removed, United, Kept, Added, CallsAdded, CallersWritten, Freshened}
+use Rattle.settling.specs.Stale.{Fresh, isStale, isCaller, callsIn, calls, Removed, United, Kept, Added, CallsAdded, CallersWritten}
 
 -- ---- one bit
 
@@ -125,16 +125,6 @@ united-out d callers s s′ words c l e =
     let word = words k (omega arith) in
     let none : bit (bitOr x y) f ≡ 0 = in-none (bitOr x y) f (ap (λ (w : ℕ). inColumn w f) (sym word) ∙ e) in
     (none-in x f (omega (arith, bit-or x y f)), none-in y f (omega (arith, bit-or x y f)))
-
--- ---- a visit
-
-pub freshened-same : (n : ℕ) (callers : List ℕ) (c : ℕ) (s s′ : List ℕ) → Removed c s s′ → Freshened n callers c s s′ false
-freshened-same n callers c s s′ out d l e = (λ other. sym (out .others d other) ∙ e, λ q. absurd (false≢true q))
-
-pub freshened-changed : (n : ℕ) (callers : List ℕ) (c : ℕ) (s s′ s″ : List ℕ) → n ≤ 256 → Removed c s s′ → United c callers s′ s″ → Freshened n callers c s s″ true
-freshened-changed n callers c s s′ s″ few out words d l e =
-    let before = united-out c callers s′ s″ words d (omega arith) e in
-    (λ other. sym (out .others d other) ∙ before .0, λ q. before .1)
 
 -- ---- the callers
 

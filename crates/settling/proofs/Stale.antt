@@ -1,17 +1,13 @@
--- Visits of stale numbers only, for any table: a visit leaves fresh what does not call the number visited. And what holds at the head of the
--- loop over an order that passes over those that are not stale.
+-- Visits of stale numbers only, for any table: a visit leaves fresh what does not call the number visited.
 -- Assumes nothing.
-use Prim.Native.Nat.{ℕ, _+_, _≤_, _<_}
-use native.Mathlib.Omega.{arith}
+use Prim.Native.Nat.{ℕ, _≤_, _<_}
 use native.Mathlib.Decide.{ℕ-discrete}
-use mathlib.Core.Path.{_≡_, refl, sym, ap, _∙_, subst}
+use mathlib.Core.Path.{_≡_, refl, sym, _∙_, subst}
 use mathlib.Core.Bool.{Bool, true, false}
 use mathlib.Core.List.{List}
-use lib.ListN.{length, getD}
-use borrow.Author.Count.{below-more}
-use Rattle.settling.specs.Passes.{Visit, placeOf}
+use lib.ListN.{length}
+use Rattle.settling.specs.Passes.{Visit}
 use Rattle.settling.specs.Stale.{Fresh}
-use Rattle.settling.proofs.Visits.{Sweeping}
 
 -- what the laws ask of a visit: one that changes nothing still changes nothing after a visit of a number that it does not call, and neither
 -- does a second visit of a number that does not call itself
@@ -37,18 +33,3 @@ module _ {visit : List ℕ → ℕ → List ℕ} {weight : List ℕ → ℕ} {n 
         | yes here ↦ subst (λ (k : ℕ). visit t k ≡ t) (sym here) (sym (v .done) ∙ same)
         | no other ↦ fresh d l (after d l e .0 other)
       ])
-
-module _ {visit : List ℕ → ℕ → List ℕ} {weight : List ℕ → ℕ} {n : ℕ} where
-  -- a number whose visit would change nothing is passed over
-  pub sweeping-fresh : (order : List ℕ) (forward : Bool) (t₀ t : List ℕ) (changed : Bool) (i c : ℕ) → i < length order
-      → c ≡ getD order (placeOf forward (length order) i) 0 → visit t c ≡ t → Sweeping visit weight n order forward t₀ t changed i
-      → Sweeping visit weight n order forward t₀ t changed (i + 1)
-  sweeping-fresh order forward t₀ t changed i c l e still p =
-      record {
-        within = omega arith;
-        reached = p .reached;
-        falls = p .falls;
-        settled = λ q.
-            below-more (λ (k : ℕ). getD order (placeOf forward (length order) k) 0 < n → visit t (getD order (placeOf forward (length order) k) 0) ≡ t) i
-            (p .settled q) (λ small. ap (visit t) (sym e) ∙ still);
-      }

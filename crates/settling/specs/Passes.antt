@@ -1,5 +1,5 @@
 -- Visits in place until nothing changes, in the form that the loops follow, for any table: a visit of a number gives another table, by the
--- table as it stands, and a pass visits numbers one after the other.
+-- table as it stands.
 use Prim.Native.Nat.{ℕ, _-_, _<_}
 use mathlib.Core.Path.{_≡_}
 use mathlib.Core.Bool.{Bool, true, false, cond}
@@ -29,19 +29,6 @@ module _ (visit : List ℕ → ℕ → List ℕ) where
       pub done : after ≡ visit before c
       pub falls : changed ≡ true → weight after < weight before
       pub stays : changed ≡ false → after ≡ before
-
-    -- what a pass that goes over all numbers below n promises: it visits; the weight falls where it changed something; otherwise no visit
-    -- changes anything
-    pub record Pass (n : ℕ) (before after : List ℕ) (changed : Bool) : Type 0 where
-      pub reached : Reached n before after
-      pub falls : changed ≡ true → weight after < weight before
-      pub settled : changed ≡ false → Settled n after
-
-    -- what a pass over the numbers that an order names promises: otherwise no visit of one of them changes anything
-    pub record Swept (n : ℕ) (order before after : List ℕ) (changed : Bool) : Type 0 where
-      pub reached : Reached n before after
-      pub falls : changed ≡ true → weight after < weight before
-      pub settled : changed ≡ false → (i : ℕ) → i < length order → getD order i 0 < n → visit after (getD order i 0) ≡ after
 
 -- the order names number c
 pub record Named (order : List ℕ) (c : ℕ) : Type 0 where

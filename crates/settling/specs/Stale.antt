@@ -1,5 +1,5 @@
--- Visits of stale numbers only: a number is stale until it is visited, and again where one that it calls has changed since. So a visit of a
--- number that is not stale changes nothing. Then the sets of sequences by which the passes of the outcome table know which are stale.
+-- Visits of stale numbers only: a number is stale until it is visited, and again where one that it calls has changed since, and a visit of one
+-- that is not stale changes nothing. Then the sets of sequences by which it is known which are stale.
 use Prim.Native.Nat.{ℕ, _+_, _*_, _/_, _%_, _≤_, _<_}
 use mathlib.Core.Path.{_≡_}
 use mathlib.Core.Bool.{Bool, true, false, cond, _&&_, _||_}
@@ -9,6 +9,7 @@ use lib.Dec.{eqb}
 use lib.ListN.{length, getD, drop}
 use Rattle.image.specs.Word.{payload, isKind}
 use Rattle.column.specs.Sets.{inColumn}
+use Rattle.settling.specs.Passes.{Complete}
 
 -- no visit of a number below n that is not stale changes the table
 abbrev pub Fresh : (List ℕ → ℕ → List ℕ) → ℕ → (ℕ → Bool) → List ℕ → Type 0
@@ -21,12 +22,6 @@ isStale stale c = inColumn (getD stale (c / 64) 0) (c % 64)
 -- sequence c is one of the callers of sequence d
 abbrev pub isCaller : List ℕ → ℕ → ℕ → Bool
 isCaller callers d c = inColumn (getD callers (4 * d + c / 64) 0) (c % 64)
-
--- there is room for the sets of the sequences below n
-pub record Sets (n : ℕ) (callers stale : List ℕ) : Type 0 where
-  pub few : n ≤ 256
-  pub room : 4 * n ≤ length callers
-  pub four : length stale ≡ 4
 
 -- the words up to the next sequence call sequence d
 unfoldable pub callsIn : ℕ → List ℕ → Bool
@@ -65,7 +60,9 @@ abbrev pub CallersWritten : ℕ → List ℕ → List ℕ → List ℕ → Type 
 CallersWritten n part places callers =
     (c d : ℕ) → c < n → 4 * d + 4 ≤ length callers → calls part places c d ≡ true → isCaller callers d c ≡ true
 
--- a visit of sequence c: of the others none is taken out, and where it changed something its callers are put in
-abbrev pub Freshened : ℕ → List ℕ → ℕ → List ℕ → List ℕ → Bool → Type 0
-Freshened n callers c before after changed =
-    (d : ℕ) → d < n → isStale after d ≡ false → ((d ≡ c → ⊥) → isStale before d ≡ false) × (changed ≡ true → isCaller callers c d ≡ false)
+-- what settling a table of the sequences below n goes by: an order that names each of them, and the sets of their callers
+pub record Scheduled (n : ℕ) (part places callers order : List ℕ) : Type 0 where
+  pub few : n ≤ 256
+  pub room : 4 * n ≤ length callers
+  pub written : CallersWritten n part places callers
+  pub complete : Complete order n

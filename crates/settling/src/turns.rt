@@ -9,6 +9,9 @@ ghost use lib.ListN.{length};
 ghost use Rattle.settling.specs.Passes.{Complete};
 ghost use Rattle.settling.specs.Turns.{toVisit, StalePlace, TurnAt, NextTurn, StaleAfter};
 
+// Four such words are the set of all sequences.
+pub const ALL_STALE: u64 = 0xffffffffffffffff;
+
 // A turn: the number that is visited, the place from which the next one is looked for, and whether the order is gone through first to last.
 pub struct Turn {
     pub number: usize,

@@ -19,7 +19,7 @@ use Rattle.library.specs.Tables.{StepsAsked, SequencesAsked, maskOf, masks, pla
 use Rattle.library.proofs.Accepted.{faultless, parts, library-is}
 use Rattle.library.proofs.Lookup.{noFacts, words-at, Placed, place-at, places-length}
 use Rattle.settling.specs.Passes.{Blank, Complete}
-use Rattle.settling.specs.Stale.{CallersWritten}
+use Rattle.settling.specs.Stale.{CallersWritten, Scheduled}
 use Rattle.tables.specs.Tables.{smallSteps, smallSequences, isSmall, TablesAsked, Prepared}
 
 -- ---- the size of an image
@@ -141,6 +141,12 @@ module _ {h : Head} {image ms₀ ps₀ ms ps callers order : List ℕ} (accepted
               omega (arith, place-is 0 some .within)
         ]
 
-    -- each sequence is among the callers of those that it calls
-    pub called-in : CallersWritten (h .sequences) part ps callers
-    called-in = subst (λ (x : List ℕ). CallersWritten (h .sequences) x ps callers) (sym sequences) (made .called)
+    -- the order of visits and the callers are what settling a table goes by
+    pub scheduled : 4 * h .sequences ≤ length callers → Scheduled (h .sequences) part ps callers (take (h .sequences) order)
+    scheduled room =
+        record {
+          few = few-sequences image h accepted;
+          room = room;
+          written = subst (λ (x : List ℕ). CallersWritten (h .sequences) x ps callers) (sym sequences) (made .called);
+          complete = made .complete;
+        }

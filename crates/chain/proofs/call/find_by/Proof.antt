@@ -17,13 +17,13 @@ mark-entries-requires c κs = search needs
 rank-requires : tie.Need-rank-requires
 rank-requires c κs =
     let marked = c .before .before .before .before .before .before .before in
-    rank-asked (findable-at (marked .before .before .before .before .before .before .before .before .before .before .before .before .pre .0) _ _ (omega (arith, marked .mark-entries .kept)) (omega (arith, marked .mark-entries .kept)))
+    rank-asked (findable-at (marked .before .before .before .before .before .before .before .before .before .before .before .before .before .pre .0) _ _ (omega (arith, marked .mark-entries .kept)) (omega (arith, marked .mark-entries .kept)))
 
 write-chain-requires : tie.Need-write-chain-requires
 write-chain-requires c κs =
     let ranked = c .before .before .before .before .before .before in
     let marked = ranked .before .before .before .before .before .before .before .before in
-    let start = marked .before .before .before .before .before .before .before .before .before .before .before .before in
+    let start = marked .before .before .before .before .before .before .before .before .before .before .before .before .before in
     write-asked (findable-at (start .pre .0) _ _ (omega (arith, marked .mark-entries .kept)) (omega (arith, marked .mark-entries .kept))) _ (omega (arith, ranked .rank .kept)) (start .args .c) (start .pre .1)
 
 same-length : tie.Need-same-length

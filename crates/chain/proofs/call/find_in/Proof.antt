@@ -46,41 +46,42 @@ slice-aggregate-find-by : tie.Need-slice-aggregate-find-by
 slice-aggregate-find-by c = search needs
 
 array-share-prefix-order : tie.Need-array-share-prefix-order
-array-share-prefix-order c = let start = c .before .before .before .before .before .before .before .before .before .before .before .before .before .before .before .before .before .before .before .before .before .before .before .before in omega (arith, c .before .before .before .before .before .before .before .before .prepare .kept, few-sequences (start .args .image .now) (start .args .h) (start .pre .0 .accepted))
+array-share-prefix-order c = let start = c .before .before .before .before .before .before .before .before .before .before .before .before .before .before .before .before .before .before .before .before .before .before .before .before .before in omega (arith, c .before .before .before .before .before .before .before .before .before .prepare .kept, few-sequences (start .args .image .now) (start .args .h) (start .pre .0 .accepted))
 
 slice-aggregate-find-by-2 : tie.Need-slice-aggregate-find-by-2
 slice-aggregate-find-by-2 c =
-    let start = c .before .before .before .before .before .before .before .before .before .before .before .before .before .before .before .before .before .before .before .before .before .before .before .before .before in
-    sym (length-take-le _ _ (omega (arith, c .before .before .before .before .before .before .before .before .before .prepare .kept, few-sequences (start .args .image .now) (start .args .h) (start .pre .0 .accepted))))
+    let start = c .before .before .before .before .before .before .before .before .before .before .before .before .before .before .before .before .before .before .before .before .before .before .before .before .before .before in
+    sym (length-take-le _ _ (omega (arith, c .before .before .before .before .before .before .before .before .before .before .prepare .kept, few-sequences (start .args .image .now) (start .args .h) (start .pre .0 .accepted))))
 
 slice-relend-prefix-find-by : tie.Need-slice-relend-prefix-find-by
-slice-relend-prefix-find-by c = c .before .before .before .before .before .before .before .before .before .before .before .before .before .before .before .before .before .before .before .before .before .before .before .before .before .pre .1 .ahead-asked .room
+slice-relend-prefix-find-by c = c .before .before .before .before .before .before .before .before .before .before .before .before .before .before .before .before .before .before .before .before .before .before .before .before .before .before .pre .1 .ahead-asked .room
 
 slice-aggregate-find-by-3 : tie.Need-slice-aggregate-find-by-3
-slice-aggregate-find-by-3 c = ranks-long (c .before .before .before .before .before .before .before .before .before .before .before .before .before .before .before .before .before .before .before .before .before .before .before .before .before .before .pre .1 .ahead-asked)
+slice-aggregate-find-by-3 c = ranks-long (c .before .before .before .before .before .before .before .before .before .before .before .before .before .before .before .before .before .before .before .before .before .before .before .before .before .before .before .pre .1 .ahead-asked)
 
 slice-relend-prefix-find-by-2 : tie.Need-slice-relend-prefix-find-by-2
-slice-relend-prefix-find-by-2 c = c .before .before .before .before .before .before .before .before .before .before .before .before .before .before .before .before .before .before .before .before .before .before .before .before .before .before .pre .1 .behind-asked .room
+slice-relend-prefix-find-by-2 c = c .before .before .before .before .before .before .before .before .before .before .before .before .before .before .before .before .before .before .before .before .before .before .before .before .before .before .before .pre .1 .behind-asked .room
 
 slice-aggregate-find-by-4 : tie.Need-slice-aggregate-find-by-4
-slice-aggregate-find-by-4 c = ranks-long (c .before .before .before .before .before .before .before .before .before .before .before .before .before .before .before .before .before .before .before .before .before .before .before .before .before .before .before .pre .1 .behind-asked)
+slice-aggregate-find-by-4 c = ranks-long (c .before .before .before .before .before .before .before .before .before .before .before .before .before .before .before .before .before .before .before .before .before .before .before .before .before .before .before .before .pre .1 .behind-asked)
 
 slice-relend-prefix-find-by-3 : tie.Need-slice-relend-prefix-find-by-3
-slice-relend-prefix-find-by-3 c = c .before .before .before .before .before .before .before .before .before .before .before .before .before .before .before .before .before .before .before .before .before .before .before .before .before .before .before .pre .1 .links-asked .room
+slice-relend-prefix-find-by-3 c = c .before .before .before .before .before .before .before .before .before .before .before .before .before .before .before .before .before .before .before .before .before .before .before .before .before .before .before .before .pre .1 .links-asked .room
 
 slice-aggregate-find-by-5 : tie.Need-slice-aggregate-find-by-5
-slice-aggregate-find-by-5 c = ranks-long (c .before .before .before .before .before .before .before .before .before .before .before .before .before .before .before .before .before .before .before .before .before .before .before .before .before .before .before .before .pre .1 .links-asked)
+slice-aggregate-find-by-5 c = ranks-long (c .before .before .before .before .before .before .before .before .before .before .before .before .before .before .before .before .before .before .before .before .before .before .before .before .before .before .before .before .before .pre .1 .links-asked)
 
 find-by-requires : tie.Need-find-by-requires
 find-by-requires c κs =
-    let made = c .before .before .before .before .before .before .before .before .before .before .before .before .before in
+    let made = c .before .before .before .before .before .before .before .before .before .before .before .before .before .before in
     let part = made .before .before .before .before .before in
     let start = part .before .before .before .before .before .before .before .before .before .before .before in
     let asked = start .pre .0 in
     let areas = start .pre .1 in (
       tables-findable (asked .accepted) (made .prepare .ensures) (part .sequences-part .ensures) asked (ranks-unranked (areas .ahead-asked)) (ranks-unranked (areas .behind-asked))
           (ranks-unranked (areas .links-asked)) (blank-zeros 256) (omega (arith, made .prepare .kept, areas .masks-room))
-          (omega (arith, made .prepare .kept, few-sequences (start .args .image .now) (start .args .h) (asked .accepted))),
+          (omega (arith, made .prepare .kept, few-sequences (start .args .image .now) (start .args .h) (asked .accepted)))
+          (omega (arith, made .prepare .kept, areas .callers-room)),
       asked .sequence,
     )
 
@@ -105,7 +106,7 @@ same-length-6 c = search needs
 returns : tie.Need-returns
 returns c =
     let found = c .before .before .before .before .before .before .before .before in
-    let made = found .before .before .before .before .before .before .before .before .before .before .before .before .before .before in
+    let made = found .before .before .before .before .before .before .before .before .before .before .before .before .before .before .before in
     let part = made .before .before .before .before .before in
     let start = part .before .before .before .before .before .before .before .before .before .before .before in
     let a = start .args in

@@ -10,12 +10,12 @@ use Rattle.chain.proofs.call.rank.Reads as rank-reads
 
 rank-requires : tie.Need-rank-requires
 rank-requires c κs =
-    let start = c .before .before .before .before .before .before .before .before .before .before .before in
+    let start = c .before .before .before .before .before .before .before .before .before .before .before .before in
     mark-asked (start .pre) _ (start .pre .ahead-long)
 
 rank-requires-2 : tie.Need-rank-requires-2
 rank-requires-2 c κs =
-    let start = c .before .before .before .before .before .before .before .before .before .before .before .before .before .before .before in
+    let start = c .before .before .before .before .before .before .before .before .before .before .before .before .before .before .before .before in
     mark-asked (start .pre) _ (start .pre .behind-long)
 
 same-length : tie.Need-same-length

@@ -16,7 +16,7 @@ write-step-ranks-requires c κs = search needs
 settle-requires : tie.Need-settle-requires
 settle-requires c κs =
     let ranked = c .before .before .before in
-    let start = ranked .before .before .before .before .before .before .before .before .before in
+    let start = ranked .before .before .before .before .before .before .before .before .before .before in
     (visitable-at _ (omega (arith, ranked .write-step-ranks .kept)) (start .pre .1), start .pre .2)
 
 same-length : tie.Need-same-length

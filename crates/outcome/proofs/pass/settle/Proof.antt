@@ -2,8 +2,7 @@
 -- Assumes nothing.
 use borrow.Author.Needs.{needs}
 use native.Mathlib.Omega.{arith}
-use mathlib.Core.Path.{_≡_, refl, sym, _∙_}
-use lib.ListN.{length}
+use mathlib.Core.Path.{refl}
 use Rattle.settling.specs.Passes.{here}
 use Rattle.settling.proofs.Visits.{reached-length}
 use Rattle.settling.proofs.CallerSets.{fresh-start}
@@ -39,7 +38,7 @@ loop-holds c =
     let a = start .args in
     record {
       reached = here;
-      fresh = fresh-start (visited (a .all) (a .steps .now) (a .part .now) (a .places .now)) (a .n) (a .table .now) (start .pre .2);
+      fresh = fresh-start (visited (a .all) (a .steps .now) (a .part .now) (a .places .now)) (a .n) (a .table .now) (start .pre .1 .few);
       four = refl;
       next = c .first .ensures;
     }
@@ -70,7 +69,7 @@ loop-less c =
     let at-loop = visit .before .before .before .before in
     let start = at-loop .before .before .before .before .before .before .before .before .before in
     let a = start .args in
-    settling-less (a .table .now) (at-loop .loop .table) (at-loop .loop .stale) (at-loop .loop .turn) (a .callers .now) (visit .visit .last .1 .1 .1 .1 .0) (after .after-visit .last .0) (visit .visit .result) (start .pre .2) (visit .before .before .if1 .taken)
+    settling-less (a .table .now) (at-loop .loop .table) (at-loop .loop .stale) (at-loop .loop .turn) (a .callers .now) (visit .visit .last .1 .1 .1 .1 .0) (after .after-visit .last .0) (visit .visit .result) (start .pre .1 .few) (visit .before .before .if1 .taken)
     (at-loop .loop .inv) (visit .visit .ensures) (after .after-visit .ensures)
 
 loop-again : tie.Need-loop-again Inv-loop μ-loop
@@ -82,9 +81,9 @@ loop-again c =
     let a = start .args in
     let long = reached-length (visits-lower (a .all) (a .steps .now) (a .part .now) (a .places .now) (a .n)) (at-loop .loop .inv .reached) in
     settling-turn (a .callers .now) (visits-local (a .all) (a .steps .now) (a .part .now) (a .places .now) (a .n))
-    (λ d e l m. start .pre .4 d e l (omega (arith, start .pre .3)))
+    (λ d e l m. start .pre .1 .written d e l (omega (arith, start .pre .1 .room)))
     (a .table .now) (at-loop .loop .table) (at-loop .loop .stale) (at-loop .loop .turn) (visit .visit .last .1 .1 .1 .1 .0) (after .after-visit .last .0) (visit .visit .result) (c .next .result)
-    (start .pre .2) (omega (arith, long, start .pre .0 .rows)) (visit .before .before .if1 .taken) (at-loop .loop .inv) (visit .visit .ensures) (after .after-visit .ensures) (omega (arith, after .after-visit .kept)) (c .next .ensures)
+    (start .pre .1 .few) (omega (arith, long, start .pre .0 .rows)) (visit .before .before .if1 .taken) (at-loop .loop .inv) (visit .visit .ensures) (after .after-visit .ensures) (omega (arith, after .after-visit .kept)) (c .next .ensures)
 
 same-length : tie.Need-same-length Inv-loop μ-loop
 same-length c =

@@ -1,59 +1,118 @@
--- `rank::pass::settle` meets its contract: each pass that changes something lowers the sum of the ranks.
+-- `rank::pass::settle` meets its contract, turn by turn.
 -- Assumes nothing.
-use mathlib.Core.Path.{subst}
-use Rattle.settling.specs.Passes.{Reached, here, Pass}
-use Rattle.settling.proofs.Visits.{reached-length, reached-on, pass-after, swept-pass}
+use borrow.Author.Needs.{needs}
+use native.Mathlib.Omega.{arith}
+use mathlib.Core.Path.{refl}
+use Rattle.settling.specs.Passes.{here}
+use Rattle.settling.proofs.Visits.{reached-length}
+use Rattle.settling.proofs.CallerSets.{fresh-start}
+use Rattle.settling.proofs.Settling.{Settling, load, settling-less, settling-turn, settling-end}
 use Rattle.general.specs.Scan.{total}
 use Rattle.rank.specs.Tables.{visitedRanks}
 use Rattle.rank.proofs.Settling.{visits-lower, visitable-at}
+use Rattle.rank.proofs.Calls.{visits-local}
 use Rattle.rank.proofs.pass.settle.Statement.{statement}
 use Rattle.rank.proofs.pass.settle.Tie as tie
 use Rattle.rank.proofs.pass.settle.Reads as reads
 use Rattle.rank.proofs.pass.settle.Lts as lts
-use Rattle.rank.proofs.pass.pass.Reads as pass-reads
+use Rattle.rank.proofs.pass.visit.Reads as visit-reads
+use Rattle.settling.proofs.turns.after_visit.Reads as after-visit-reads
+use Rattle.settling.proofs.turns.first.Reads as first-reads
+use Rattle.settling.proofs.turns.next.Reads as next-reads
 
 abbrev Inv-loop : tie.InvT-loop
-Inv-loop q ahead behind part places order ranks₀ n forward₀ ranks forward =
-    Reached (visitedRanks q ahead behind part places) n ranks₀ ranks
+Inv-loop q ahead behind part places callers order ranks₀ n stale₀ turn₀ ranks stale turn =
+    Settling (visitedRanks q ahead behind part places) n ranks₀ ranks stale turn
 
 abbrev μ-loop : tie.MeasureT-loop
-μ-loop q ahead behind part places order ranks₀ n forward₀ ranks forward = total ranks
+μ-loop q ahead behind part places callers order ranks₀ n stale₀ turn₀ ranks stale turn = load total ranks stale
+
+slice-aggregate-first : tie.Need-slice-aggregate-first Inv-loop μ-loop
+slice-aggregate-first c = search needs
+
+first-requires : tie.Need-first-requires Inv-loop μ-loop
+first-requires c κs = search needs
 
 loop-holds : tie.Need-loop-holds Inv-loop μ-loop
-loop-holds c = here
-
-pass-requires : tie.Need-pass-requires Inv-loop μ-loop
-pass-requires c κs =
-    let at-loop = c .before in
-    let start = at-loop .before .before .before .before .before .before .before in
+loop-holds c =
+    let start = c .before .before .before .before .before .before .before .before .before in
     let a = start .args in
-    visitable-at (at-loop .loop .ranks) (reached-length (visits-lower (a .q) (a .ahead .now) (a .behind .now) (a .part .now) (a .places .now) (a .n)) (at-loop .loop .inv)) (start .pre .0)
+    record {
+      reached = here;
+      fresh = fresh-start (visitedRanks (a .q) (a .ahead .now) (a .behind .now) (a .part .now) (a .places .now)) (a .n) (a .ranks .now) (start .pre .1 .few);
+      four = refl;
+      next = c .first .ensures;
+    }
+
+visit-requires : tie.Need-visit-requires Inv-loop μ-loop
+visit-requires c κs =
+    let at-loop = c .before .before .before in
+    let start = at-loop .before .before .before .before .before .before .before .before .before .before in
+    let a = start .args in
+    (visitable-at (at-loop .loop .ranks) (reached-length (visits-lower (a .q) (a .ahead .now) (a .behind .now) (a .part .now) (a .places .now) (a .n)) (at-loop .loop .inv .reached)) (start .pre .0), c .before .if1 .taken)
+
+slice-aggregate-after-visit : tie.Need-slice-aggregate-after-visit Inv-loop μ-loop
+slice-aggregate-after-visit c = search needs
+
+after-visit-requires : tie.Need-after-visit-requires Inv-loop μ-loop
+after-visit-requires c κs = search needs
+
+slice-aggregate-next : tie.Need-slice-aggregate-next Inv-loop μ-loop
+slice-aggregate-next c = search needs
+
+next-requires : tie.Need-next-requires Inv-loop μ-loop
+next-requires c κs = search needs
 
 loop-less : tie.Need-loop-less Inv-loop μ-loop
-loop-less c = c .before .before .before .pass .ensures .falls (c .if1 .taken)
+loop-less c =
+    let after = c .before .before .before in
+    let visit = after .before .before .before .before in
+    let at-loop = visit .before .before .before .before in
+    let start = at-loop .before .before .before .before .before .before .before .before .before .before in
+    let a = start .args in
+    settling-less (a .ranks .now) (at-loop .loop .ranks) (at-loop .loop .stale) (at-loop .loop .turn) (a .callers .now) (visit .visit .last .1 .1 .1 .1 .1 .0) (after .after-visit .last .0) (visit .visit .result) (start .pre .1 .few) (visit .before .before .if1 .taken)
+    (at-loop .loop .inv) (visit .visit .ensures) (after .after-visit .ensures)
 
 loop-again : tie.Need-loop-again Inv-loop μ-loop
 loop-again c =
-    let turn = c .before .before .before in
-    reached-on (turn .before .before .loop .inv) (turn .pass .ensures .reached)
+    let after = c .before .before .before in
+    let visit = after .before .before .before .before in
+    let at-loop = visit .before .before .before .before in
+    let start = at-loop .before .before .before .before .before .before .before .before .before .before in
+    let a = start .args in
+    let long = reached-length (visits-lower (a .q) (a .ahead .now) (a .behind .now) (a .part .now) (a .places .now) (a .n)) (at-loop .loop .inv .reached) in
+    settling-turn (a .callers .now) (visits-local (a .q) (a .ahead .now) (a .behind .now) (a .part .now) (a .places .now) (a .n) (start .pre .0 .low))
+    (λ d e l m. start .pre .1 .written d e l (omega (arith, start .pre .1 .room)))
+    (a .ranks .now) (at-loop .loop .ranks) (at-loop .loop .stale) (at-loop .loop .turn) (visit .visit .last .1 .1 .1 .1 .1 .0) (after .after-visit .last .0) (visit .visit .result) (c .next .result)
+    (start .pre .1 .few) (omega (arith, long, start .pre .0 .ranked)) (visit .before .before .if1 .taken) (at-loop .loop .inv) (visit .visit .ensures) (after .after-visit .ensures) (omega (arith, after .after-visit .kept)) (c .next .ensures)
 
 same-length : tie.Need-same-length Inv-loop μ-loop
 same-length c =
-    let turn = c .before .before .before in
-    let at-loop = turn .before .before in
-    let a = at-loop .before .before .before .before .before .before .before .args in
-    reached-length (visits-lower (a .q) (a .ahead .now) (a .behind .now) (a .part .now) (a .places .now) (a .n)) (reached-on (at-loop .loop .inv) (turn .pass .ensures .reached))
+    let at-loop = c .before .before in
+    let a = at-loop .before .before .before .before .before .before .before .before .before .before .args in
+    reached-length (visits-lower (a .q) (a .ahead .now) (a .behind .now) (a .part .now) (a .places .now) (a .n)) (at-loop .loop .inv .reached)
 
 returns : tie.Need-returns Inv-loop μ-loop
 returns c =
-    let turn = c .before .before .before in
-    let at-loop = turn .before .before in
-    let start = at-loop .before .before .before .before .before .before .before in
-    let a = start .args in
-    subst (Pass (visitedRanks (a .q) (a .ahead .now) (a .behind .now) (a .part .now) (a .places .now)) total (a .n) (a .ranks .now) (turn .pass .last .1 .1 .1 .1 .1 .1 .1 .0)) (c .if1 .left)
-    (pass-after (visits-lower (a .q) (a .ahead .now) (a .behind .now) (a .part .now) (a .places .now) (a .n)) (a .ranks .now) (at-loop .loop .ranks) (turn .pass .last .1 .1 .1 .1 .1 .1 .1 .0) (turn .pass .result) (start .pre .0 .ranked) (at-loop .loop .inv) (swept-pass (a .order .now) (at-loop .loop .ranks) (turn .pass .last .1 .1 .1 .1 .1 .1 .1 .0) (turn .pass .result) (start .pre .1) (turn .pass .ensures)))
+    let at-loop = c .before .before in
+    let a = at-loop .before .before .before .before .before .before .before .before .before .before .args in
+    settling-end (a .ranks .now) (at-loop .loop .ranks) (at-loop .loop .stale) (at-loop .loop .turn) (c .if1 .left) (at-loop .loop .inv)
 
 pub settle-spec : {M : Type 1} → statement M
 settle-spec =
     tie.close
-    (tie.spec Inv-loop μ-loop loop-holds pass-requires loop-less loop-again same-length returns)
+    (tie.spec
+    Inv-loop
+    μ-loop
+    slice-aggregate-first
+    first-requires
+    loop-holds
+    visit-requires
+    slice-aggregate-after-visit
+    after-visit-requires
+    slice-aggregate-next
+    next-requires
+    loop-less
+    loop-again
+    same-length
+    returns)
