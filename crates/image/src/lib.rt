@@ -1,3 +1,3 @@
-// The reader of library images: refusals 1 to 7 of document 01, and the library that an accepted image holds.
+// The words of an image: kinds, payloads, the head and the sum word; and the answers, refusals with their numbers and positions.
 pub mod answer;
 pub mod word;

@@ -1,4 +1,4 @@
--- The tables that are made of an accepted image are what the passes ask, and a settled table is the outcome table.
+-- The tables that are made of an accepted image are what the visits ask, and a settled table is the outcome table.
 -- Assumes nothing.
 use Prim.Native.Nat.{ℕ, zero, suc, _*_, _≤_}
 use native.Mathlib.Decide.{decLt}

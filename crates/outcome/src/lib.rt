@@ -1,4 +1,4 @@
-// The table of what is possible for each sequence, by passes until nothing changes.
+// The table of what is possible for each sequence, settled by visits until none changes a row.
 pub mod pass;
 pub mod read;
 pub mod steps;

@@ -1,4 +1,4 @@
-// Links, chains and ranks: what a chain is and which chain answers a question, their theory, and the passes that find the ranks.
+// Ranks: tables of words that say how few links, or how little depth, an entry or a sequence takes, and the visits that settle them.
 pub mod entry;
 pub mod pass;
 pub mod read;

@@ -1,4 +1,5 @@
-// Visits in place until nothing changes, in any table: the laws of passes, the order of visits, and which sequences must be visited again.
+// Visits in place until nothing changes, in any table: which sequence is visited next, which must be visited again, the order of visits, and
+// the laws of all this.
 pub mod callers;
 pub mod named;
 pub mod order;

@@ -1,6 +1,6 @@
-// The order of visits: a walk along the callers, from each sequence to those that call it, finishes a sequence after all that it leads to. So
-// the order is written from its end: a sequence comes after those that it calls, unless they call it in turn. What is proved of the table
-// holds for every order that names all sequences, and that is tested. So the walk promises little, and each index is tested where it is used.
+// The order of visits: a walk along the callers, from each sequence to those that call it, finishes a sequence after all that it leads to,
+// and the order is written from its end: a sequence comes after those that it calls, unless they call it in turn. What is proved of the table
+// holds for every order that names all sequences, and that is tested: the walk promises little, and each index is tested where it is used.
 use crate::callers::is_stale;
 use crate::callers::remove;
 use crate::named::complete;
