@@ -81,7 +81,20 @@ alternatives-skip (w ∷ ws) = go (isEntry w) refl (alternatives-skip ws)
         ∙ rest ∙ sym (alternatives-cons w ws false true (entry-opens-none w e) e)
     go false e rest = ap (λ (es : List Entry). alternativesFrom (drop (length es) (w ∷ ws))) (entries-cons w ws false e)
 
+-- after them stands no entry
+entries-over : (ws : List ℕ) → entriesFrom (drop (length (entriesFrom ws)) ws) ≡ []
+entries-over [] = ap entriesFrom (drop-nil (length (entriesFrom []))) ∙ entries-nil
+entries-over (w ∷ ws) = go (isEntry w) refl (entries-over ws)
+  where
+    go : (b : Bool) → isEntry w ≡ b → entriesFrom (drop (length (entriesFrom ws)) ws) ≡ []
+        → entriesFrom (drop (length (entriesFrom (w ∷ ws))) (w ∷ ws)) ≡ []
+    go true e rest = ap (λ (es : List Entry). entriesFrom (drop (length es) (w ∷ ws))) (entries-cons w ws true e) ∙ rest
+    go false e rest = ap (λ (es : List Entry). entriesFrom (drop (length es) (w ∷ ws))) (entries-cons w ws false e) ∙ entries-cons w ws false e
+
 module _ (part : List ℕ) (at : ℕ) where
+  pub end-ends : entriesFrom (drop (entriesEnd part at) part) ≡ []
+  end-ends = sym (ap entriesFrom (drop-drop (length (entriesFrom (drop at part))) at part)) ∙ entries-over (drop at part)
+
   pub end-within : at ≤ length part → entriesEnd part at ≤ length part
   end-within l = omega (arith, entries-short (drop at part), length-drop at part)
 

@@ -5,22 +5,29 @@ use Prim.Native.Nat.{ℕ, zero, suc, _+_, _-_, _*_, _/_, _%_, _^_, _≤_, _<_}
 use native.Mathlib.Omega.{arith}
 use native.Mathlib.Numerals.{add-one}
 use native.Mathlib.Nat.{add-zero}
-use native.Mathlib.Decide.{ℕ-discrete}
-use mathlib.Core.Path.{_≡_, refl, sym, ap, _∙_, subst}
+use native.Mathlib.Decide.{ℕ-discrete, decLt}
+use mathlib.Core.Path.{_≡_, refl, sym, ap, ap₂, _∙_, subst}
 use mathlib.Core.Bool.{Bool, true, false, cond, _&&_, _||_, false≢true, true≢false}
 use mathlib.Core.List.{List, [], _∷_}
 use lib.Bits.{bitOr, or-zero-l}
-use lib.Dec.{eqb}
-use lib.ListN.{length, getD, set, drop, drop-of-length-le}
+use lib.Dec.{eqb, ltb}
+use lib.ListN.{length, getD, set, drop, List·getD-eq-default}
 use lib.Pow.{pow-lt}
 use lib.Seq.{drop-cons, getD-set-same, getD-set-other}
 use mir.Val.{boolByte}
-use borrow.Author.Tests.{eqb-true, eqb-false, eq-eqb, ne-eqb}
-use Rattle.image.specs.Word.{payload, isKind}
+use borrow.Author.Tests.{eqb-true, eqb-false, eq-eqb, ne-eqb, lt-ltb, le-ltb}
+use Rattle.image.specs.Word.{kind, payload, isKind, isEntry}
+use Rattle.general.specs.Tests.{some}
+use Rattle.general.proofs.Bools.{or-left, or-right}
+use Rattle.library.specs.Library.{Entry, step, item, call, Alternative, entriesFrom, alternativesFrom}
+use Rattle.library.specs.Walk.{entryOf, entriesEnd}
+use Rattle.library.proofs.Walking.{end-skips, end-ends}
+use Rattle.settling.proofs.Calls.{left, left-entry, left-opener, left-none}
 use Rattle.column.specs.Column.{bit, withFact}
 use Rattle.column.specs.Sets.{inColumn, difference}
 use Rattle.column.proofs.Bits.{bit-none, bit-le, bit-or, bit-and, bit-not, bit-pow}
-use Rattle.settling.specs.Stale.{Fresh, isStale, isCaller, callsIn, calls, Removed, United, Kept, Added, CallsAdded, CallersWritten}
+use Rattle.settling.specs.Passes.{Blank}
+use Rattle.settling.specs.Stale.{Fresh, isStale, isCaller, isCallOf, callsOf, calls, Removed, United, Put, CallersWritten}
 
 -- ---- one bit
 
@@ -47,8 +54,12 @@ none-in a f e = ne-eqb (bit a f) 1 (λ q. omega arith)
 with-same : (a f : ℕ) → inColumn (withFact a f) f ≡ true
 with-same a f = one-in (withFact a f) f (omega (arith, bit-or a (2 ^ f) f, bit-le a f, bit-pow f f, ap boolByte (eq-eqb f f refl)))
 
-with-kept : (a f k : ℕ) → inColumn a k ≡ true → inColumn (withFact a f) k ≡ true
-with-kept a f k e = one-in (withFact a f) k (omega (arith, bit-or a (2 ^ f) k, in-one a k e, bit-le (2 ^ f) k))
+with-other : (a f k : ℕ) → (k ≡ f → ⊥) → inColumn (withFact a f) k ≡ inColumn a k
+unfolding inColumn
+with-other a f k other =
+    let same : bit (withFact a f) k ≡ bit a k =
+    omega (arith, bit-or a (2 ^ f) k, bit-le a k, bit-pow f k, ap boolByte (ne-eqb f k (λ e. other (sym e)))) in
+    ap (λ (b : ℕ). eqb b 1) same
 
 -- a column with a bit less
 without-other : (a f k : ℕ) → f < 64 → k < 64 → (k ≡ f → ⊥) → inColumn (difference 64 a (withFact 0 f)) k ≡ inColumn a k
@@ -74,10 +85,6 @@ without-same a f low =
 pub back : (a b : Bool) → (a ≡ true → b ≡ true) → b ≡ false → a ≡ false
 back true b there e = absurd (false≢true (sym e ∙ there refl))
 back false b there e = refl
-
-must : (a : Bool) → (a ≡ false → ⊥) → a ≡ true
-must true never = refl
-must false never = absurd (never refl)
 
 -- ---- the stale sequences
 
@@ -128,118 +135,192 @@ united-out d callers s s′ words c l e =
 
 -- ---- the callers
 
-pub added : (s : List ℕ) (w c p v : ℕ) → p ≡ payload w → c < 256 → 4 * p + c / 64 < length s → v ≡ withFact (getD s (4 * p + c / 64) 0) (c % 64)
-    → Added w c s (set s (4 * p + c / 64) v)
-added s w c p v named few l e =
-    let k = 4 * p + c / 64 in
-    record {
-      added = λ room.
-          subst (λ (q : ℕ). isCaller (set s k v) q c ≡ true) named
-          (ap (λ (x : ℕ). inColumn x (c % 64)) (getD-set-same s k v 0 l ∙ e) ∙ with-same (getD s k 0) (c % 64));
-      kept = λ d b q.
-          elim (ℕ-discrete (4 * d + b / 64) k) [
-            | yes same ↦
-                ap (λ (j : ℕ). inColumn (getD (set s k v) j 0) (b % 64)) same
-                ∙ ap (λ (x : ℕ). inColumn x (b % 64)) (getD-set-same s k v 0 l ∙ e)
-                ∙ with-kept (getD s k 0) (c % 64) (b % 64) (ap (λ (j : ℕ). inColumn (getD s j 0) (b % 64)) (sym same) ∙ q)
-            | no apart ↦ ap (λ (x : ℕ). inColumn x (b % 64)) (getD-set-other s k (4 * d + b / 64) v 0 apart) ∙ q
-          ];
-    }
+or-none : (x : Bool) → x ≡ (x || false)
+or-none true = refl
+or-none false = refl
+
+-- the sequence that a word names has c among its callers
+module _ (s : List ℕ) (w c p v : ℕ) (named : p ≡ payload w) (few : c < 256) (l : 4 * p + c / 64 < length s)
+    (e : v ≡ withFact (getD s (4 * p + c / 64) 0) (c % 64)) where
+  abbrev k : ℕ
+  k = 4 * p + c / 64
+
+  -- the word that is written, at another place or under that name
+  there : (d b : ℕ) → 4 * d + b / 64 ≡ k → isCaller (set s k v) d b ≡ inColumn (withFact (getD s k 0) (c % 64)) (b % 64)
+  there d b same =
+      ap (λ (j : ℕ). inColumn (getD (set s k v) j 0) (b % 64)) same ∙ ap (λ (x : ℕ). inColumn x (b % 64)) (getD-set-same s k v 0 l ∙ e)
+
+  others-callers : (d b : ℕ) → b < 256 → (b ≡ c → payload w ≡ d → ⊥) → isCaller (set s k v) d b ≡ isCaller s d b
+  others-callers d b low other =
+      elim (ℕ-discrete (4 * d + b / 64) k) [
+        | yes same ↦
+            there d b same
+            ∙ with-other (getD s k 0) (c % 64) (b % 64) (λ q. other (omega arith) (omega arith))
+            ∙ ap (λ (j : ℕ). inColumn (getD s j 0) (b % 64)) (sym same)
+        | no apart ↦ ap (λ (x : ℕ). inColumn x (b % 64)) (getD-set-other s k (4 * d + b / 64) v 0 apart)
+      ]
+
+  pub added : Put c (λ d. eqb (payload w) d) s (set s k v)
+  added d b low room = go (eqb b c) (eqb (payload w) d) refl refl
+    where
+      go : (x y : Bool) → eqb b c ≡ x → eqb (payload w) d ≡ y → isCaller (set s k v) d b ≡ (isCaller s d b || (x && y))
+      go true true same name =
+          let one = eqb-true b c same in
+          let two = eqb-true (payload w) d name in
+          there d b (omega arith)
+          ∙ ap (λ (f : ℕ). inColumn (withFact (getD s k 0) (c % 64)) (f % 64)) one
+          ∙ with-same (getD s k 0) (c % 64)
+          ∙ sym (or-right (isCaller s d b) true refl)
+      go true false same name = others-callers d b low (λ q r. eqb-false (payload w) d name r) ∙ or-none (isCaller s d b)
+      go false y same name = others-callers d b low (λ q r. eqb-false b c same q) ∙ or-none (isCaller s d b)
 
 -- where the set has no room
-pub added-none : (s : List ℕ) (w c : ℕ) → c < 256 → length s ≤ 4 * payload w + c / 64 → Added w c s s
-added-none s w c few l = record { added = λ room. absurd (omega arith); kept = λ d b q. q }
+pub added-none : (s : List ℕ) (w c : ℕ) → c < 256 → length s ≤ 4 * payload w + c / 64 → Put c (λ d. eqb (payload w) d) s s
+added-none s w c few l d b low room =
+    or-none (isCaller s d b)
+    ∙ ap (λ (x : Bool). isCaller s d b || x) (sym (and-none (eqb b c)) ∙ ap (λ (y : Bool). eqb b c && y) (sym (ne-eqb (payload w) d (λ q. omega arith))))
+  where
+    and-none : (x : Bool) → (x && false) ≡ false
+    and-none true = refl
+    and-none false = refl
 
--- what holds at the head of the loop over a sequence's words: a call that is not in a set yet is to come
+-- what holds at the head of the loop over a sequence's words: the callers so far, with the calls that are left, are all
 pub record Adding (part : List ℕ) (at c : ℕ) (s₀ s : List ℕ) (i : ℕ) : Type 0 where
   pub long : length s ≡ length s₀
-  pub added : (d : ℕ) → 4 * d + 4 ≤ length s₀ → callsIn d (drop at part) ≡ true → isCaller s d c ≡ false → callsIn d (drop i part) ≡ true
-  pub kept : Kept s₀ s
+  pub same : (d b : ℕ) → b < 256 → 4 * d + 4 ≤ length s₀
+      → (isCaller s d b || (eqb b c && left part i d)) ≡ (isCaller s₀ d b || (eqb b c && callsOf (alternativesFrom (drop at part)) d))
 
-pub adding-start : (part : List ℕ) (at c : ℕ) (s : List ℕ) → Adding part at c s s at
-adding-start part at c s = record { long = refl; added = λ d room e q. e; kept = λ d b q. q }
-
-pick : (a b p r : Bool) → a ≡ false → (b ≡ true → p ≡ true → ⊥) → cond a false (b && p || r) ≡ true → r ≡ true
-pick true b p r e other call = absurd (true≢false e)
-pick false true true r e other call = absurd (other refl refl)
-pick false true false r e other call = call
-pick false false p r e other call = call
-
--- a call of another sequence, or none
-later-call : (d w : ℕ) (ws : List ℕ) → isKind 6 w ≡ false → (isKind 9 w ≡ true → payload w ≡ d → ⊥) → callsIn d (w ∷ ws) ≡ true → callsIn d ws ≡ true
-unfolding callsIn
-later-call d w ws e other call =
-    pick (isKind 6 w) (isKind 9 w) (eqb (payload w) d) (callsIn d ws) e (λ nine same. other nine (eqb-true (payload w) d same)) call
-
-module _ (part : List ℕ) (at c : ℕ) (s₀ s : List ℕ) (i : ℕ) (here : Adding part at c s₀ s i) (l : i < length part) where
-  next-words : (d : ℕ) → callsIn d (drop i part) ≡ true → callsIn d (getD part i 0 ∷ drop (i + 1) part) ≡ true
-  next-words d e = ap (callsIn d) (ap (λ (k : ℕ). getD part i 0 ∷ drop k part) (add-one i) ∙ sym (drop-cons part i 0 l)) ∙ e
-
-  -- no call
-  pub adding-skip : isKind 6 (getD part i 0) ≡ false → isKind 9 (getD part i 0) ≡ false → Adding part at c s₀ s (i + 1)
-  adding-skip e f =
-      record {
-        long = here .long;
-        added = λ d room p q. later-call d (getD part i 0) (drop (i + 1) part) e (λ nine same. false≢true (sym f ∙ nine)) (next-words d (here .added d room p q));
-        kept = here .kept;
-      }
-
-  pub adding-turn : (s′ : List ℕ) → length s′ ≡ length s → isKind 6 (getD part i 0) ≡ false → Added (getD part i 0) c s s′ → Adding part at c s₀ s′ (i + 1)
-  adding-turn s′ long e a =
-      let w = getD part i 0 in
-      record {
-        long = long ∙ here .long;
-        added = λ d room p q.
-            later-call d w (drop (i + 1) part) e
-            (λ nine same. false≢true (sym q ∙ subst (λ (k : ℕ). isCaller s′ k c ≡ true) same (a .added (omega (arith, here .long, same)))))
-            (next-words d (here .added d room p (back (isCaller s d c) (isCaller s′ d c) (a .kept d c) q)));
-        kept = λ d b q. a .kept d b (here .kept d b q);
-      }
-
--- no call is to come
-adding-done : (part : List ℕ) (at c : ℕ) (s₀ s : List ℕ) (i : ℕ) → Adding part at c s₀ s i → ((d : ℕ) → callsIn d (drop i part) ≡ false) → CallsAdded (drop at part) c s₀ s
-adding-done part at c s₀ s i here none =
+pub adding-start : (part : List ℕ) (at c : ℕ) (s : List ℕ) (i : ℕ) → i ≡ entriesEnd part at → Adding part at c s s i
+unfolding some
+adding-start part at c s i e =
     record {
-      added = λ d room p. must (isCaller s d c) (λ q. false≢true (sym (none d) ∙ here .added d room p q));
-      kept = here .kept;
+      long = refl;
+      same = λ d b low room.
+          ap (λ (x : Bool). isCaller s d b || (eqb b c && x))
+          (ap (λ (k : ℕ). left part k d) e
+          ∙ ap₂ (λ (es : List Entry) (alts : List Alternative). some (isCallOf d) es || callsOf alts d) (end-ends part at) (sym (end-skips part at)));
     }
 
--- the next sequence
-pub adding-out : (part : List ℕ) (at c : ℕ) (s₀ s : List ℕ) (i : ℕ) → Adding part at c s₀ s i → i < length part → isKind 6 (getD part i 0) ≡ true
-    → CallsAdded (drop at part) c s₀ s
-unfolding callsIn
-adding-out part at c s₀ s i here l e =
-    let w = getD part i 0 in
-    let ws = drop (suc i) part in
-    adding-done part at c s₀ s i here
-    (λ d. ap (callsIn d) (drop-cons part i 0 l) ∙ ap (λ (b : Bool). cond b false (isKind 9 w && eqb (payload w) d || callsIn d ws)) e)
+shift : (x e p r a : Bool) → ((x || (e && p)) || (e && (r || a))) ≡ (x || (e && ((p || r) || a)))
+shift true e p r a = refl
+shift false false p r a = refl
+shift false true true r a = refl
+shift false true false r a = refl
 
-pub adding-end : (part : List ℕ) (at c : ℕ) (s₀ s : List ℕ) (i : ℕ) → Adding part at c s₀ s i → length part ≤ i → CallsAdded (drop at part) c s₀ s
-unfolding callsIn
-adding-end part at c s₀ s i here l = adding-done part at c s₀ s i here (λ d. ap (callsIn d) (drop-of-length-le part l))
+module _ (part : List ℕ) (at c : ℕ) (s₀ s : List ℕ) (i : ℕ) (here : Adding part at c s₀ s i) where
+  -- a call
+  pub adding-call : (s′ : List ℕ) → length s′ ≡ length s → isKind 9 (getD part i 0) ≡ true → Put c (λ d. eqb (payload (getD part i 0)) d) s s′
+      → Adding part at c s₀ s′ (i + 1)
+  adding-call s′ long nine put =
+      let w = getD part i 0 in
+      let kind-nine = eqb-true (kind w) 9 nine in
+      let entry : isEntry w ≡ true = or-right (isKind 8 w) (isKind 9 w) nine in
+      record {
+        long = long ∙ here .long;
+        same = λ d b low room.
+            let es = some (isCallOf d) (entriesFrom (drop (i + 1) part)) in
+            let alts = callsOf (alternativesFrom (drop (i + 1) part)) d in
+            let names : isCallOf d (entryOf w) ≡ eqb (payload w) d =
+            ap (λ (x : Bool). isCallOf d (cond x (item (step (payload w))) (call (payload w)))) (ne-eqb (kind w) 8 (λ q. omega arith)) in
+            ap (λ (x : Bool). x || (eqb b c && (es || alts))) (put d b low (omega (arith, here .long)))
+            ∙ shift (isCaller s d b) (eqb b c) (eqb (payload w) d) es alts
+            ∙ ap (λ (x : Bool). isCaller s d b || (eqb b c && x)) (ap (λ (x : Bool). (x || es) || alts) (sym names) ∙ sym (left-entry part i d entry))
+            ∙ here .same d b low room;
+      }
 
--- so at the head of the loop over the sequences
+  -- the opener of an alternative, or a step
+  adding-same : ((d : ℕ) → left part (i + 1) d ≡ left part i d) → Adding part at c s₀ s (i + 1)
+  adding-same stays =
+      record {
+        long = here .long;
+        same = λ d b low room. ap (λ (x : Bool). isCaller s d b || (eqb b c && x)) (stays d) ∙ here .same d b low room;
+      }
+
+  pub adding-opener : isKind 7 (getD part i 0) ≡ true → Adding part at c s₀ s (i + 1)
+  adding-opener seven = adding-same (λ d. sym (left-opener part i d seven))
+
+  pub adding-step : isKind 8 (getD part i 0) ≡ true → Adding part at c s₀ s (i + 1)
+  adding-step eight =
+      let w = getD part i 0 in
+      adding-same
+      (λ d.
+      let names : isCallOf d (entryOf w) ≡ false = ap (λ (x : Bool). isCallOf d (cond x (item (step (payload w))) (call (payload w)))) eight in
+      ap (λ (x : Bool). (x || some (isCallOf d) (entriesFrom (drop (i + 1) part))) || callsOf (alternativesFrom (drop (i + 1) part)) d) (sym names)
+      ∙ sym (left-entry part i d (or-left (isKind 8 w) (isKind 9 w) eight)))
+
+  -- no call is left
+  adding-done : ((d : ℕ) → left part i d ≡ false) → Put c (λ d. callsOf (alternativesFrom (drop at part)) d) s₀ s
+  adding-done none d b low room =
+      or-none (isCaller s d b)
+      ∙ ap (λ (x : Bool). isCaller s d b || x) (sym (and-none (eqb b c)) ∙ ap (λ (y : Bool). eqb b c && y) (sym (none d)))
+      ∙ here .same d b low room
+    where
+      and-none : (x : Bool) → (x && false) ≡ false
+      and-none true = refl
+      and-none false = refl
+
+  pub adding-out : isKind 9 (getD part i 0) ≡ false → isKind 7 (getD part i 0) ≡ false → isKind 8 (getD part i 0) ≡ false
+      → Put c (λ d. callsOf (alternativesFrom (drop at part)) d) s₀ s
+  adding-out nine seven eight =
+      adding-done (λ d. left-none part i d seven (ap₂ (λ (x y : Bool). x || y) eight nine))
+
+  pub adding-end : length part ≤ i → Put c (λ d. callsOf (alternativesFrom (drop at part)) d) s₀ s
+  adding-end past =
+      let zero-word = List·getD-eq-default part 0 {n = i} past in
+      adding-done (λ d. left-none part i d (ap (isKind 7) zero-word) (ap isEntry zero-word))
+
+-- what holds at the head of the loop over the sequences
 pub record Writing (part places s₀ s : List ℕ) (n c : ℕ) : Type 0 where
   pub within : c ≤ n
   pub long : length s ≡ length s₀
   pub written : CallersWritten c part places s
 
-pub writing-start : (part places s : List ℕ) (n : ℕ) → Writing part places s s n 0
-writing-start part places s n = record { within = omega arith; long = refl; written = λ c d l. absurd (omega arith) }
+pub writing-start : (part places s : List ℕ) (n : ℕ) → Blank s → Writing part places s s n 0
+writing-start part places s n blank =
+    record {
+      within = omega arith;
+      long = refl;
+      written = λ d b low room. ap (λ (x : ℕ). inColumn x (b % 64)) (blank (4 * d + b / 64)) ∙ none-in 0 (b % 64) (bit-none (b % 64))
+          ∙ ap (λ (x : Bool). x && calls part places b d) (sym (le-ltb b 0 (omega arith)));
+    }
 
-pub writing-turn : (part places s₀ s s′ : List ℕ) (n c : ℕ) → c < n → length s′ ≡ length s → Writing part places s₀ s n c → CallsAdded (drop (getD places c 0 + 1) part) c s s′
-    → Writing part places s₀ s′ n (c + 1)
-writing-turn part places s₀ s s′ n c l long p a =
+one-more : (b c : ℕ) (x y : Bool) → (b ≡ c → x ≡ y) → ((ltb b c && x) || (eqb b c && y)) ≡ (ltb b (c + 1) && x)
+one-more b c x y same =
+    elim (ℕ-discrete b c) [
+      | yes q ↦ go-same q (same q)
+      | no q ↦ go-other q
+    ]
+  where
+    all : (z : Bool) → ((false && z) || (true && z)) ≡ (true && z)
+    all z = refl
+
+    none : (u v : Bool) → (u || (false && v)) ≡ u
+    none true v = refl
+    none false v = refl
+
+    go-same : b ≡ c → x ≡ y → ((ltb b c && x) || (eqb b c && y)) ≡ (ltb b (c + 1) && x)
+    go-same q e =
+        ap₂ (λ (u v : Bool). (u && x) || (v && y)) (le-ltb b c (omega arith)) (eq-eqb b c q)
+        ∙ ap (λ (v : Bool). v) (sym e) ∙ ap (λ (u : Bool). u && x) (sym (lt-ltb b (c + 1) (omega arith)))
+
+    go-other : (b ≡ c → ⊥) → ((ltb b c && x) || (eqb b c && y)) ≡ (ltb b (c + 1) && x)
+    go-other q =
+        ap (λ (v : Bool). (ltb b c && x) || (v && y)) (ne-eqb b c q) ∙ none (ltb b c && x) y
+        ∙ elim (decLt b c) [
+          | yes l ↦ ap (λ (u : Bool). u && x) (lt-ltb b c l ∙ sym (lt-ltb b (c + 1) (omega arith)))
+          | no l ↦ ap (λ (u : Bool). u && x) (le-ltb b c (omega arith) ∙ sym (le-ltb b (c + 1) (omega arith)))
+        ]
+
+pub writing-turn : (part places s₀ s s′ : List ℕ) (n c : ℕ) → c < n → length s′ ≡ length s → Writing part places s₀ s n c
+    → Put c (λ d. callsOf (alternativesFrom (drop (getD places c 0 + 1) part)) d) s s′ → Writing part places s₀ s′ n (c + 1)
+writing-turn part places s₀ s s′ n c l long p put =
     record {
       within = omega arith;
       long = long ∙ p .long;
-      written = λ b d u room call.
-          elim (ℕ-discrete b c) [
-            | yes same ↦
-                subst (λ (k : ℕ). isCaller s′ d k ≡ true) (sym same)
-                (a .added d (omega (arith, long)) (subst (λ (k : ℕ). calls part places k d ≡ true) same call))
-            | no other ↦ a .kept d b (p .written b d (omega arith) (omega (arith, long)) call)
-          ];
+      written = λ d b low room.
+          put d b low (omega (arith, long))
+          ∙ ap (λ (x : Bool). x || (eqb b c && calls part places c d)) (p .written d b low (omega (arith, long)))
+          ∙ one-more b c (calls part places b d) (calls part places c d) (λ q. ap (λ (k : ℕ). calls part places k d) q);
     }
 
 -- ---- every sequence is stale

@@ -1,52 +1,74 @@
--- Calls in words: what holds of the steps and of the sequences that the words call holds of each entry of their alternatives.
+-- Calls: what holds of the steps, and of the sequences that alternatives call, holds of each of their entries; and the calls that are left
+-- from an index of the words on.
 -- Assumes nothing.
-use Prim.Native.Nat.{ℕ}
-use native.Mathlib.Omega.{arith}
-use mathlib.Core.Path.{_≡_, refl, ap, _∙_}
-use mathlib.Core.Bool.{Bool, true, false, cond, _&&_, _||_}
-use mathlib.Core.List.{List, _∷_}
+use Prim.Native.Nat.{ℕ, _+_}
+use mathlib.Core.Path.{_≡_, refl, sym, ap, ap₂, _∙_}
+use mathlib.Core.Bool.{Bool, true, false, cond, _||_, false≢true}
+use mathlib.Core.List.{List, [], _∷_}
 use lib.Dec.{eqb}
-use borrow.Author.Tests.{eq-eqb, ne-eqb, eqb-false}
-use Rattle.image.specs.Word.{kind, payload, isKind, isEntry}
-use Rattle.image.proofs.Entries.{entry-kinds}
-use Rattle.library.specs.Library.{Entry, step, item, call, alternativesFrom}
+use lib.ListN.{getD, drop}
+use borrow.Author.Tests.{eq-eqb}
+use Rattle.image.specs.Word.{payload, isKind, isEntry}
+use Rattle.library.specs.Library.{Entry, step, item, call, Alternative, entriesFrom, alternativesFrom}
 use Rattle.library.specs.Walk.{entryOf}
-use Rattle.library.proofs.Decode.{alternatives-all}
-use Rattle.general.specs.Tests.{All}
-use Rattle.general.proofs.Bools.{and-both, or-left, or-right}
-use Rattle.settling.specs.Stale.{callsIn}
+use Rattle.library.proofs.Decode.{entry-opens-none}
+use Rattle.library.proofs.Walking.{entries-at, alternatives-at}
+use Rattle.general.specs.Tests.{All, some}
+use Rattle.general.proofs.Bools.{or-left, or-right}
+use Rattle.settling.specs.Stale.{isCallOf, callsOf}
 
--- a word that opens no sequence
-calls-cons : (d w : ℕ) (ws : List ℕ) → isKind 6 w ≡ false → callsIn d (w ∷ ws) ≡ (isKind 9 w && eqb (payload w) d || callsIn d ws)
-unfolding callsIn
-calls-cons d w ws e = ap (λ (b : Bool). cond b false (isKind 9 w && eqb (payload w) d || callsIn d ws)) e
-
-calls-here : (w : ℕ) (ws : List ℕ) → kind w ≡ 9 → callsIn (payload w) (w ∷ ws) ≡ true
-calls-here w ws k =
-    calls-cons (payload w) w ws (ne-eqb (kind w) 6 (λ q. omega arith))
-    ∙ or-left (isKind 9 w && eqb (payload w) (payload w)) (callsIn (payload w) ws)
-    (and-both (isKind 9 w) (eqb (payload w) (payload w)) (eq-eqb (kind w) 9 k) (eq-eqb (payload w) (payload w) refl))
-
-calls-later : (d w : ℕ) (ws : List ℕ) → isKind 6 w ≡ false → callsIn d ws ≡ true → callsIn d (w ∷ ws) ≡ true
-calls-later d w ws e later = calls-cons d w ws e ∙ or-right (isKind 9 w && eqb (payload w) d) (callsIn d ws) later
+-- ---- something of each entry
 
 module _ (P : Entry → Type 0) (steps : (a : ℕ) → P (item (step a))) where
-  -- P holds of the sequences that the words call
-  Calls : List ℕ → Type 0
-  Calls ws = (d : ℕ) → callsIn d ws ≡ true → P (call d)
+  entries-called : (es : List Entry) → ((d : ℕ) → some (isCallOf d) es ≡ true → P (call d)) → All P es
+  unfolding some
+  entries-called [] holds = tt
+  entries-called (item (step a) ∷ es) holds = (steps a, entries-called es (λ d e. holds d e))
+  entries-called (call c ∷ es) holds = (
+    holds c (or-left (eqb c c) (some (isCallOf c) es) (eq-eqb c c refl)),
+    entries-called es (λ d e. holds d (or-right (eqb c d) (some (isCallOf d) es) e)),
+  )
 
-  calls-on : (w : ℕ) (ws : List ℕ) → isKind 6 w ≡ false → Calls (w ∷ ws) → Calls ws
-  unfolding Calls
-  calls-on w ws e holds d later = holds d (calls-later d w ws e later)
+  pub calls-all : (alts : List Alternative) → ((d : ℕ) → callsOf alts d ≡ true → P (call d)) → All (All P) alts
+  unfolding some
+  calls-all [] holds = tt
+  calls-all (es ∷ alts) holds = (
+    entries-called es (λ d e. holds d (or-left (some (isCallOf d) es) (callsOf alts d) e)),
+    calls-all alts (λ d e. holds d (or-right (some (isCallOf d) es) (callsOf alts d) e)),
+  )
 
-  calls-entry : (w : ℕ) (ws : List ℕ) → isEntry w ≡ true → Calls (w ∷ ws) → P (entryOf w)
-  unfolding Calls
-  calls-entry w ws e holds = go (isKind 8 w) refl
+-- ---- the calls that are left from an index on
+
+-- by the entries from there on, or by the alternatives after them
+abbrev pub left : List ℕ → ℕ → ℕ → Bool
+left part i d = some (isCallOf d) (entriesFrom (drop i part)) || callsOf (alternativesFrom (drop i part)) d
+
+module _ (part : List ℕ) (i d : ℕ) where
+  abbrev w : ℕ
+  w = getD part i 0
+
+  -- an entry
+  pub left-entry : isEntry w ≡ true
+      → left part i d ≡ (isCallOf d (entryOf w) || some (isCallOf d) (entriesFrom (drop (i + 1) part)) || callsOf (alternativesFrom (drop (i + 1) part)) d)
+  unfolding some
+  left-entry e =
+      ap₂ (λ (es : List Entry) (alts : List Alternative). some (isCallOf d) es || callsOf alts d) (entries-at part i true e)
+      (alternatives-at part i false true (entry-opens-none w e) e)
+
+  -- an alternative
+  pub left-opener : isKind 7 w ≡ true → left part i d ≡ left part (i + 1) d
+  unfolding some
+  left-opener e = go (isEntry w) refl
     where
-      go : (b : Bool) → isKind 8 w ≡ b → P (cond b (item (step (payload w))) (call (payload w)))
-      go true eight = steps (payload w)
-      go false other = holds (payload w) (calls-here w ws (entry-kinds w e (eqb-false (kind w) 8 other)))
+      go : (b : Bool) → isEntry w ≡ b → left part i d ≡ left part (i + 1) d
+      go true f = absurd (false≢true (sym (entry-opens-none w f) ∙ e))
+      go false f =
+          ap₂ (λ (es : List Entry) (alts : List Alternative). some (isCallOf d) es || callsOf alts d) (entries-at part i false f)
+          (alternatives-at part i true false e f)
 
-  pub calls-all : (ws : List ℕ) → ((d : ℕ) → callsIn d ws ≡ true → P (call d)) → All (All P) (alternativesFrom ws)
-  unfolding Calls
-  calls-all ws holds = alternatives-all P Calls calls-on calls-entry ws holds
+  -- neither
+  pub left-none : isKind 7 w ≡ false → isEntry w ≡ false → left part i d ≡ false
+  unfolding some
+  left-none e f =
+      ap₂ (λ (es : List Entry) (alts : List Alternative). some (isCallOf d) es || callsOf alts d) (entries-at part i false f)
+      (alternatives-at part i false false e f)

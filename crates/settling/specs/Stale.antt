@@ -2,14 +2,16 @@
 -- that is not stale changes nothing. Then the sets of sequences by which it is known which are stale.
 use Prim.Native.Nat.{ℕ, _+_, _*_, _/_, _%_, _≤_, _<_}
 use mathlib.Core.Path.{_≡_}
-use mathlib.Core.Bool.{Bool, true, false, cond, _&&_, _||_}
-use mathlib.Core.List.{List, [], _∷_}
+use mathlib.Core.Bool.{Bool, false, _&&_, _||_}
+use mathlib.Core.List.{List}
 use lib.Bits.{bitOr}
-use lib.Dec.{eqb}
-use lib.ListN.{length, getD, drop}
-use Rattle.image.specs.Word.{payload, isKind}
+use lib.Dec.{eqb, ltb}
+use lib.ListN.{length, getD}
 use Rattle.column.specs.Sets.{inColumn}
-use Rattle.settling.specs.Passes.{Complete}
+use Rattle.general.specs.Tests.{some}
+use Rattle.library.specs.Library.{Entry, item, call, Alternative}
+use Rattle.library.specs.Walk.{alternativesAt}
+use Rattle.settling.specs.Passes.{Blank, Complete}
 
 -- no visit of a number below n that is not stale changes the table
 abbrev pub Fresh : (List ℕ → ℕ → List ℕ) → ℕ → (ℕ → Bool) → List ℕ → Type 0
@@ -23,14 +25,18 @@ isStale stale c = inColumn (getD stale (c / 64) 0) (c % 64)
 abbrev pub isCaller : List ℕ → ℕ → ℕ → Bool
 isCaller callers d c = inColumn (getD callers (4 * d + c / 64) 0) (c % 64)
 
--- the words up to the next sequence call sequence d
-unfoldable pub callsIn : ℕ → List ℕ → Bool
-callsIn d [] = false
-callsIn d (w ∷ ws) = cond (isKind 6 w) false (isKind 9 w && eqb (payload w) d || callsIn d ws)
+-- the entry calls sequence d
+abbrev pub isCallOf : ℕ → Entry → Bool
+isCallOf d (item i) = false
+isCallOf d (call e) = eqb e d
+
+-- an entry of one of the alternatives does
+abbrev pub callsOf : List Alternative → ℕ → Bool
+callsOf alts d = some (some (isCallOf d)) alts
 
 -- sequence c calls sequence d
 abbrev pub calls : List ℕ → List ℕ → ℕ → ℕ → Bool
-calls part places c d = callsIn d (drop (getD places c 0 + 1) part)
+calls part places c d = callsOf (alternativesAt part places c) d
 
 -- sequence c is taken out, and none else
 pub record Removed (c : ℕ) (before after : List ℕ) : Type 0 where
@@ -41,24 +47,22 @@ pub record Removed (c : ℕ) (before after : List ℕ) : Type 0 where
 abbrev pub United : ℕ → List ℕ → List ℕ → List ℕ → Type 0
 United d callers before after = (k : ℕ) → k < 4 → getD after k 0 ≡ bitOr (getD before k 0) (getD callers (4 * d + k) 0)
 
--- no caller is taken out
-abbrev pub Kept : List ℕ → List ℕ → Type 0
-Kept before after = (d c : ℕ) → isCaller before d c ≡ true → isCaller after d c ≡ true
+-- the sets after are those before, with sequence c among the callers of each sequence that a test names, and no other
+abbrev pub Put : ℕ → (ℕ → Bool) → List ℕ → List ℕ → Type 0
+Put c test before after =
+    (d b : ℕ) → b < 256 → 4 * d + 4 ≤ length before → isCaller after d b ≡ (isCaller before d b || (eqb b c && test d))
 
--- sequence c is put in where word w calls one that has a set
-pub record Added (w c : ℕ) (before after : List ℕ) : Type 0 where
-  pub added : 4 * payload w + 4 ≤ length before → isCaller after (payload w) c ≡ true
-  pub kept : Kept before after
-
--- so for each call in the words up to the next sequence
-pub record CallsAdded (ws : List ℕ) (c : ℕ) (before after : List ℕ) : Type 0 where
-  pub added : (d : ℕ) → 4 * d + 4 ≤ length before → callsIn d ws ≡ true → isCaller after d c ≡ true
-  pub kept : Kept before after
-
--- so for the calls of all sequences below n
+-- the sets say exactly which sequences call which: c is one of the callers of d where it is below n and calls d
 abbrev pub CallersWritten : ℕ → List ℕ → List ℕ → List ℕ → Type 0
 CallersWritten n part places callers =
-    (c d : ℕ) → c < n → 4 * d + 4 ≤ length callers → calls part places c d ≡ true → isCaller callers d c ≡ true
+    (d b : ℕ) → b < 256 → 4 * d + 4 ≤ length callers → isCaller callers d b ≡ (ltb b n && calls part places b d)
+
+-- what writing them asks: few sequences, each with a place among the words, and blank sets
+pub record CallersAsked (n : ℕ) (part places callers : List ℕ) : Type 0 where
+  pub few : n ≤ 256
+  pub placed : n ≤ length places
+  pub within : (c : ℕ) → c < n → getD places c 0 < length part
+  pub blank : Blank callers
 
 -- what settling a table of the sequences below n goes by: an order that names each of them, and the sets of their callers
 pub record Scheduled (n : ℕ) (part places callers order : List ℕ) : Type 0 where

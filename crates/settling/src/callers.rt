@@ -4,14 +4,19 @@ use column::sets::holds;
 use column::sets::union;
 use column::sets::without;
 use column::with_fact;
-use image::word::KIND_SEQUENCE;
+use image::word::KIND_ALTERNATIVE;
 use image::word::KIND_SEQUENCE_ENTRY;
+use image::word::KIND_STEP_ENTRY;
 use image::word::is_kind;
 use image::word::payload_of;
+use library::walk::entries_end;
 ghost use mathlib.Core.Path.{_≡_};
 ghost use Prim.Native.Nat.{_+_, _*_, _%_, _≤_, _<_};
 ghost use lib.ListN.{length, drop};
-ghost use Rattle.settling.specs.Stale.{isStale, Removed, United, Added, CallsAdded, CallersWritten};
+ghost use lib.Dec.{eqb};
+ghost use Rattle.image.specs.Word.{payload};
+ghost use Rattle.library.specs.Library.{alternativesFrom};
+ghost use Rattle.settling.specs.Stale.{isStale, callsOf, Removed, United, Put, CallersAsked, CallersWritten};
 
 // The place of a sequence's bit in its word.
 fn bit_of(c: usize) -> u32
@@ -52,7 +57,7 @@ pub fn unite(stale: &mut [u64], callers: &[u64], d: usize)
 // Makes sequence `c` a caller of the one that a call names, where that has a set.
 fn add(callers: &mut [u64], w: u32, c: usize)
     requires { ⌜ c < 256 ⌝ }
-    ensures { λ _. ⌜ Added w c (now (callers .entry)) (now (callers .exit)) ⌝ }
+    ensures { λ _. ⌜ Put c (λ d. eqb (payload w) d) (now (callers .entry)) (now (callers .exit)) ⌝ }
 {
     let k = 4 * payload_of(w) as usize + c / 64;
     if k < callers.len() {
@@ -60,27 +65,28 @@ fn add(callers: &mut [u64], w: u32, c: usize)
     }
 }
 
-// Makes sequence `c` a caller of those that the words from index `at` on call, up to the next sequence.
+// Makes sequence `c` a caller of those that its alternatives call, which stand from index `at` on.
 fn add_calls(part: &[u32], at: usize, callers: &mut [u64], c: usize)
-    requires { ⌜ c < 256 ⌝ }
-    ensures { λ _. ⌜ CallsAdded (drop at (now (part .entry))) c (now (callers .entry)) (now (callers .exit)) ⌝ }
+    requires { ⌜ (c < 256) × (at ≤ length (now part)) ⌝ }
+    ensures { λ _. ⌜ Put c (λ d. callsOf (alternativesFrom (drop at (now (part .entry)))) d) (now (callers .entry)) (now (callers .exit)) ⌝ }
 {
-    let mut i = at;
+    let mut i = entries_end(part, at);
     while i < part.len() {
         let w = part[i];
-        if is_kind(KIND_SEQUENCE, w) {
-            return;
-        }
         i += 1;
         if is_kind(KIND_SEQUENCE_ENTRY, w) {
             add(callers, w, c);
+        } else if !is_kind(KIND_ALTERNATIVE, w) {
+            if !is_kind(KIND_STEP_ENTRY, w) {
+                return;
+            }
         }
     }
 }
 
 // Writes the callers of the sequences with these places.
 pub fn write_callers(part: &[u32], places: &[u32], callers: &mut [u64], n: usize)
-    requires { ⌜ (n ≤ 256) × (n ≤ length (now places)) ⌝ }
+    requires { ⌜ CallersAsked n (now part) (now places) (now callers) ⌝ }
     ensures { λ _. ⌜ CallersWritten n (now (part .entry)) (now (places .entry)) (now (callers .exit)) ⌝ }
 {
     let mut c = 0;

@@ -21,7 +21,7 @@ abbrev μ-loop : tie.MeasureT-loop
 loop-holds : tie.Need-loop-holds Inv-loop μ-loop
 loop-holds c =
     let a = c .before .before .before .args in
-    writing-start (a .part .now) (a .places .now) (a .callers .now) (a .n)
+    writing-start (a .part .now) (a .places .now) (a .callers .now) (a .n) (c .before .before .before .pre .blank)
 
 mul-add-calls : tie.Need-mul-add-calls Inv-loop μ-loop
 mul-add-calls c = search needs
@@ -36,7 +36,11 @@ add-add-calls : tie.Need-add-add-calls Inv-loop μ-loop
 add-add-calls c = omega (arith, c .shared-slice-known3 .given (c .before .before .loop .c))
 
 add-calls-requires : tie.Need-add-calls-requires Inv-loop μ-loop
-add-calls-requires c κs = search needs
+add-calls-requires c κs =
+    let turn = c .before .before in
+    let at-loop = turn .before in
+    let asked = at-loop .before .before .before .before .pre in
+    (omega (arith, turn .loop-test .taken, asked .few), omega (arith, asked .within (at-loop .loop .c) (turn .loop-test .taken)))
 
 add-c : tie.Need-add-c Inv-loop μ-loop
 add-c c = search needs
