@@ -3,6 +3,10 @@ use crate::link::chosen_alternative;
 use crate::link::chosen_link;
 use question::answer::shown_links;
 use question::asked::Asked;
+use question::asked::UNTOUCHED_MARK;
+use question::words::LINK_WORDS;
+use question::words::POSITION_WORD;
+use question::words::UNTOUCHED_WORD;
 use question::words::put_link;
 ghost use mathlib.Core.Path.{_≡_};
 ghost use mathlib.Core.List.{_++_};
@@ -46,8 +50,8 @@ fn write_links(
     while 0 < k {
         k -= 1;
         let link = chosen_link(none, ahead, behind, ranks, part, after_opener(places, d), k);
-        put_link(area, at, d, link.alternative, 2952790016 + link.position);
-        at += 2;
+        put_link(area, at, d, link.alternative, POSITION_WORD + link.position);
+        at += LINK_WORDS;
         d = link.entry;
     }
 }
@@ -77,7 +81,7 @@ fn write_quiet(
     if 0 < count {
         let k = before(ranks[c as usize]);
         let alternative = chosen_alternative(none, ranks, part, after_opener(places, c), k);
-        put_link(area, 0, c, alternative, 3221225472);
+        put_link(area, 0, c, alternative, UNTOUCHED_WORD);
     }
 }
 
@@ -97,7 +101,7 @@ pub fn write_chain(
 {
     let rank = ranks[c as usize];
     let count = shown_links(q, rank, area.len());
-    if q.mark == 2 {
+    if q.mark == UNTOUCHED_MARK {
         write_quiet(q.none, ranks, part, places, area, count, c);
     } else {
         write_links(q.none, ahead, behind, ranks, part, places, area, count, c);

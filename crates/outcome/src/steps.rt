@@ -1,4 +1,5 @@
 // The rows of the steps, made once: a table of eight words a row, like that of the sequences.
+use library::tables::MASK_WORDS;
 use row::words::Row;
 use row::words::of_step;
 use row::words::put_row;
@@ -12,7 +13,7 @@ fn step_row(all: u64, masks: &[u64], a: usize) -> Row
     requires { ⌜ 3 * a + 3 ≤ length (now masks) ⌝ }
     ensures { λ r. ⌜ r ≡ maskRow all (now (masks .entry)) a ⌝ }
 {
-    let at = 3 * a;
+    let at = MASK_WORDS * a;
     of_step(all, masks[at], masks[at + 1], masks[at + 2])
 }
 
