@@ -15,7 +15,7 @@ ghost use Rattle.reader.specs.Checked.{checked};
 ghost use Rattle.card_text.specs.Words.{wordsOf};
 ghost use Rattle.card_text.specs.Text.{InFront};
 ghost use Rattle.card_text.specs.Print.{imageText, printed};
-ghost use Rattle.card_text.specs.Writers.{answerText, AnswerAsked};
+ghost use Rattle.card_text.specs.Writers.{textBytes, answerText, AnswerAsked};
 
 // The most bytes of an image.
 pub const MOST_BYTES: usize = WORD_BYTES * MOST_WORDS;
@@ -33,7 +33,7 @@ pub fn put_answer(text: &mut [u8], at: usize, found: Cards, cards: &[u64]) -> us
 
 // Puts the text of an image at the end of the text area.
 fn print_cards_of(image: &[u32], text: &mut [u8]) -> usize
-    requires { ⌜ 33280 ≤ length (now text) ⌝ }
+    requires { ⌜ textBytes ≤ length (now text) ⌝ }
     ensures { λ r. ⌜ InFront (now (text .entry)) (length (now (text .entry))) (now (text .exit)) r (imageText (checked (now (image .entry))) (now (image .entry))) ⌝ }
 {
     let mut area = [0u64; MOST_CARD_WORDS];
@@ -44,7 +44,7 @@ fn print_cards_of(image: &[u32], text: &mut [u8]) -> usize
 
 // Puts the text of the image that the bytes hold at the end of the text area.
 fn print_words(bytes: &[u8], text: &mut [u8]) -> usize
-    requires { ⌜ (length (now bytes) ≤ 32768) × (33280 ≤ length (now text)) ⌝ }
+    requires { ⌜ (length (now bytes) ≤ 32768) × (textBytes ≤ length (now text)) ⌝ }
     ensures { λ r. ⌜ InFront (now (text .entry)) (length (now (text .entry))) (now (text .exit)) r (imageText (checked (wordsOf (now (bytes .entry)))) (wordsOf (now (bytes .entry)))) ⌝ }
 {
     let mut words = [0u32; MOST_WORDS];
@@ -55,7 +55,7 @@ fn print_words(bytes: &[u8], text: &mut [u8]) -> usize
 
 // Puts what the program prints for the bytes of its input at the end of the text area, and says where it begins.
 pub fn print_image(bytes: &[u8], text: &mut [u8]) -> usize
-    requires { ⌜ 33280 ≤ length (now text) ⌝ }
+    requires { ⌜ textBytes ≤ length (now text) ⌝ }
     ensures { λ r. ⌜ InFront (now (text .entry)) (length (now (text .entry))) (now (text .exit)) r (printed (now (bytes .entry))) ⌝ }
 {
     let at = text.len();

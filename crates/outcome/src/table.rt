@@ -16,6 +16,7 @@ ghost use Prim.Native.Nat.{_*_};
 ghost use lib.ListN.{drop};
 ghost use Rattle.library.specs.Library.{libraryOf};
 ghost use Rattle.outcome.specs.Area.{outcomes, OutcomesAsked};
+ghost use Rattle.row.specs.Words.{rowWords};
 
 // A row a step for the rows of the steps, and a row a sequence for the table.
 pub const SMALL_STEP_ROWS: usize = ROW_WORDS * SMALL_STEPS as usize;
@@ -39,7 +40,7 @@ pub fn outcome_table(
     table: &mut [u64],
 )
     requires { ⌜ OutcomesAsked h (now image) (now masks) (now places) (now callers) (now order) (now rows) (now table) ⌝ }
-    ensures { λ _. ⌜ now (table .exit) ≡ outcomes (libraryOf (now (image .entry))) ++ drop (8 * h .sequences) (now (table .entry)) ⌝ }
+    ensures { λ _. ⌜ now (table .exit) ≡ outcomes (libraryOf (now (image .entry))) ++ drop (rowWords * h .sequences) (now (table .entry)) ⌝ }
 {
     let n = h.sequences as usize;
     let words = ROW_WORDS * n;
