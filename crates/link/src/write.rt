@@ -13,7 +13,7 @@ ghost use mathlib.Core.List.{_++_};
 ghost use Prim.Native.Nat.{_+_, _*_, _^_, _≤_, _<_, pred};
 ghost use lib.ListN.{length, getD, drop};
 ghost use Rattle.chains.specs.Link.{chainWords};
-ghost use Rattle.question.specs.Answer.{told};
+ghost use Rattle.question.specs.Answer.{linkLength, told};
 ghost use Rattle.rank.specs.Tables.{Rankable};
 ghost use Rattle.link.specs.Choice.{Opened, Choosable, linksIn, quietWords, answerIn};
 ghost use Rattle.question.specs.Reply.{Answered};
@@ -41,8 +41,8 @@ fn write_links(
     count: u32,
     c: u32,
 )
-    requires { ⌜ Choosable none (now ahead) (now behind) (now ranks) (now part) (now places) × (2 * count ≤ length (now area)) × (c < 2 ^ 28) ⌝ }
-    ensures { λ _. ⌜ now (area .exit) ≡ chainWords (linksIn none (now (ahead .entry)) (now (behind .entry)) (now (ranks .entry)) (now (part .entry)) (now (places .entry)) count c) ++ drop (2 * count) (now (area .entry)) ⌝ }
+    requires { ⌜ Choosable none (now ahead) (now behind) (now ranks) (now part) (now places) × (linkLength * count ≤ length (now area)) × (c < 2 ^ 28) ⌝ }
+    ensures { λ _. ⌜ now (area .exit) ≡ chainWords (linksIn none (now (ahead .entry)) (now (behind .entry)) (now (ranks .entry)) (now (part .entry)) (now (places .entry)) count c) ++ drop (linkLength * count) (now (area .entry)) ⌝ }
 {
     let mut d = c;
     let mut k = count;
@@ -75,7 +75,7 @@ fn write_quiet(
     count: u32,
     c: u32,
 )
-    requires { ⌜ Rankable none (now ranks) (now part) × Opened (now part) (now places) × (2 * count ≤ length (now area)) × (c < 2 ^ 28) × (c < length (now ranks)) ⌝ }
+    requires { ⌜ Rankable none (now ranks) (now part) × Opened (now part) (now places) × (linkLength * count ≤ length (now area)) × (c < 2 ^ 28) × (c < length (now ranks)) ⌝ }
     ensures { λ _. ⌜ now (area .exit) ≡ quietWords none (now (ranks .entry)) (now (part .entry)) (now (places .entry)) count c (now (area .entry)) ⌝ }
 {
     if 0 < count {
