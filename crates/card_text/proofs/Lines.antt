@@ -9,7 +9,7 @@ use lib.Seq.{drop-cons, drop-length}
 use Rattle.cards.specs.Layout.{cardWords}
 use Rattle.card_text.specs.Text.{InFront, PutWithin}
 use Rattle.card_text.specs.Number.{numeral}
-use Rattle.card_text.specs.Writers.{NumeralAsked}
+use Rattle.card_text.specs.Writers.{numberBytes, lineBytes, wordBytes, NumeralAsked}
 use Rattle.card_text.specs.Line.{spaced, cardLine, linesFrom, cardLines, refusedText, atText, refusalLine}
 use Rattle.card_text.proofs.Text.{front-none, front-join}
 use Rattle.card_text.proofs.Numeral.{numeral-length}
@@ -37,7 +37,7 @@ long-asked area at w l r u = record { low = omega arith; high = omega arith; roo
 -- ---- the words of a card
 
 pub word-put : (a₀ : List ℕ) (at : ℕ) (a₁ : List ℕ) (r₁ : ℕ) (a₂ : List ℕ) (r₂ w : ℕ) → w < 2 ^ 64 → InFront a₀ at a₁ r₁ (numeral 16 w)
-    → InFront a₁ r₁ a₂ r₂ (32 ∷ []) → PutWithin 17 a₀ at a₂ r₂ (32 ∷ numeral 16 w)
+    → InFront a₁ r₁ a₂ r₂ (32 ∷ []) → PutWithin wordBytes a₀ at a₂ r₂ (32 ∷ numeral 16 w)
 word-put a₀ at a₁ r₁ a₂ r₂ w l p q =
     record { put = front-join a₀ at a₁ r₁ (numeral 16 w) a₂ r₂ (32 ∷ []) p q; within = omega (arith, p .room, q .room, hex-length w l) }
 
@@ -45,7 +45,7 @@ word-put a₀ at a₁ r₁ a₂ r₂ w l p q =
 pub record CardAt (card a₀ : List ℕ) (at : ℕ) (a : List ℕ) (start i : ℕ) : Type 0 where
   pub below : i ≤ length card
   pub put : InFront a₀ at a start (spaced (drop i card))
-  pub within : at ≤ start + 17 * (length card - i)
+  pub within : at ≤ start + wordBytes * (length card - i)
 
 module _ (card a₀ : List ℕ) (at : ℕ) where
   pub card-start : CardAt card a₀ at a₀ at (length card)
@@ -58,10 +58,10 @@ module _ (card a₀ : List ℕ) (at : ℕ) where
       }
 
   module _ (a : List ℕ) (start i : ℕ) (l : 0 < i) (p : CardAt card a₀ at a start i) where
-    pub card-room : 17 * length card ≤ at → at ≤ length a₀ → (17 ≤ start) × (start ≤ length a)
+    pub card-room : wordBytes * length card ≤ at → at ≤ length a₀ → (wordBytes ≤ start) × (start ≤ length a)
     card-room fits within = omega (arith, p .below, p .within, p .put .room, p .put .long)
 
-    pub card-next : (a′ : List ℕ) (start′ : ℕ) → PutWithin 17 a start a′ start′ (32 ∷ numeral 16 (getD card (i - 1) 0))
+    pub card-next : (a′ : List ℕ) (start′ : ℕ) → PutWithin wordBytes a start a′ start′ (32 ∷ numeral 16 (getD card (i - 1) 0))
         → CardAt card a₀ at a′ start′ (i - 1)
     unfolding spaced
     card-next a′ start′ q =
@@ -77,7 +77,7 @@ module _ (card a₀ : List ℕ) (at : ℕ) where
           within = omega (arith, p .below, p .within, q .within);
         }
 
-  pub card-end : (a : List ℕ) (start i : ℕ) → i ≤ 0 → CardAt card a₀ at a start i → PutWithin (17 * length card) a₀ at a start (spaced card)
+  pub card-end : (a : List ℕ) (start i : ℕ) → i ≤ 0 → CardAt card a₀ at a start i → PutWithin (wordBytes * length card) a₀ at a start (spaced card)
   card-end a start i none p =
       let zero-left : i ≡ 0 = omega arith in
       record {
@@ -88,8 +88,8 @@ module _ (card a₀ : List ℕ) (at : ℕ) where
 -- ---- a card's line
 
 pub line-put : (card a₀ : List ℕ) (at : ℕ) (a₁ : List ℕ) (r₁ : ℕ) (a₂ : List ℕ) (r₂ : ℕ) (a₃ : List ℕ) (r₃ c : ℕ) → c < 2 ^ 32
-    → InFront a₀ at a₁ r₁ (10 ∷ []) → PutWithin (17 * length card) a₁ r₁ a₂ r₂ (spaced card) → InFront a₂ r₂ a₃ r₃ (numeral 10 c)
-    → PutWithin (17 * length card + 11) a₀ at a₃ r₃ (cardLine c card)
+    → InFront a₀ at a₁ r₁ (10 ∷ []) → PutWithin (wordBytes * length card) a₁ r₁ a₂ r₂ (spaced card) → InFront a₂ r₂ a₃ r₃ (numeral 10 c)
+    → PutWithin (wordBytes * length card + numberBytes) a₀ at a₃ r₃ (cardLine c card)
 unfolding cardLine
 line-put card a₀ at a₁ r₁ a₂ r₂ a₃ r₃ c l p q s =
     record {
@@ -105,7 +105,7 @@ line-put card a₀ at a₁ r₁ a₂ r₂ a₃ r₃ c l p q s =
 pub record LinesAt (cards a₀ : List ℕ) (at n : ℕ) (a : List ℕ) (start c : ℕ) : Type 0 where
   pub below : c ≤ n
   pub put : InFront a₀ at a start (linesFrom cards c (n - c))
-  pub within : at ≤ start + 130 * (n - c)
+  pub within : at ≤ start + lineBytes * (n - c)
 
 module _ (cards a₀ : List ℕ) (at n : ℕ) where
   pub lines-start : LinesAt cards a₀ at n a₀ at n
@@ -119,11 +119,11 @@ module _ (cards a₀ : List ℕ) (at n : ℕ) where
       }
 
   module _ (a : List ℕ) (start c : ℕ) (l : 0 < c) (p : LinesAt cards a₀ at n a start c) where
-    pub lines-room : 130 * n ≤ at → at ≤ length a₀ → (130 ≤ start) × (start ≤ length a)
+    pub lines-room : lineBytes * n ≤ at → at ≤ length a₀ → (lineBytes ≤ start) × (start ≤ length a)
     lines-room fits within = omega (arith, p .below, p .within, p .put .room, p .put .long)
 
     pub lines-next : (k : ℕ) → k ≡ cardWords → (a′ : List ℕ) (start′ : ℕ)
-        → (let card = take k (drop (cardWords * (c - 1)) cards) in PutWithin (17 * length card + 11) a start a′ start′ (cardLine (c - 1) card))
+        → (let card = take k (drop (cardWords * (c - 1)) cards) in PutWithin (wordBytes * length card + numberBytes) a start a′ start′ (cardLine (c - 1) card))
         → LinesAt cards a₀ at n a′ start′ (c - 1)
     unfolding linesFrom
     lines-next k seven a′ start′ q =

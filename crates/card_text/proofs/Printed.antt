@@ -24,7 +24,7 @@ use Rattle.card.proofs.Filled.{filled}
 use Rattle.card_text.specs.Words.{wordsOf}
 use Rattle.card_text.specs.Line.{cardLine, linesFrom, cardLines, refusalLine}
 use Rattle.card_text.specs.Print.{imageText, printed}
-use Rattle.card_text.specs.Writers.{answerText, AnswerAsked}
+use Rattle.card_text.specs.Writers.{textBytes, answerText, AnswerAsked}
 
 -- four bytes a word
 pub length-words : (bytes : List ℕ) → length (wordsOf bytes) ≡ length bytes / 4
@@ -64,7 +64,7 @@ module _ (image area : List ℕ) (room : 1792 ≤ length area) where
       ∙ lines-prefix (cards L) (drop (cardWords * h .sequences) area) 0 (h .sequences) (omega (arith, length-cards L, has .sequences))
 
   module _ (found : Cards) (after : List ℕ) (call : Called image area found after) where
-    pub answer-asked : (text : List ℕ) (at : ℕ) → length after ≡ length area → 33280 ≤ at → at ≤ length text → AnswerAsked text at found after
+    pub answer-asked : (text : List ℕ) (at : ℕ) → length after ≡ length area → textBytes ≤ at → at ≤ length text → AnswerAsked text at found after
     answer-asked text at long fits within =
         record {
           filled = λ n e.

@@ -6,6 +6,15 @@ ghost use lib.ListN.{length, drop};
 ghost use Rattle.card_text.specs.Words.{word, wordsOf};
 ghost use Rattle.card_text.specs.Text.{InFront};
 
+// How many bytes a word has, and what the second, the third and the fourth of them count.
+pub const WORD_BYTES: usize = 4;
+
+const SECOND_BYTE: u32 = 0x100;
+
+const THIRD_BYTE: u32 = 0x10000;
+
+const FOURTH_BYTE: u32 = 0x1000000;
+
 fn wide(b: u8) -> u32
     ensures { λ r. ⌜ (r ≡ b) × (r < 256) ⌝ }
 {
@@ -16,7 +25,7 @@ fn wide(b: u8) -> u32
 fn word_of(a: u8, b: u8, c: u8, d: u8) -> u32
     ensures { λ r. ⌜ r ≡ word a b c d ⌝ }
 {
-    wide(a) + 256 * wide(b) + 65536 * wide(c) + 16777216 * wide(d)
+    wide(a) + SECOND_BYTE * wide(b) + THIRD_BYTE * wide(c) + FOURTH_BYTE * wide(d)
 }
 
 // Writes the words that the bytes hold. Words past them stay, and bytes past the last whole word count for nothing.
@@ -24,10 +33,10 @@ pub fn write_words(bytes: &[u8], words: &mut [u32])
     requires { ⌜ length (now bytes) / 4 ≤ length (now words) ⌝ }
     ensures { λ _. ⌜ now (words .exit) ≡ wordsOf (now (bytes .entry)) ++ drop (length (now (bytes .entry)) / 4) (now (words .entry)) ⌝ }
 {
-    let mut i = bytes.len() / 4;
+    let mut i = bytes.len() / WORD_BYTES;
     while 0 < i {
         i -= 1;
-        let at = 4 * i;
+        let at = WORD_BYTES * i;
         words[i] = word_of(bytes[at], bytes[at + 1], bytes[at + 2], bytes[at + 3]);
     }
 }

@@ -6,15 +6,25 @@ ghost use Rattle.card_text.specs.Number.{digit, numeral};
 ghost use Rattle.card_text.specs.Writers.{NumeralAsked};
 ghost use Rattle.card_text.specs.Text.{InFront};
 
+// The bases that numbers are written in.
+pub const DECIMAL: u64 = 10;
+
+pub const HEXADECIMAL: u64 = 16;
+
+// What is added to a digit for its ASCII code: below ten it is a numeral, from ten on a lower-case letter.
+const NUMERALS_FROM: u8 = b'0';
+
+const LETTERS_FROM: u8 = b'a' - 10;
+
 // The ASCII code of a digit, lower case from 10 on.
 fn digit_of(d: u64) -> u8
     requires { ⌜ d < 16 ⌝ }
     ensures { λ r. ⌜ r ≡ digit d ⌝ }
 {
-    if d < 10 {
-        return 48 + d as u8;
+    if d < DECIMAL {
+        return NUMERALS_FROM + d as u8;
     }
-    87 + d as u8
+    LETTERS_FROM + d as u8
 }
 
 // Puts the numeral of `n` in front of the text that begins at `at`.

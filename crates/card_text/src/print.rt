@@ -1,4 +1,5 @@
 // What the program prints: for an answer of the card call, and for the bytes of its input.
+use crate::bytes::WORD_BYTES;
 use crate::bytes::write_words;
 use crate::line::put_lines;
 use crate::line::put_refusal;
@@ -6,13 +7,18 @@ use card::answer::Cards;
 use card::call::cards;
 use image::answer::number;
 use image::answer::position;
+use image::word::MOST_WORDS;
+use row::card::MOST_CARD_WORDS;
 ghost use Prim.Native.Nat.{_≤_};
 ghost use lib.ListN.{length};
 ghost use Rattle.reader.specs.Checked.{checked};
 ghost use Rattle.card_text.specs.Words.{wordsOf};
 ghost use Rattle.card_text.specs.Text.{InFront};
 ghost use Rattle.card_text.specs.Print.{imageText, printed};
-ghost use Rattle.card_text.specs.Writers.{answerText, AnswerAsked};
+ghost use Rattle.card_text.specs.Writers.{textBytes, answerText, AnswerAsked};
+
+// The most bytes of an image.
+pub const MOST_BYTES: usize = WORD_BYTES * MOST_WORDS;
 
 // Puts the cards' lines, or the refusal's, in front of the text that begins at `at`.
 pub fn put_answer(text: &mut [u8], at: usize, found: Cards, cards: &[u64]) -> usize
@@ -27,36 +33,36 @@ pub fn put_answer(text: &mut [u8], at: usize, found: Cards, cards: &[u64]) -> us
 
 // Puts the text of an image at the end of the text area.
 fn print_cards_of(image: &[u32], text: &mut [u8]) -> usize
-    requires { ⌜ 33280 ≤ length (now text) ⌝ }
+    requires { ⌜ textBytes ≤ length (now text) ⌝ }
     ensures { λ r. ⌜ InFront (now (text .entry)) (length (now (text .entry))) (now (text .exit)) r (imageText (checked (now (image .entry))) (now (image .entry))) ⌝ }
 {
-    let mut area = [0u64; 1792];
+    let mut area = [0u64; MOST_CARD_WORDS];
     let found = cards(image, &mut area);
     let at = text.len();
     put_answer(text, at, found, &area)
 }
 
-// So for the image that bytes hold.
+// Puts the text of the image that the bytes hold at the end of the text area.
 fn print_words(bytes: &[u8], text: &mut [u8]) -> usize
-    requires { ⌜ (length (now bytes) ≤ 32768) × (33280 ≤ length (now text)) ⌝ }
+    requires { ⌜ (length (now bytes) ≤ 32768) × (textBytes ≤ length (now text)) ⌝ }
     ensures { λ r. ⌜ InFront (now (text .entry)) (length (now (text .entry))) (now (text .exit)) r (imageText (checked (wordsOf (now (bytes .entry)))) (wordsOf (now (bytes .entry)))) ⌝ }
 {
-    let mut words = [0u32; 8192];
+    let mut words = [0u32; MOST_WORDS];
     write_words(bytes, &mut words);
-    let n = bytes.len() / 4;
+    let n = bytes.len() / WORD_BYTES;
     print_cards_of(&words[..n], text)
 }
 
 // Puts what the program prints for the bytes of its input at the end of the text area, and says where it begins.
 pub fn print_image(bytes: &[u8], text: &mut [u8]) -> usize
-    requires { ⌜ 33280 ≤ length (now text) ⌝ }
+    requires { ⌜ textBytes ≤ length (now text) ⌝ }
     ensures { λ r. ⌜ InFront (now (text .entry)) (length (now (text .entry))) (now (text .exit)) r (printed (now (bytes .entry))) ⌝ }
 {
     let at = text.len();
-    if 32768 < bytes.len() {
+    if MOST_BYTES < bytes.len() {
         return put_refusal(text, at, 1, 0);
     }
-    if bytes.len() % 4 != 0 {
+    if bytes.len() % WORD_BYTES != 0 {
         return put_refusal(text, at, 1, 0);
     }
     print_words(bytes, text)

@@ -18,7 +18,7 @@ use Rattle.image.specs.Word.{kind, isKind}
 use Rattle.rules.specs.Rules.{opened}
 use Rattle.library.specs.Library.{has, Step, alternativesFrom, sequencesFrom}
 use Rattle.general.specs.Tests.{All}
-use Rattle.library.specs.Tables.{maskOf, masks, placesFrom}
+use Rattle.library.specs.Tables.{maskWords, maskOf, masks, placesFrom}
 use Rattle.library.proofs.Decode.{kind-is, sequences-open, sequences-skip}
 use borrow.Author.Tests.{eqb-false, ne-eqb}
 
@@ -40,23 +40,23 @@ unfolding maskOf
 mask-lt facts = column-lt 64 (λ (g : ℕ). has g facts)
 
 -- three words a step
-masks-length : (ss : List Step) → length (masks ss) ≡ 3 * length ss
+masks-length : (ss : List Step) → length (masks ss) ≡ maskWords * length ss
 unfolding masks
 masks-length [] = refl
 masks-length (s ∷ ss) = omega (arith, masks-length ss)
 
 -- the words of step a
 row-at : (ss : List Step) (a : ℕ) (d : Step) → a < length ss
-    → (getD (masks ss) (3 * a) 0 ≡ maskOf (getD ss a d .needs))
-    × (getD (masks ss) (3 * a + 1) 0 ≡ maskOf (getD ss a d .sets))
-    × (getD (masks ss) (3 * a + 2) 0 ≡ maskOf (getD ss a d .clears))
+    → (getD (masks ss) (maskWords * a) 0 ≡ maskOf (getD ss a d .needs))
+    × (getD (masks ss) (maskWords * a + 1) 0 ≡ maskOf (getD ss a d .sets))
+    × (getD (masks ss) (maskWords * a + 2) 0 ≡ maskOf (getD ss a d .clears))
 unfolding masks
 row-at [] a d l = absurd (omega arith)
 row-at (s ∷ ss) zero d l = (refl, refl, refl)
 row-at (s ∷ ss) (suc a) d l =
-    let n : 3 * suc a ≡ suc (suc (suc (3 * a))) = omega arith in
-    let m : 3 * suc a + 1 ≡ suc (suc (suc (3 * a + 1))) = omega arith in
-    let k : 3 * suc a + 2 ≡ suc (suc (suc (3 * a + 2))) = omega arith in
+    let n : maskWords * suc a ≡ suc (suc (suc (maskWords * a))) = omega arith in
+    let m : maskWords * suc a + 1 ≡ suc (suc (suc (maskWords * a + 1))) = omega arith in
+    let k : maskWords * suc a + 2 ≡ suc (suc (suc (maskWords * a + 2))) = omega arith in
     let ih = row-at ss a d (le-of-suc-le-suc l) in
     (rw n (ih .0), rw m (ih .1), rw k (ih .2))
 
@@ -66,19 +66,19 @@ noFacts = record { needs = []; sets = []; clears = [] }
 
 -- the words of step a; past the steps, those of one that names no fact
 pub words-at : (ss : List Step) (a : ℕ)
-    → (getD (masks ss) (3 * a) 0 ≡ maskOf (getD ss a noFacts .needs))
-    × (getD (masks ss) (3 * a + 1) 0 ≡ maskOf (getD ss a noFacts .sets))
-    × (getD (masks ss) (3 * a + 2) 0 ≡ maskOf (getD ss a noFacts .clears))
+    → (getD (masks ss) (maskWords * a) 0 ≡ maskOf (getD ss a noFacts .needs))
+    × (getD (masks ss) (maskWords * a + 1) 0 ≡ maskOf (getD ss a noFacts .sets))
+    × (getD (masks ss) (maskWords * a + 2) 0 ≡ maskOf (getD ss a noFacts .clears))
 words-at ss a =
     elim (decLt a (length ss)) [
       | yes l ↦ row-at ss a noFacts l
       | no l ↦
           let past : getD ss a noFacts ≡ noFacts = List·getD-eq-default ss noFacts {n = a} (omega arith) in
-          let nothing : (k : ℕ) → 3 * length ss ≤ k → getD (masks ss) k 0 ≡ maskOf [] =
+          let nothing : (k : ℕ) → maskWords * length ss ≤ k → getD (masks ss) k 0 ≡ maskOf [] =
           λ k le. List·getD-eq-default (masks ss) 0 {n = k} (omega (arith, masks-length ss)) ∙ sym mask-none in (
-            nothing (3 * a) (omega arith) ∙ ap (λ (s : Step). maskOf (s .needs)) (sym past),
-            nothing (3 * a + 1) (omega arith) ∙ ap (λ (s : Step). maskOf (s .sets)) (sym past),
-            nothing (3 * a + 2) (omega arith) ∙ ap (λ (s : Step). maskOf (s .clears)) (sym past),
+            nothing (maskWords * a) (omega arith) ∙ ap (λ (s : Step). maskOf (s .needs)) (sym past),
+            nothing (maskWords * a + 1) (omega arith) ∙ ap (λ (s : Step). maskOf (s .sets)) (sym past),
+            nothing (maskWords * a + 2) (omega arith) ∙ ap (λ (s : Step). maskOf (s .clears)) (sym past),
           )
     ]
 

@@ -18,7 +18,7 @@ use Rattle.library.specs.Library.{has, Step, factsFrom, stepsFrom}
 use Rattle.library.specs.Seam.{NoneOpens}
 use Rattle.general.specs.Tests.{All}
 use Rattle.library.specs.Accepted.{StepWord}
-use Rattle.library.specs.Tables.{maskOf, masks, placesFrom, masksFrom, withWord, withRow, NoPlaces, StepsAsked, SequencesAsked}
+use Rattle.library.specs.Tables.{maskWords, maskOf, masks, placesFrom, masksFrom, withWord, withRow, NoPlaces, StepsAsked, SequencesAsked}
 use Rattle.image.specs.declared.answer.Head.{Head}
 use Rattle.library.specs.declared.tables.Masks.{Masks}
 use Rattle.library.proofs.Decode.{kind-is, steps-open, steps-skip, facts-here, facts-other, facts-end}
@@ -112,7 +112,7 @@ module _ (w : ℕ) (ws : List ℕ) (l : 2 ≤ kind w) (u : kind w ≤ 4) (f : pa
 pub record MasksAt (part area₀ area : List ℕ) (m : Masks) (i : ℕ) : Type 0 where
   pub within : i ≤ length part
   pub masked : m ≡ masksFrom (drop i part)
-  pub written : area ≡ take (3 * opened 5 (take i part)) area₀ ++ (masks (stepsFrom (drop i part)) ++ drop (3 * opened 5 part) area₀)
+  pub written : area ≡ take (maskWords * opened 5 (take i part)) area₀ ++ (masks (stepsFrom (drop i part)) ++ drop (maskWords * opened 5 part) area₀)
   pub long : length area ≡ length area₀
 
 module _ (part area₀ : List ℕ) where
@@ -122,7 +122,7 @@ module _ (part area₀ : List ℕ) where
       record {
         within = omega arith;
         masked = rw (drop-length part) (λ i. record { needs = sym mask-none i; sets = sym mask-none i; clears = sym mask-none i });
-        written = rw (drop-length part, take-length part) (sym (take-append-drop (3 * opened 5 part) area₀));
+        written = rw (drop-length part, take-length part) (sym (take-append-drop (maskWords * opened 5 part) area₀));
         long = refl;
       }
 
@@ -164,43 +164,43 @@ module _ (part area₀ : List ℕ) where
           masked = ap (λ (x : Masks). withWord x w) (at .masked) ∙ masks-word w rest (here .low) high (fact-fits e) ∙ ap masksFrom (sym cut);
           written =
               at .written
-              ∙ ap₂ (λ (k : ℕ) (ss : List Step). take (3 * k) area₀ ++ (masks ss ++ drop (3 * opened 5 part) area₀)) n
+              ∙ ap₂ (λ (k : ℕ) (ss : List Step). take (maskWords * k) area₀ ++ (masks ss ++ drop (maskWords * opened 5 part) area₀)) n
               (sym (ap stepsFrom cut ∙ steps-skip w rest d));
           long = at .long;
         }
 
     -- the number of the step that a word opens, and the room for its row
-    number : isKind 5 w ≡ true → (payload w ≡ opened 5 (take j part)) × (opened 5 (take (suc j) part) ≡ opened 5 (take j part) + 1) × (3 * opened 5 (take j part) + 3 ≤ length area₀)
+    number : isKind 5 w ≡ true → (payload w ≡ opened 5 (take j part)) × (opened 5 (take (suc j) part) ≡ opened 5 (take j part) + 1) × (maskWords * opened 5 (take j part) + maskWords ≤ length area₀)
     unfolding w
     number e =
         let next : opened 5 (take (suc j) part) ≡ opened 5 (take j part) + 1 = past ∙ ap (λ (b : Bool). opened 5 (take j part) + boolByte b) e in
         (asked .numbered j l (kind-is 5 w e), next, omega (arith, next, opened-within 5 (suc j) part, asked .opened, asked .room))
 
-    pub row-room : isKind 5 (getD part j 0) ≡ true → 3 * payload (getD part j 0) + 3 ≤ length area
+    pub row-room : isKind 5 (getD part j 0) ≡ true → maskWords * payload (getD part j 0) + maskWords ≤ length area
     unfolding w
     row-room e = omega (arith, number e, at .long)
 
     -- an opener
     pub masks-row : isKind 5 (getD part j 0) ≡ true
-        → MasksAt part area₀ (withRow area (3 * payload (getD part j 0)) m) (record { needs = 0; sets = 0; clears = 0 }) j
+        → MasksAt part area₀ (withRow area (maskWords * payload (getD part j 0)) m) (record { needs = 0; sets = 0; clears = 0 }) j
     unfolding w rest masks
     masks-row e =
         let k = opened 5 (take j part) in
         let n = number e in
-        let later = masks (stepsFrom rest) ++ drop (3 * opened 5 part) area₀ in
-        let three : 3 * opened 5 (take (suc j) part) ≡ 3 * k + 3 = omega (arith, n) in
+        let later = masks (stepsFrom rest) ++ drop (maskWords * opened 5 part) area₀ in
+        let three : maskWords * opened 5 (take (suc j) part) ≡ maskWords * k + maskWords = omega (arith, n) in
         record {
           within = omega arith;
           masked = masks-opener w rest (kind-is 5 w e) ∙ ap masksFrom (sym cut);
           written =
-              ap₂ (λ (x : List ℕ) (p : ℕ). withRow x (3 * p) m) (at .written ∙ ap (λ (t : ℕ). take t area₀ ++ later) three) (n .0)
-              ∙ put-row area₀ later (3 * k) m (n .2)
-              ∙ ap (λ (x : Masks). take (3 * k) area₀ ++ (x .needs ∷ x .sets ∷ x .clears ∷ later)) (at .masked)
-              ∙ ap (λ (ss : List Step). take (3 * k) area₀ ++ (masks ss ++ drop (3 * opened 5 part) area₀)) (sym (ap stepsFrom cut ∙ steps-open w rest (kind-is 5 w e)));
+              ap₂ (λ (x : List ℕ) (p : ℕ). withRow x (maskWords * p) m) (at .written ∙ ap (λ (t : ℕ). take t area₀ ++ later) three) (n .0)
+              ∙ put-row area₀ later (maskWords * k) m (n .2)
+              ∙ ap (λ (x : Masks). take (maskWords * k) area₀ ++ (x .needs ∷ x .sets ∷ x .clears ∷ later)) (at .masked)
+              ∙ ap (λ (ss : List Step). take (maskWords * k) area₀ ++ (masks ss ++ drop (maskWords * opened 5 part) area₀)) (sym (ap stepsFrom cut ∙ steps-open w rest (kind-is 5 w e)));
           long = simp length-set (at .long);
         }
 
-  pub masks-end : (area : List ℕ) (m : Masks) → MasksAt part area₀ area m 0 → area ≡ masks (stepsFrom part) ++ drop (3 * opened 5 part) area₀
+  pub masks-end : (area : List ℕ) (m : Masks) → MasksAt part area₀ area m 0 → area ≡ masks (stepsFrom part) ++ drop (maskWords * opened 5 part) area₀
   unfolding opened
   masks-end area m at = at .written
 

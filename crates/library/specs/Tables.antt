@@ -18,6 +18,10 @@ unfoldable pub maskOf : List ℕ → ℕ
 unfolding has column
 maskOf facts = column 64 (λ (f : ℕ). has f facts)
 
+-- a step's words in the table of masks
+abbrev pub maskWords : ℕ
+maskWords = 3
+
 -- three words a step, in the order of the steps: what it needs, sets and clears
 unfoldable pub masks : List Step → List ℕ
 unfolding maskOf
@@ -35,7 +39,7 @@ pub record StepsAsked (h : Head) (part area : List ℕ) : Type 0 where
   pub words : All (StepWord h) part
   pub numbered : Numbered 5 part
   pub opened : opened 5 part ≡ h .steps
-  pub room : 3 * h .steps ≤ length area
+  pub room : maskWords * h .steps ≤ length area
 
 -- what the table of places asks: the sequences' part of an accepted image, and room for a word a sequence
 pub record SequencesAsked (h : Head) (part area : List ℕ) : Type 0 where

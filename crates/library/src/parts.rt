@@ -9,6 +9,9 @@ ghost use Rattle.reader.specs.Checked.{between};
 ghost use Rattle.library.specs.Library.{beforeSequences, stepsPart, sequencesPart};
 ghost use Rattle.library.specs.Seam.{Passed, NoneOpens};
 
+// How many words one test looks at.
+pub const AT_ONCE: usize = 4;
+
 // Whether none of the four words from index `at` on opens a sequence. One test without a way out, so that it compiles to vector code.
 pub fn none_opens(words: &[u32], at: usize) -> bool
     requires { ⌜ at + 4 ≤ length (now words) ⌝ }
@@ -26,11 +29,11 @@ fn pass_fours(words: &[u32]) -> usize
     ensures { λ r. ⌜ Passed (now (words .entry)) r ⌝ }
 {
     let mut i = 0;
-    while 4 <= words.len() - i {
+    while AT_ONCE <= words.len() - i {
         if !none_opens(words, i) {
             return i;
         }
-        i += 4;
+        i += AT_ONCE;
     }
     i
 }

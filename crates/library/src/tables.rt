@@ -1,5 +1,6 @@
 // Tables made of the parts of an accepted image, in lent areas: the steps' masks, and where each sequence stands. Both are written from the
 // last word to the first, since a step's facts stand after its opener.
+use crate::parts::AT_ONCE;
 use crate::parts::none_opens;
 use image::answer::Head;
 use image::word::KIND_NEEDS;
@@ -14,7 +15,10 @@ ghost use Prim.Native.Nat.{_+_, _*_, _≤_, _<_};
 ghost use lib.ListN.{length, drop};
 ghost use Rattle.image.specs.Word.{payload};
 ghost use Rattle.library.specs.Library.{stepsFrom};
-ghost use Rattle.library.specs.Tables.{masks, placesFrom, withWord, withRow, NoPlaces, StepsAsked, SequencesAsked};
+ghost use Rattle.library.specs.Tables.{maskWords, masks, placesFrom, withWord, withRow, NoPlaces, StepsAsked, SequencesAsked};
+
+// The words of a step in the table of masks: one for what it needs, one for what it sets, one for what it clears.
+pub const MASK_WORDS: usize = 3;
 
 // What a step needs, sets and clears, a bit a fact.
 pub struct Masks {
@@ -52,10 +56,10 @@ fn with_word(m: Masks, w: u32) -> Masks
 
 // Writes a step's three words.
 fn write_row(area: &mut [u64], step: u32, m: Masks)
-    requires { ⌜ 3 * step + 3 ≤ length (now area) ⌝ }
-    ensures { λ _. ⌜ now (area .exit) ≡ withRow (now (area .entry)) (3 * step) m ⌝ }
+    requires { ⌜ maskWords * step + maskWords ≤ length (now area) ⌝ }
+    ensures { λ _. ⌜ now (area .exit) ≡ withRow (now (area .entry)) (maskWords * step) m ⌝ }
 {
-    let at = 3 * step as usize;
+    let at = MASK_WORDS * step as usize;
     area[at] = m.needs;
     area[at + 1] = m.sets;
     area[at + 2] = m.clears;
@@ -64,7 +68,7 @@ fn write_row(area: &mut [u64], step: u32, m: Masks)
 // Writes the masks of each step of the steps' part: three words a step. Words past them stay.
 pub fn write_masks(h: Head, part: &[u32], area: &mut [u64])
     requires { ⌜ StepsAsked h (now part) (now area) ⌝ }
-    ensures { λ _. ⌜ now (area .exit) ≡ masks (stepsFrom (now (part .entry))) ++ drop (3 * h .steps) (now (area .entry)) ⌝ }
+    ensures { λ _. ⌜ now (area .exit) ≡ masks (stepsFrom (now (part .entry))) ++ drop (maskWords * h .steps) (now (area .entry)) ⌝ }
 {
     let mut m = Masks {
         needs: 0,
@@ -94,11 +98,11 @@ fn pass_back(part: &[u32], end: usize) -> usize
     ensures { λ r. ⌜ NoPlaces (now (part .entry)) r end ⌝ }
 {
     let mut i = end;
-    while 4 <= i {
-        if !none_opens(part, i - 4) {
+    while AT_ONCE <= i {
+        if !none_opens(part, i - AT_ONCE) {
             return i;
         }
-        i -= 4;
+        i -= AT_ONCE;
     }
     i
 }

@@ -14,7 +14,7 @@ use Rattle.image.specs.Word.{payload, isKind}
 use Rattle.general.specs.Tests.{All}
 use Rattle.library.specs.Library.{Entry, step, item, call, alternativesFrom}
 use Rattle.library.specs.Walk.{entryOf, alternativesAt}
-use Rattle.question.specs.Answer.{linkCount, told, shownLinks}
+use Rattle.question.specs.Answer.{linkLength, linkCount, told, shownLinks}
 use Rattle.chains.specs.Link.{Link, touchLink, choiceWord, linkWords, chainWords}
 use Rattle.chains.specs.Stands.{entryAt}
 use Rattle.rank.specs.Tables.{entryNumber, depthIn}
@@ -77,7 +77,7 @@ module _ (m : ℕ) (ahead behind ranks part places : List ℕ) (before : List �
 
   pub record Writing (area : List ℕ) (k c at : ℕ) : Type 0 where
     pub sequence : c < 2 ^ 28
-    pub left : at + 2 * k ≡ 2 * count
+    pub left : at + linkLength * k ≡ linkLength * count
     pub done : List ℕ
     pub long : length done ≡ at
     pub written : area ≡ done ++ drop at before
@@ -86,7 +86,7 @@ module _ (m : ℕ) (ahead behind ranks part places : List ℕ) (before : List �
   pub writing-start : first < 2 ^ 28 → Writing before count first 0
   writing-start low = record { sequence = low; left = omega arith; done = []; long = refl; written = refl; rest = refl }
 
-  module _ (room : 2 * count ≤ length before) (area : List ℕ) (k c at : ℕ) (here : Writing area k c at) where
+  module _ (room : linkLength * count ≤ length before) (area : List ℕ) (k c at : ℕ) (here : Writing area k c at) where
     pub writing-length : length area ≡ length before
     writing-length =
         let n = here .long in
@@ -94,11 +94,11 @@ module _ (m : ℕ) (ahead behind ranks part places : List ℕ) (before : List �
         omega (arith, ap length (here .written), length-append (here .done) (drop at before), length-drop at before)
 
     -- the words so far are the whole chain's
-    pub writing-end : k ≡ 0 → area ≡ chainWords (links count first) ++ drop (2 * count) before
+    pub writing-end : k ≡ 0 → area ≡ chainWords (links count first) ++ drop (linkLength * count) before
     unfolding linksIn chainWords
     writing-end over =
         let l = here .left in
-        let all : at ≡ 2 * count = omega arith in
+        let all : at ≡ linkLength * count = omega arith in
         let last : chainWords (links k c) ≡ [] = ap (λ (n : ℕ). chainWords (links n c)) over in
         here .written
         ∙ ap₂ (λ (p : List ℕ) (n : ℕ). p ++ drop n before) (sym (append-nil (here .done)) ∙ ap (λ (r : List ℕ). here .done ++ r) (sym last) ∙ here .rest) all
@@ -142,7 +142,7 @@ links-count m ahead behind ranks part places (suc k) c =
 
 -- the one link by what the functions promise that choose its alternative and write its words
 pub quiet-written : (m : ℕ) (ranks part places : List ℕ) (c k from i count : ℕ) (area after : List ℕ) → c < length ranks → k ≡ pred (getD ranks c 0)
-    → from ≡ getD places c 0 + 1 → i ≡ alternativeFrom (depthIn m ranks) k 0 (alternativesFrom (drop from part)) → 0 < count → 2 * count ≤ length area
+    → from ≡ getD places c 0 + 1 → i ≡ alternativeFrom (depthIn m ranks) k 0 (alternativesFrom (drop from part)) → 0 < count → linkLength * count ≤ length area
     → after ≡ set (set area 0 (choiceWord c i)) (0 + 1) (12 * 2 ^ 28) → after ≡ quietWords m ranks part places count c area
 unfolding quietLink chainWords
 quiet-written m ranks part places c k from i count area after listed before opener choice some room put =
@@ -157,11 +157,11 @@ quiet-unwritten m ranks part places c count area le =
     ap (λ (b : Bool). cond b (chainWords (quietLink m ranks part places c ∷ []) ++ drop 2 area) area) (sym (le-ltb 0 count le))
 
 -- the links that are written have room
-pub shown-room : (q : Asked) (rank room : ℕ) → 2 * shownLinks q rank room ≤ room
-shown-room q rank room = go (ltb rank (q .none)) (leb (2 * linkCount q rank) room) refl
+pub shown-room : (q : Asked) (rank room : ℕ) → linkLength * shownLinks q rank room ≤ room
+shown-room q rank room = go (ltb rank (q .none)) (leb (linkLength * linkCount q rank) room) refl
   where
-    go : (a b : Bool) → leb (2 * linkCount q rank) room ≡ b → 2 * cond (a && b) (linkCount q rank) 0 ≤ room
-    go true true e = leb-true (2 * linkCount q rank) room e
+    go : (a b : Bool) → leb (linkLength * linkCount q rank) room ≡ b → linkLength * cond (a && b) (linkCount q rank) 0 ≤ room
+    go true true e = leb-true (linkLength * linkCount q rank) room e
     go true false e = omega arith
     go false b e = omega arith
 
@@ -170,19 +170,19 @@ pub answered-same : {a b : Answer} {before after : List ℕ} {found : Chained} �
 answered-same {before = before} {after = after} {found = found} e answered = subst (λ (x : Answer). Answered x before found after) e answered
 
 -- what is told of a chain and written of it, by whether there is a rank and whether there is room
-by-rank : (ls : List Link) (before after : List ℕ) (n : ℕ) (a b : Bool) → length ls ≡ n → leb (2 * n) (length before) ≡ b
-    → after ≡ cond (a && b) (chainWords ls ++ drop (2 * n) before) before
+by-rank : (ls : List Link) (before after : List ℕ) (n : ℕ) (a b : Bool) → length ls ≡ n → leb (linkLength * n) (length before) ≡ b
+    → after ≡ cond (a && b) (chainWords ls ++ drop (linkLength * n) before) before
     → Answered (cond a (shown ls) none) before (cond a (cond b (Chained.Shown (record { count = n })) (Chained.Refused ChainArea)) Chained.None) after
 by-rank ls before after n false b count room words = record { answer = refl; area = words }
 by-rank ls before after n true true count room words =
-    let long : 2 * n ≡ length (chainWords ls) = omega (arith, words-length ls) in
+    let long : linkLength * n ≡ length (chainWords ls) = omega (arith, words-length ls) in
     let fits : leb (length (chainWords ls)) (length before) ≡ true = ap (λ (k : ℕ). leb k (length before)) (sym long) ∙ room in
     record {
       answer = rw fits (ap (λ (k : ℕ). Chained.Shown (record { count = k })) (sym count));
       area = rw fits (words ∙ ap (λ (k : ℕ). chainWords ls ++ drop k before) long);
     }
 by-rank ls before after n true false count room words =
-    let long : 2 * n ≡ length (chainWords ls) = omega (arith, words-length ls) in
+    let long : linkLength * n ≡ length (chainWords ls) = omega (arith, words-length ls) in
     let fits : leb (length (chainWords ls)) (length before) ≡ false = ap (λ (k : ℕ). leb k (length before)) (sym long) ∙ room in
     record { answer = rw fits; area = rw fits words }
 
@@ -200,7 +200,7 @@ module _ (q : Asked) (ahead behind ranks part places : List ℕ) (c rank count :
   abbrev found : Bool → Chained
   found b =
       cond (ltb rank (q .none))
-      (cond (leb (2 * cond b 1 rank) (length before)) (Chained.Shown (record { count = cond b 1 rank })) (Chained.Refused ChainArea)) Chained.None
+      (cond (leb (linkLength * cond b 1 rank) (length before)) (Chained.Shown (record { count = cond b 1 rank })) (Chained.Refused ChainArea)) Chained.None
 
   by-mark : (b : Bool) → eqb (q .mark) 2 ≡ b → Answered (known rank b) before (found b) after
       → Answered (answerIn q ahead behind ranks part places c) before (told q rank (length before)) after
@@ -209,8 +209,8 @@ module _ (q : Asked) (ahead behind ranks part places : List ℕ) (c rank count :
       subst (λ (x : Chained). Answered (answerIn q ahead behind ranks part places c) before x after) (ap found (sym mark))
       (answered-same (sym (ap₂ known own-rank mark)) answered)
 
-  count-by : (b : Bool) → eqb (q .mark) 2 ≡ b → count ≡ cond (ltb rank (q .none) && leb (2 * cond b 1 rank) (length before)) (cond b 1 rank) 0
-  count-by b mark = counted ∙ ap (λ (x : Bool). cond (ltb rank (q .none) && leb (2 * cond x 1 rank) (length before)) (cond x 1 rank) 0) mark
+  count-by : (b : Bool) → eqb (q .mark) 2 ≡ b → count ≡ cond (ltb rank (q .none) && leb (linkLength * cond b 1 rank) (length before)) (cond b 1 rank) 0
+  count-by b mark = counted ∙ ap (λ (x : Bool). cond (ltb rank (q .none) && leb (linkLength * cond x 1 rank) (length before)) (cond x 1 rank) 0) mark
 
   pub answered-quiet : q .mark ≡ 2 → after ≡ quietWords (q .none) ranks part places count c before
       → Answered (answerIn q ahead behind ranks part places c) before (told q rank (length before)) after
@@ -225,18 +225,18 @@ module _ (q : Asked) (ahead behind ranks part places : List ℕ) (c rank count :
       go true = refl
       go false = refl
 
-  pub answered-links : q .mark ≢ 2 → after ≡ chainWords (linksIn (q .none) ahead behind ranks part places count c) ++ drop (2 * count) before
+  pub answered-links : q .mark ≢ 2 → after ≡ chainWords (linksIn (q .none) ahead behind ranks part places count c) ++ drop (linkLength * count) before
       → Answered (answerIn q ahead behind ranks part places c) before (told q rank (length before)) after
   unfolding linksIn chainWords
   answered-links other words =
       let mark = ne-eqb (q .mark) 2 other in
       by-mark false mark
-      (by-rank (linksIn (q .none) ahead behind ranks part places rank c) before after rank (ltb rank (q .none)) (leb (2 * rank) (length before))
+      (by-rank (linksIn (q .none) ahead behind ranks part places rank c) before after rank (ltb rank (q .none)) (leb (linkLength * rank) (length before))
       (links-count (q .none) ahead behind ranks part places rank c) refl
-      (words ∙ ap (λ (n : ℕ). chainWords (linksIn (q .none) ahead behind ranks part places n c) ++ drop (2 * n) before) (count-by false mark)
-      ∙ go (ltb rank (q .none) && leb (2 * rank) (length before))))
+      (words ∙ ap (λ (n : ℕ). chainWords (linksIn (q .none) ahead behind ranks part places n c) ++ drop (linkLength * n) before) (count-by false mark)
+      ∙ go (ltb rank (q .none) && leb (linkLength * rank) (length before))))
     where
-      go : (b : Bool) → chainWords (linksIn (q .none) ahead behind ranks part places (cond b rank 0) c) ++ drop (2 * cond b rank 0) before
-          ≡ cond b (chainWords (linksIn (q .none) ahead behind ranks part places rank c) ++ drop (2 * rank) before) before
+      go : (b : Bool) → chainWords (linksIn (q .none) ahead behind ranks part places (cond b rank 0) c) ++ drop (linkLength * cond b rank 0) before
+          ≡ cond b (chainWords (linksIn (q .none) ahead behind ranks part places rank c) ++ drop (linkLength * rank) before) before
       go true = refl
       go false = refl

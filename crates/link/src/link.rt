@@ -1,4 +1,5 @@
 // The choice of a link: "the lowest alternative, then the lowest position, that keeps it fewest".
+use image::word::KIND_ALTERNATIVE;
 use image::word::is_entry;
 use image::word::is_kind;
 use image::word::payload_of;
@@ -23,7 +24,7 @@ pub struct Choice {
 }
 
 // The index where the test holds, otherwise the other one.
-fn kept_index(test: bool, x: usize, other: usize) -> usize
+fn selected_index(test: bool, x: usize, other: usize) -> usize
     ensures { λ r. ⌜ r ≡ cond test x other ⌝ }
 {
     if test {
@@ -45,7 +46,7 @@ fn quiet_from(none: u32, behind: &[u32], part: &[u32], at: usize) -> usize
             return start;
         }
         i += 1;
-        start = kept_index(passes(none, behind, w), start, i);
+        start = selected_index(passes(none, behind, w), start, i);
     }
 }
 
@@ -67,7 +68,7 @@ pub fn chosen_link(
     'found: loop {
         let w = word_at(part, i);
         i += 1;
-        if is_kind(7, w) {
+        if is_kind(KIND_ALTERNATIVE, w) {
             let start = i;
             let quiet = quiet_from(none, behind, part, start);
             let mut ok = true;
@@ -109,7 +110,7 @@ pub fn chosen_alternative(none: u32, ranks: &[u32], part: &[u32], at: usize, k: 
     'found: loop {
         let w = word_at(part, i);
         i += 1;
-        if is_kind(7, w) {
+        if is_kind(KIND_ALTERNATIVE, w) {
             let found = greatest_depth(none, ranks, part, i);
             if found.value <= k {
                 break 'found alternative;

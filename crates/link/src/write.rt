@@ -3,13 +3,17 @@ use crate::link::chosen_alternative;
 use crate::link::chosen_link;
 use question::answer::shown_links;
 use question::asked::Asked;
+use question::asked::UNTOUCHED_MARK;
+use question::words::LINK_WORDS;
+use question::words::POSITION_WORD;
+use question::words::UNTOUCHED_WORD;
 use question::words::put_link;
 ghost use mathlib.Core.Path.{_≡_};
 ghost use mathlib.Core.List.{_++_};
 ghost use Prim.Native.Nat.{_+_, _*_, _^_, _≤_, _<_, pred};
 ghost use lib.ListN.{length, getD, drop};
 ghost use Rattle.chains.specs.Link.{chainWords};
-ghost use Rattle.question.specs.Answer.{told};
+ghost use Rattle.question.specs.Answer.{linkLength, told};
 ghost use Rattle.rank.specs.Tables.{Rankable};
 ghost use Rattle.link.specs.Choice.{Opened, Choosable, linksIn, quietWords, answerIn};
 ghost use Rattle.question.specs.Reply.{Answered};
@@ -37,8 +41,8 @@ fn write_links(
     count: u32,
     c: u32,
 )
-    requires { ⌜ Choosable none (now ahead) (now behind) (now ranks) (now part) (now places) × (2 * count ≤ length (now area)) × (c < 2 ^ 28) ⌝ }
-    ensures { λ _. ⌜ now (area .exit) ≡ chainWords (linksIn none (now (ahead .entry)) (now (behind .entry)) (now (ranks .entry)) (now (part .entry)) (now (places .entry)) count c) ++ drop (2 * count) (now (area .entry)) ⌝ }
+    requires { ⌜ Choosable none (now ahead) (now behind) (now ranks) (now part) (now places) × (linkLength * count ≤ length (now area)) × (c < 2 ^ 28) ⌝ }
+    ensures { λ _. ⌜ now (area .exit) ≡ chainWords (linksIn none (now (ahead .entry)) (now (behind .entry)) (now (ranks .entry)) (now (part .entry)) (now (places .entry)) count c) ++ drop (linkLength * count) (now (area .entry)) ⌝ }
 {
     let mut d = c;
     let mut k = count;
@@ -46,8 +50,8 @@ fn write_links(
     while 0 < k {
         k -= 1;
         let link = chosen_link(none, ahead, behind, ranks, part, after_opener(places, d), k);
-        put_link(area, at, d, link.alternative, 2952790016 + link.position);
-        at += 2;
+        put_link(area, at, d, link.alternative, POSITION_WORD + link.position);
+        at += LINK_WORDS;
         d = link.entry;
     }
 }
@@ -71,13 +75,13 @@ fn write_quiet(
     count: u32,
     c: u32,
 )
-    requires { ⌜ Rankable none (now ranks) (now part) × Opened (now part) (now places) × (2 * count ≤ length (now area)) × (c < 2 ^ 28) × (c < length (now ranks)) ⌝ }
+    requires { ⌜ Rankable none (now ranks) (now part) × Opened (now part) (now places) × (linkLength * count ≤ length (now area)) × (c < 2 ^ 28) × (c < length (now ranks)) ⌝ }
     ensures { λ _. ⌜ now (area .exit) ≡ quietWords none (now (ranks .entry)) (now (part .entry)) (now (places .entry)) count c (now (area .entry)) ⌝ }
 {
     if 0 < count {
         let k = before(ranks[c as usize]);
         let alternative = chosen_alternative(none, ranks, part, after_opener(places, c), k);
-        put_link(area, 0, c, alternative, 3221225472);
+        put_link(area, 0, c, alternative, UNTOUCHED_WORD);
     }
 }
 
@@ -97,7 +101,7 @@ pub fn write_chain(
 {
     let rank = ranks[c as usize];
     let count = shown_links(q, rank, area.len());
-    if q.mark == 2 {
+    if q.mark == UNTOUCHED_MARK {
         write_quiet(q.none, ranks, part, places, area, count, c);
     } else {
         write_links(q.none, ahead, behind, ranks, part, places, area, count, c);

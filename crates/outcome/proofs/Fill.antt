@@ -15,7 +15,7 @@ use Rattle.library.proofs.Accepted.{faultless, parts, counted}
 use Rattle.library.proofs.Lookup.{mask-low}
 use Rattle.library.proofs.Rows.{all-at}
 use Rattle.runs.specs.Execution.{noStep}
-use Rattle.row.specs.Words.{allFacts, stepRow, rowIn}
+use Rattle.row.specs.Words.{rowWords, allFacts, stepRow, rowIn}
 use Rattle.settling.specs.Passes.{Blank, Settles}
 use Rattle.settling.specs.Stale.{Scheduled}
 use Rattle.tables.specs.Tables.{Prepared}
@@ -30,6 +30,7 @@ use Rattle.outcome.proofs.Bridge.{Stepped}
 use Rattle.outcome.proofs.Filled.{table-filled}
 use Rattle.outcome.proofs.Low.{LowRow, none-low, step-low}
 use Rattle.outcome.proofs.Settled.{Given, blank-row}
+use Rattle.library.specs.Tables.{maskWords}
 
 blank-take : (n : ℕ) (area : List ℕ) → Blank area → Blank (take n area)
 blank-take zero area blank k = refl
@@ -39,22 +40,22 @@ blank-take (suc n) (x ∷ xs) blank (suc k) = blank-take n xs (λ j. blank (suc 
 
 -- areas of zeros for so many steps and sequences
 pub areas-asked : (image : List ℕ) (h : Head) → accepts image h → (steps sequences : ℕ) → h .steps ≤ steps → h .sequences ≤ sequences
-    → OutcomesAsked h image (replicate (3 * steps) 0) (replicate sequences 0) (replicate (4 * sequences) 0) (replicate sequences 0) (replicate (8 * steps) 0)
-    (replicate (8 * sequences) 0)
+    → OutcomesAsked h image (replicate (maskWords * steps) 0) (replicate sequences 0) (replicate (4 * sequences) 0) (replicate sequences 0) (replicate (rowWords * steps) 0)
+    (replicate (rowWords * sequences) 0)
 areas-asked image h accepted steps sequences a c =
     record {
       tables = tables.areas-asked image h accepted steps sequences a c;
-      masks-blank = blank-zeros (3 * steps);
-      rows-room = omega (arith, length-replicate {A = ℕ} (8 * steps) 0);
-      rows-blank = blank-zeros (8 * steps);
-      room = omega (arith, length-replicate {A = ℕ} (8 * sequences) 0);
-      blank = blank-zeros (8 * sequences);
+      masks-blank = blank-zeros (maskWords * steps);
+      rows-room = omega (arith, length-replicate {A = ℕ} (rowWords * steps) 0);
+      rows-blank = blank-zeros (rowWords * steps);
+      room = omega (arith, length-replicate {A = ℕ} (rowWords * sequences) 0);
+      blank = blank-zeros (rowWords * sequences);
     }
 
 module _ {h : Head} {image ms₀ ps₀ callers₀ order₀ rs₀ table : List ℕ} (asked : OutcomesAsked h image ms₀ ps₀ callers₀ order₀ rs₀ table) where
   -- the part of the area that has the rows of the sequences
-  pub table-long : length (take (8 * h .sequences) table) ≡ 8 * h .sequences
-  table-long = length-take-le (8 * h .sequences) table (asked .room)
+  pub table-long : length (take (rowWords * h .sequences) table) ≡ rowWords * h .sequences
+  table-long = length-take-le (rowWords * h .sequences) table (asked .room)
 
   module _ {part : List ℕ} (sequences : part ≡ sequencesPart image) {ms ps callers order : List ℕ} (made : Prepared h image ms₀ ps₀ ms ps callers order)
       (placed : length ps ≡ length ps₀) (noted : length callers ≡ length callers₀) {all : ℕ} (ones : all ≡ allFacts (h .facts)) {rs : List ℕ}
@@ -101,7 +102,7 @@ module _ {h : Head} {image ms₀ ps₀ callers₀ order₀ rs₀ table : List �
         ]
 
     -- what the passes ask
-    pub settle-asked : Visitable (h .sequences) rs part ps (take (8 * h .sequences) table)
+    pub settle-asked : Visitable (h .sequences) rs part ps (take (rowWords * h .sequences) table)
         × Scheduled (h .sequences) part ps callers (take (h .sequences) order)
     settle-asked = (
       record {
@@ -115,7 +116,7 @@ module _ {h : Head} {image ms₀ ps₀ callers₀ order₀ rs₀ table : List �
       scheduled (asked .tables .accepted) made sequences (omega (arith, asked .tables .callers-room)),
     )
 
-    pub outcomes-done : (t : List ℕ) → Settles (visited all rs part ps) (h .sequences) (take (8 * h .sequences) table) t → t ≡ outcomes L
+    pub outcomes-done : (t : List ℕ) → Settles (visited all rs part ps) (h .sequences) (take (rowWords * h .sequences) table) t → t ≡ outcomes L
     outcomes-done t pass =
-        let p = subst (λ (a : ℕ). Settles (visited a rs part ps) (h .sequences) (take (8 * h .sequences) table) t) facts-are pass in
-        table-filled L h rs part ps fill-given fill-low _ t table-long (blank-take (8 * h .sequences) table (asked .blank)) (p .reached) (p .settled)
+        let p = subst (λ (a : ℕ). Settles (visited a rs part ps) (h .sequences) (take (rowWords * h .sequences) table) t) facts-are pass in
+        table-filled L h rs part ps fill-given fill-low _ t table-long (blank-take (rowWords * h .sequences) table (asked .blank)) (p .reached) (p .settled)

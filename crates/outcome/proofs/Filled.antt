@@ -17,7 +17,7 @@ use Rattle.runs.specs.Touch.{Side, last, first, Mark, present, absent, untouche
 use Rattle.runs.specs.Possible.{columnPossible}
 use Rattle.outcome.specs.Area.{outcomeWord, outcomeRows, outcomes}
 use Rattle.runs.specs.Rows.{columnNumber}
-use Rattle.row.specs.Words.{allFacts, rowIn, wordsOf}
+use Rattle.row.specs.Words.{rowWords, allFacts, rowIn, wordsOf}
 use Rattle.settling.specs.Passes.{Reached, Settled}
 use Rattle.outcome.specs.Visited.{visited}
 use Rattle.row.specs.declared.words.Row.{Row}
@@ -29,11 +29,11 @@ use Rattle.outcome.proofs.Visited.{visits-lower}
 use Rattle.settling.proofs.Visits.{reached-length}
 
 -- a word of a table is the word of its row
-word-row : (t : List ℕ) (c j : ℕ) → j < 8 → getD t (8 * c + j) 0 ≡ getD (wordsOf (rowIn t c)) j 0
+word-row : (t : List ℕ) (c j : ℕ) → j < rowWords → getD t (rowWords * c + j) 0 ≡ getD (wordsOf (rowIn t c)) j 0
 word-row t c =
-    by-column (λ (j : ℕ). getD t (8 * c + j) 0 ≡ getD (wordsOf (rowIn t c)) j 0) (ap (λ (k : ℕ). getD t k 0) (add-zero (8 * c))) refl side
+    by-column (λ (j : ℕ). getD t (rowWords * c + j) 0 ≡ getD (wordsOf (rowIn t c)) j 0) (ap (λ (k : ℕ). getD t k 0) (add-zero (rowWords * c))) refl side
   where
-    side : (s : Side) (m : Mark) → getD t (8 * c + columnNumber s m) 0 ≡ getD (wordsOf (rowIn t c)) (columnNumber s m) 0
+    side : (s : Side) (m : Mark) → getD t (rowWords * c + columnNumber s m) 0 ≡ getD (wordsOf (rowIn t c)) (columnNumber s m) 0
     side last present = refl
     side last absent = refl
     side last untouched = refl
@@ -41,7 +41,7 @@ word-row t c =
     side first absent = refl
     side first untouched = refl
 
-word-low : (n : ℕ) (r : Row) → LowRow n r → (j : ℕ) → j < 8 → getD (wordsOf r) j 0 < 2 ^ n
+word-low : (n : ℕ) (r : Row) → LowRow n r → (j : ℕ) → j < rowWords → getD (wordsOf r) j 0 < 2 ^ n
 word-low n r low = by-column (λ (j : ℕ). getD (wordsOf r) j 0 < 2 ^ n) (low .run) (low .empty) side
   where
     side : (s : Side) (m : Mark) → getD (wordsOf r) (columnNumber s m) 0 < 2 ^ n
@@ -58,26 +58,26 @@ bit-set (suc zero) l = refl
 bit-set (suc (suc x)) l = absurd (omega arith)
 
 -- a table of n rows by its words
-table-rows : (L : Library) (n c : ℕ) (t : List ℕ) → length t ≡ 8 * n → ((i j : ℕ) → i < n → j < 8 → getD t (8 * i + j) 0 ≡ outcomeWord L j (c + i))
+table-rows : (L : Library) (n c : ℕ) (t : List ℕ) → length t ≡ rowWords * n → ((i j : ℕ) → i < n → j < rowWords → getD t (rowWords * i + j) 0 ≡ outcomeWord L j (c + i))
     → t ≡ outcomeRows L c n
 unfolding outcomeRows wordsFrom
 table-rows L zero c t e words = drop-of-length-le t {i = 0} (omega arith)
 table-rows L (suc n) c t e words =
-    let w : (j : ℕ) → j < 8 → getD t j 0 ≡ outcomeWord L j c =
+    let w : (j : ℕ) → j < rowWords → getD t j 0 ≡ outcomeWord L j c =
     λ j k. ap (λ (i : ℕ). getD t i 0) (sym (zero-add j)) ∙ words 0 j (omega arith) k ∙ ap (outcomeWord L j) (add-zero c) in
-    let rest : drop 8 t ≡ outcomeRows L (suc c) n =
-    table-rows L n (suc c) (drop 8 t) (omega (arith, length-drop 8 t))
-    (λ i j l k. getD-drop 8 t (8 * i + j) 0 ∙ later i j ∙ words (suc i) j (omega arith) k ∙ ap (outcomeWord L j) (add-suc c i ∙ sym (suc-add c i))) in
-    sym (take-append-drop 8 t) ∙ ap (λ (l : List ℕ). l ++ drop 8 t) (take-words 8 t 0 (omega arith))
+    let rest : drop rowWords t ≡ outcomeRows L (suc c) n =
+    table-rows L n (suc c) (drop rowWords t) (omega (arith, length-drop rowWords t))
+    (λ i j l k. getD-drop rowWords t (rowWords * i + j) 0 ∙ later i j ∙ words (suc i) j (omega arith) k ∙ ap (outcomeWord L j) (add-suc c i ∙ sym (suc-add c i))) in
+    sym (take-append-drop rowWords t) ∙ ap (λ (l : List ℕ). l ++ drop rowWords t) (take-words rowWords t 0 (omega arith))
     ∙ (λ i.
     w 0 (omega arith) i ∷ w 1 (omega arith) i ∷ w 2 (omega arith) i ∷ w 3 (omega arith) i ∷ w 4 (omega arith) i ∷ w 5 (omega arith) i
     ∷ w 6 (omega arith) i ∷ w 7 (omega arith) i ∷ rest i)
   where
-    later : (i j : ℕ) → getD t (8 + (8 * i + j)) 0 ≡ getD t (8 * suc i + j) 0
-    later i j = let n : 8 + (8 * i + j) ≡ 8 * suc i + j = omega arith in ap (λ (k : ℕ). getD t k 0) n
+    later : (i j : ℕ) → getD t (rowWords + (rowWords * i + j)) 0 ≡ getD t (rowWords * suc i + j) 0
+    later i j = let n : rowWords + (rowWords * i + j) ≡ rowWords * suc i + j = omega arith in ap (λ (k : ℕ). getD t k 0) n
 
 module _ (L : Library) (h : Head) (steps part places : List ℕ) (given : Given L h steps part places) (low-steps : (a : ℕ) → LowRow (L .facts) (rowIn steps a))
-    (t₀ t : List ℕ) (long : length t₀ ≡ 8 * h .sequences) (blank : (k : ℕ) → getD t₀ k 0 ≡ 0)
+    (t₀ t : List ℕ) (long : length t₀ ≡ rowWords * h .sequences) (blank : (k : ℕ) → getD t₀ k 0 ≡ 0)
     (reached : Reached (visited (allFacts (L .facts)) steps part places) (h .sequences) t₀ t)
     (settled : Settled (visited (allFacts (L .facts)) steps part places) (h .sequences) t) where
   low : (c : ℕ) → LowRow (L .facts) (rowIn t c)
@@ -85,7 +85,7 @@ module _ (L : Library) (h : Head) (steps part places : List ℕ) (given : Given 
       reached-low (L .facts) steps part places low-steps (h .sequences) (omega arith)
       (λ c. subst (LowRow (L .facts)) (sym (blank-row t₀ blank c)) (none-low (L .facts))) reached
 
-  word-is : (c j : ℕ) → j < 8 → getD t (8 * c + j) 0 ≡ outcomeWord L j c
+  word-is : (c j : ℕ) → j < rowWords → getD t (rowWords * c + j) 0 ≡ outcomeWord L j c
   unfolding outcomeWord
   word-is c j k =
       word-row t c j k

@@ -11,7 +11,7 @@ use lib.Bits.{bitAnd, bitOr, and-le-l, or-lt}
 use lib.Pow.{pow-pos, ones-lt}
 use Rattle.library.specs.Library.{Entry, step, item, call, Alternative}
 use Rattle.library.specs.Walk.{alternativesAt}
-use Rattle.row.specs.Words.{allFacts, noRow, startRow, notWord, stepMarks, stepRow, laterMarks, joinRows, orMarks, orRows, liveRow, rowIn}
+use Rattle.row.specs.Words.{rowWords, allFacts, noRow, startRow, notWord, stepMarks, stepRow, laterMarks, joinRows, orMarks, orRows, liveRow, rowIn}
 use Rattle.outcome.specs.Walks.{entryIn, joinedFrom, alternativeIn, unitedFrom}
 use Rattle.outcome.specs.Visited.{visited}
 use Rattle.settling.specs.Passes.{Reached, here, next}
@@ -117,7 +117,7 @@ module _ (n : ℕ) where
   -- ---- a table
 
   module _ (steps part places : List ℕ) (low-steps : (a : ℕ) → LowRow (rowIn steps a)) (m : ℕ) where
-    pub reached-low : {t₀ t : List ℕ} → 8 * m ≤ length t₀ → ((c : ℕ) → LowRow (rowIn t₀ c)) → Reached (visited (allFacts n) steps part places) m t₀ t
+    pub reached-low : {t₀ t : List ℕ} → rowWords * m ≤ length t₀ → ((c : ℕ) → LowRow (rowIn t₀ c)) → Reached (visited (allFacts n) steps part places) m t₀ t
         → (c : ℕ) → LowRow (rowIn t c)
     reached-low room low here = low
     reached-low room low (next {table = s} c l r) = λ d.

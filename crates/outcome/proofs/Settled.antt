@@ -22,7 +22,7 @@ use Rattle.runs.specs.Touch.{Side, last, first, Mark, present, absent, untouche
 use Rattle.runs.specs.Algebra.{sideAlgebra}
 use Rattle.runs.specs.Possible.{columnPossible}
 use Rattle.runs.specs.Rows.{Row, columnNumber, readRow, GoodRow, GoodRows, ClosedRows}
-use Rattle.row.specs.Words.{allFacts, noRow, orRows, rowIn, bitRow}
+use Rattle.row.specs.Words.{rowWords, allFacts, noRow, orRows, rowIn, bitRow}
 use Rattle.outcome.specs.Walks.{unitedFrom}
 use Rattle.outcome.specs.Visited.{visited}
 use Rattle.settling.specs.Passes.{Reached, here, next, Settled}
@@ -69,10 +69,10 @@ none-row f = by-column (λ (j : ℕ). bitRow noRow f j ≡ false) (none-set f) (
 pub blank-row : (t : List ℕ) → ((k : ℕ) → getD t k 0 ≡ 0) → (c : ℕ) → rowIn t c ≡ noRow
 blank-row t blank c i =
     record {
-      run = blank (8 * c) i;
-      empty = blank (8 * c + 1) i;
-      last = record { present = blank (8 * c + 2) i; absent = blank (8 * c + 3) i; untouched = blank (8 * c + 4) i };
-      first = record { present = blank (8 * c + 5) i; absent = blank (8 * c + 6) i; untouched = blank (8 * c + 7) i };
+      run = blank (rowWords * c) i;
+      empty = blank (rowWords * c + 1) i;
+      last = record { present = blank (rowWords * c + 2) i; absent = blank (rowWords * c + 3) i; untouched = blank (rowWords * c + 4) i };
+      first = record { present = blank (rowWords * c + 5) i; absent = blank (rowWords * c + 6) i; untouched = blank (rowWords * c + 7) i };
     }
 
 member : (alts : List Alternative) (i : ℕ) → i < length alts → List·Memᴰ (getD alts i []) alts
@@ -100,7 +100,7 @@ module _ (L : Library) (h : Head) (steps part places : List ℕ) (given : Given 
   visit t c = visited (allFacts (L .facts)) steps part places t c
 
   -- the bits of a row after a visit
-  module _ (t : List ℕ) (room : 8 * h .sequences ≤ length t) (c : ℕ) (l : c < h .sequences) (f : ℕ) (below : f < L .facts) where
+  module _ (t : List ℕ) (room : rowWords * h .sequences ≤ length t) (c : ℕ) (l : c < h .sequences) (f : ℕ) (below : f < L .facts) where
     gives : Row
     gives j = some (λ (es : List Entry). readRow L f (tableBits t f) es j) (alternativesOf (L .sequences) c)
 
@@ -140,7 +140,7 @@ module _ (L : Library) (h : Head) (steps part places : List ℕ) (given : Given 
         ∙ or-right (tableBits t f c j) (gives j) (some-intro (λ (es : List Entry). readRow L f (tableBits t f) es j) (member alts i k) e)
 
   -- from a blank table every row stays good
-  reached-good : {t₀ t : List ℕ} → 8 * h .sequences ≤ length t₀ → ((k : ℕ) → getD t₀ k 0 ≡ 0)
+  reached-good : {t₀ t : List ℕ} → rowWords * h .sequences ≤ length t₀ → ((k : ℕ) → getD t₀ k 0 ≡ 0)
       → Reached (visited (allFacts (L .facts)) steps part places) (h .sequences) t₀ t → (f : ℕ) → f < L .facts → GoodRows L f (tableBits t f)
   unfolding visit
   reached-good {t₀} room blank here f below = λ c.
@@ -148,7 +148,7 @@ module _ (L : Library) (h : Head) (steps part places : List ℕ) (given : Given 
   reached-good room blank (next {table = s} c l r) f below =
       good-visit s (omega (arith, reached-length (visits-lower (allFacts (L .facts)) steps part places (h .sequences)) r)) c l f below (reached-good room blank r f below)
 
-  settled-closed : (t : List ℕ) → 8 * h .sequences ≤ length t → Settled (visited (allFacts (L .facts)) steps part places) (h .sequences) t
+  settled-closed : (t : List ℕ) → rowWords * h .sequences ≤ length t → Settled (visited (allFacts (L .facts)) steps part places) (h .sequences) t
       → (f : ℕ) → f < L .facts → ClosedRows L f (tableBits t f)
   unfolding visit
   settled-closed t room settled f below c i k j u e =
@@ -158,7 +158,7 @@ module _ (L : Library) (h : Head) (steps part places : List ℕ) (given : Given 
       ]
 
   -- what the bits of such a table say
-  pub settled-bits : (t₀ t : List ℕ) → 8 * h .sequences ≤ length t₀ → ((k : ℕ) → getD t₀ k 0 ≡ 0)
+  pub settled-bits : (t₀ t : List ℕ) → rowWords * h .sequences ≤ length t₀ → ((k : ℕ) → getD t₀ k 0 ≡ 0)
       → Reached (visited (allFacts (L .facts)) steps part places) (h .sequences) t₀ t → Settled (visited (allFacts (L .facts)) steps part places) (h .sequences) t
       → (f : ℕ) → f < L .facts → (j : ℕ) → j < 8 → (c : ℕ) → tableBits t f c j ≡ columnPossible L j c f
   settled-bits t₀ t room blank reached settled f below =

@@ -6,7 +6,7 @@ use mathlib.Core.Path.{_≡_, refl, _∙_, subst}
 use mathlib.Core.List.{List}
 use lib.ListN.{length}
 use borrow.Author.Count.{below-none, below-more}
-use Rattle.row.specs.Words.{rowIn, withRow}
+use Rattle.row.specs.Words.{rowWords, rowIn, withRow}
 use Rattle.outcome.specs.Walks.{maskRow, StepRows}
 use Rattle.outcome.proofs.Stores.{row-length, row-same, row-other}
 
@@ -25,7 +25,7 @@ module _ (all : ℕ) (masks : List ℕ) (n : ℕ) (t₀ : List ℕ) where
       }
 
   module _ (t : List ℕ) (a : ℕ) (here : Writing t a) where
-    pub writing-turn : a < n → 8 * n ≤ length t₀ → Writing (withRow t a (maskRow all masks a)) (a + 1)
+    pub writing-turn : a < n → rowWords * n ≤ length t₀ → Writing (withRow t a (maskRow all masks a)) (a + 1)
     writing-turn l room =
         let r = maskRow all masks a in
         record {

@@ -18,7 +18,7 @@ use borrow.Author.Tests.{eq-eqb, eqb-true}
 use Rattle.column.proofs.Bits.{bit-or, bits-equal}
 use Rattle.general.specs.Tests.{All}
 use Rattle.general.proofs.Bools.{and-left, and-right}
-use Rattle.row.specs.Words.{orRows, sameMarks, sameRows, rowIn, withRow, wordsOf}
+use Rattle.row.specs.Words.{rowWords, orRows, sameMarks, sameRows, rowIn, withRow, wordsOf}
 use Rattle.outcome.specs.Visited.{lacking}
 use Rattle.row.specs.declared.words.Marks.{Marks}
 use Rattle.row.specs.declared.words.Row.{Row}
@@ -41,24 +41,24 @@ sets-same (v ∷ vs) l i (suc k) u room =
     ∙ sets-same vs (set l i v) (suc i) k (le-of-suc-le-suc u) (omega (arith, length-set l i v))
 
 -- a row is stored by a run of stores
-row-sets : (t : List ℕ) (c : ℕ) (r : Row) → withRow t c r ≡ sets t (8 * c) (wordsOf r)
+row-sets : (t : List ℕ) (c : ℕ) (r : Row) → withRow t c r ≡ sets t (rowWords * c) (wordsOf r)
 row-sets t c r = simp towards-suc
 
 pub row-length : (t : List ℕ) (c : ℕ) (r : Row) → length (withRow t c r) ≡ length t
-row-length t c r = ap length (row-sets t c r) ∙ length-sets t (8 * c) (wordsOf r)
+row-length t c r = ap length (row-sets t c r) ∙ length-sets t (rowWords * c) (wordsOf r)
 
 module _ (t : List ℕ) (c : ℕ) (r : Row) where
-  word-other : (k : ℕ) → (k < 8 * c) ⊎ (8 * c + 8 ≤ k) → getD (withRow t c r) k 0 ≡ getD t k 0
-  word-other k out = ap (λ (l : List ℕ). getD l k 0) (row-sets t c r) ∙ sets-other (wordsOf r) t (8 * c) k out
+  word-other : (k : ℕ) → (k < rowWords * c) ⊎ (rowWords * c + rowWords ≤ k) → getD (withRow t c r) k 0 ≡ getD t k 0
+  word-other k out = ap (λ (l : List ℕ). getD l k 0) (row-sets t c r) ∙ sets-other (wordsOf r) t (rowWords * c) k out
 
-  word-same : 8 * c + 8 ≤ length t → (k : ℕ) → k < 8 → getD (withRow t c r) (8 * c + k) 0 ≡ getD (wordsOf r) k 0
-  word-same room k u = ap (λ (l : List ℕ). getD l (8 * c + k) 0) (row-sets t c r) ∙ sets-same (wordsOf r) t (8 * c) k u room
+  word-same : rowWords * c + rowWords ≤ length t → (k : ℕ) → k < rowWords → getD (withRow t c r) (rowWords * c + k) 0 ≡ getD (wordsOf r) k 0
+  word-same room k u = ap (λ (l : List ℕ). getD l (rowWords * c + k) 0) (row-sets t c r) ∙ sets-same (wordsOf r) t (rowWords * c) k u room
 
   -- what is read back
-  pub row-same : 8 * c + 8 ≤ length t → rowIn (withRow t c r) c ≡ r
+  pub row-same : rowWords * c + rowWords ≤ length t → rowIn (withRow t c r) c ≡ r
   row-same room i =
       let w = word-same room in
-      let first-word : getD (withRow t c r) (8 * c) 0 ≡ r .run = ap (λ (k : ℕ). getD (withRow t c r) k 0) (sym (add-zero (8 * c))) ∙ w 0 (omega arith) in
+      let first-word : getD (withRow t c r) (rowWords * c) 0 ≡ r .run = ap (λ (k : ℕ). getD (withRow t c r) k 0) (sym (add-zero (rowWords * c))) ∙ w 0 (omega arith) in
       record {
         run = first-word i;
         empty = w 1 (omega arith) i;
@@ -69,8 +69,8 @@ module _ (t : List ℕ) (c : ℕ) (r : Row) where
   -- the other rows stay
   pub row-other : (d : ℕ) → (d ≡ c → ⊥) → rowIn (withRow t c r) d ≡ rowIn t d
   row-other d apart i =
-      let w : (k : ℕ) → k < 8 → getD (withRow t c r) (8 * d + k) 0 ≡ getD t (8 * d + k) 0 = λ k u. word-other (8 * d + k) (outside k u) in
-      let first-word : getD (withRow t c r) (8 * d) 0 ≡ getD t (8 * d) 0 = rw (add-zero (8 * d)) at (w 0 (omega arith)) in
+      let w : (k : ℕ) → k < rowWords → getD (withRow t c r) (rowWords * d + k) 0 ≡ getD t (rowWords * d + k) 0 = λ k u. word-other (rowWords * d + k) (outside k u) in
+      let first-word : getD (withRow t c r) (rowWords * d) 0 ≡ getD t (rowWords * d) 0 = rw (add-zero (rowWords * d)) at (w 0 (omega arith)) in
       record {
         run = first-word i;
         empty = w 1 (omega arith) i;
@@ -78,7 +78,7 @@ module _ (t : List ℕ) (c : ℕ) (r : Row) where
         first = record { present = w 5 (omega arith) i; absent = w 6 (omega arith) i; untouched = w 7 (omega arith) i };
       }
     where
-      outside : (k : ℕ) → k < 8 → (8 * d + k < 8 * c) ⊎ (8 * c + 8 ≤ 8 * d + k)
+      outside : (k : ℕ) → k < rowWords → (rowWords * d + k < rowWords * c) ⊎ (rowWords * c + rowWords ≤ rowWords * d + k)
       outside k u = elim (decLt d c) [ yes l ↦ inl (omega arith) | no l ↦ inr (omega arith) ]
 
 -- storing what is there changes nothing
@@ -103,26 +103,26 @@ take-words zero l i room = refl
 take-words (suc n) l i room =
     ap (take (suc n)) (drop-cons l i 0 (omega arith)) ∙ ap (λ (r : List ℕ). getD l i 0 ∷ r) (take-words n l (suc i) (omega arith))
 
-row-words : (t : List ℕ) (c : ℕ) → 8 * c + 8 ≤ length t → take 8 (drop (8 * c) t) ≡ wordsOf (rowIn t c)
+row-words : (t : List ℕ) (c : ℕ) → rowWords * c + rowWords ≤ length t → take rowWords (drop (rowWords * c) t) ≡ wordsOf (rowIn t c)
 unfolding wordsFrom
-row-words t c room = take-words 8 t (8 * c) room ∙ simp towards-suc
+row-words t c room = take-words rowWords t (rowWords * c) room ∙ simp towards-suc
 
-lacking-row : (t : List ℕ) (c : ℕ) (r : Row) → 8 * c + 8 ≤ length t → lacking (withRow t c r) + lacking (wordsOf (rowIn t c)) ≡ lacking t + lacking (wordsOf r)
+lacking-row : (t : List ℕ) (c : ℕ) (r : Row) → rowWords * c + rowWords ≤ length t → lacking (withRow t c r) + lacking (wordsOf (rowIn t c)) ≡ lacking t + lacking (wordsOf r)
 lacking-row t c r room =
-    let i = 8 * c in
-    let stored : withRow t c r ≡ take i t ++ wordsOf r ++ drop (i + 8) t = row-sets t c r ∙ sets-eq (wordsOf r) t i room in
-    let whole : take i t ++ (wordsOf (rowIn t c) ++ drop (i + 8) t) ≡ t =
-    ap (λ (l : List ℕ). take i t ++ (l ++ drop (i + 8) t)) (sym (row-words t c room))
-    ∙ ap (λ (l : List ℕ). take i t ++ (take 8 (drop i t) ++ l)) (sym (drop-drop 8 i t))
-    ∙ ap (λ (l : List ℕ). take i t ++ l) (take-append-drop 8 (drop i t)) ∙ take-append-drop i t in
+    let i = rowWords * c in
+    let stored : withRow t c r ≡ take i t ++ wordsOf r ++ drop (i + rowWords) t = row-sets t c r ∙ sets-eq (wordsOf r) t i room in
+    let whole : take i t ++ (wordsOf (rowIn t c) ++ drop (i + rowWords) t) ≡ t =
+    ap (λ (l : List ℕ). take i t ++ (l ++ drop (i + rowWords) t)) (sym (row-words t c room))
+    ∙ ap (λ (l : List ℕ). take i t ++ (take rowWords (drop i t) ++ l)) (sym (drop-drop rowWords i t))
+    ∙ ap (λ (l : List ℕ). take i t ++ l) (take-append-drop rowWords (drop i t)) ∙ take-append-drop i t in
     omega (
       arith,
       ap lacking stored,
-      lacking-append (take i t ++ wordsOf r) (drop (i + 8) t),
+      lacking-append (take i t ++ wordsOf r) (drop (i + rowWords) t),
       lacking-append (take i t) (wordsOf r),
       ap lacking (sym whole),
-      lacking-append (take i t) (wordsOf (rowIn t c) ++ drop (i + 8) t),
-      lacking-append (wordsOf (rowIn t c)) (drop (i + 8) t),
+      lacking-append (take i t) (wordsOf (rowIn t c) ++ drop (i + rowWords) t),
+      lacking-append (wordsOf (rowIn t c)) (drop (i + rowWords) t),
     )
 
 or-le : (a b : ℕ) → a ≤ bitOr a b
@@ -236,7 +236,7 @@ rows-equal x y e i =
     }
 
 -- a row that grew: no more is lacking, and less where it is another
-module _ (t : List ℕ) (c : ℕ) (y : Row) (room : 8 * c + 8 ≤ length t) where
+module _ (t : List ℕ) (c : ℕ) (y : Row) (room : rowWords * c + rowWords ≤ length t) where
   pub lacking-least : lacking (withRow t c (orRows (rowIn t c) y)) ≤ lacking t
   lacking-least =
       let x = rowIn t c in

@@ -7,7 +7,7 @@ use mathlib.Core.Bool.{Bool, not}
 use mathlib.Core.List.{List}
 use lib.ListN.{length}
 use borrow.Author.Tests.{not-true, not-false}
-use Rattle.row.specs.Words.{noRow, rowIn, withRow, sameRows}
+use Rattle.row.specs.Words.{rowWords, noRow, rowIn, withRow, sameRows}
 use Rattle.settling.proofs.Visits.{Lowers}
 use Rattle.library.specs.Walk.{alternativesAt}
 use Rattle.outcome.specs.Walks.{unitedFrom}
@@ -17,7 +17,7 @@ use Rattle.outcome.proofs.Stores.{Fitting, row-length, row-again, rows-
 
 module _ (all : ℕ) (steps part places : List ℕ) where
   -- a visit, from what its code does
-  pub visit-made : (t : List ℕ) (c : ℕ) (t′ : List ℕ) (same : Bool) → 8 * c + 8 ≤ length t → t′ ≡ visited all steps part places t c
+  pub visit-made : (t : List ℕ) (c : ℕ) (t′ : List ℕ) (same : Bool) → rowWords * c + rowWords ≤ length t → t′ ≡ visited all steps part places t c
       → Fitting (visitedRow all steps part places t c) → same ≡ sameRows (rowIn t c) (visitedRow all steps part places t c)
       → Visit (visited all steps part places) lacking t c t′ (not same)
   visit-made t c t′ same room done fit e =
@@ -28,7 +28,7 @@ module _ (all : ℕ) (steps part places : List ℕ) where
             done ∙ ap (withRow t c) (sym (rows-equal (rowIn t c) (visitedRow all steps part places t c) (sym e ∙ not-false same unchanged))) ∙ row-again t c;
       }
 
-  pub visits-lower : (n : ℕ) → Lowers (visited all steps part places) lacking n (8 * n)
+  pub visits-lower : (n : ℕ) → Lowers (visited all steps part places) lacking n (rowWords * n)
   visits-lower n =
       record {
         keeps = λ t c. row-length t c (visitedRow all steps part places t c);

@@ -9,6 +9,7 @@ use Rattle.column.specs.Column.{column}
 use Rattle.runs.specs.Possible.{columnPossible}
 use Rattle.settling.specs.Passes.{Blank}
 use Rattle.tables.specs.Tables.{TablesAsked}
+use Rattle.row.specs.Words.{rowWords}
 
 -- column j of sequence c: bit f, for f below F, is set exactly where the column's outcome is possible, and no other bit is
 unfoldable pub outcomeWord : Library → ℕ → ℕ → ℕ
@@ -32,7 +33,7 @@ outcomes L = outcomeRows L 0 (length (L .sequences))
 pub record OutcomesAsked (h : Head) (image ms ps callers order rows table : List ℕ) : Type 0 where
   pub tables : TablesAsked h image ms ps callers order
   pub masks-blank : Blank ms
-  pub rows-room : 8 * h .steps ≤ length rows
+  pub rows-room : rowWords * h .steps ≤ length rows
   pub rows-blank : Blank rows
-  pub room : 8 * h .sequences ≤ length table
+  pub room : rowWords * h .sequences ≤ length table
   pub blank : Blank table

@@ -7,13 +7,14 @@ use lib.ListN.{length, getD, drop, replicate}
 use Rattle.image.specs.Word.{kind, payload}
 use Rattle.library.specs.Library.{Entry, step, item, call, Alternative, entriesFrom, alternativesFrom}
 use Rattle.library.specs.Walk.{entriesEnd}
-use Rattle.row.specs.Words.{startRow, stepRow, joinRows, orRows, liveRow, rowIn}
+use Rattle.row.specs.Words.{rowWords, startRow, stepRow, joinRows, orRows, liveRow, rowIn}
 use Rattle.row.specs.declared.words.Row.{Row}
 use Rattle.outcome.specs.declared.read.Read.{Read}
+use Rattle.library.specs.Tables.{maskWords}
 
 -- an entry names a row of the steps' table or of the table of outcomes
 abbrev pub Within : List ℕ → List ℕ → ℕ → Type 0
-Within steps table w = (kind w ≡ 8 → 8 * payload w + 8 ≤ length steps) × (kind w ≡ 9 → 8 * payload w + 8 ≤ length table)
+Within steps table w = (kind w ≡ 8 → rowWords * payload w + rowWords ≤ length steps) × (kind w ≡ 9 → rowWords * payload w + rowWords ≤ length table)
 
 -- each entry among the words does
 abbrev pub Readable : List ℕ → List ℕ → List ℕ → Type 0
@@ -54,7 +55,7 @@ pub record EmptiesEnd (part : List ℕ) (at r : ℕ) : Type 0 where
 
 -- the row of step a, by the table of masks
 abbrev pub maskRow : ℕ → List ℕ → ℕ → Row
-maskRow all masks a = stepRow all (getD masks (3 * a) 0) (getD masks (3 * a + 1) 0) (getD masks (3 * a + 2) 0)
+maskRow all masks a = stepRow all (getD masks (maskWords * a) 0) (getD masks (maskWords * a + 1) 0) (getD masks (maskWords * a + 2) 0)
 
 -- the rows of the steps below n are written, and the others stay
 pub record StepRows (all : ℕ) (masks : List ℕ) (n : ℕ) (before after : List ℕ) : Type 0 where

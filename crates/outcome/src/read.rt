@@ -1,4 +1,6 @@
 // One walk over the words of a sequence: its alternatives, each folded from left to right for all facts at once.
+use image::word::KIND_ALTERNATIVE;
+use image::word::KIND_STEP_ENTRY;
 use image::word::is_entry;
 use image::word::is_kind;
 use image::word::payload_of;
@@ -32,7 +34,7 @@ fn entry_row(steps: &[u64], table: &[u64], w: u32) -> Row
     requires { ⌜ Within (now steps) (now table) w × (isEntry w ≡ true) ⌝ }
     ensures { λ r. ⌜ r ≡ entryIn (now (steps .entry)) (now (table .entry)) (entryOf w) ⌝ }
 {
-    if is_kind(8, w) {
+    if is_kind(KIND_STEP_ENTRY, w) {
         return row_at(steps, payload_of(w) as usize);
     }
     row_at(table, payload_of(w) as usize)
@@ -70,7 +72,7 @@ fn empties_end(part: &[u32], at: usize) -> usize
     ensures { λ r. ⌜ EmptiesEnd (now (part .entry)) at r ⌝ }
 {
     let mut i = at;
-    while is_kind(7, word_at(part, i)) {
+    while is_kind(KIND_ALTERNATIVE, word_at(part, i)) {
         if is_entry(word_at(part, i + 1)) {
             return i;
         }
@@ -90,7 +92,7 @@ pub fn read_sequence(all: u64, steps: &[u64], table: &[u64], part: &[u32], at: u
     loop {
         let w = word_at(part, i);
         i += 1;
-        if is_kind(7, w) {
+        if is_kind(KIND_ALTERNATIVE, w) {
             if is_entry(word_at(part, i)) {
                 let r = read_alternative(all, steps, table, part, i);
                 let row = r.row;

@@ -5,6 +5,7 @@ use image::answer::Head;
 use image::word::MOST_SEQUENCES;
 use image::word::MOST_STEPS;
 use library::parts::sequences_part;
+use row::words::ROW_WORDS;
 use row::words::all_facts;
 use tables::prepare::prepare;
 use tables::size::SMALL_SEQUENCES;
@@ -15,15 +16,16 @@ ghost use Prim.Native.Nat.{_*_};
 ghost use lib.ListN.{drop};
 ghost use Rattle.library.specs.Library.{libraryOf};
 ghost use Rattle.outcome.specs.Area.{outcomes, OutcomesAsked};
+ghost use Rattle.row.specs.Words.{rowWords};
 
-// Eight words a step for the rows of the steps, and eight a sequence for the table.
-pub const SMALL_STEP_ROWS: usize = 8 * SMALL_STEPS as usize;
+// A row a step for the rows of the steps, and a row a sequence for the table.
+pub const SMALL_STEP_ROWS: usize = ROW_WORDS * SMALL_STEPS as usize;
 
-pub const MOST_STEP_ROWS: usize = 8 * MOST_STEPS as usize;
+pub const MOST_STEP_ROWS: usize = ROW_WORDS * MOST_STEPS as usize;
 
-pub const SMALL_ROWS: usize = 8 * SMALL_SEQUENCES as usize;
+pub const SMALL_ROWS: usize = ROW_WORDS * SMALL_SEQUENCES as usize;
 
-pub const MOST_ROWS: usize = 8 * MOST_SEQUENCES as usize;
+pub const MOST_ROWS: usize = ROW_WORDS * MOST_SEQUENCES as usize;
 
 // Writes the outcome table of an accepted image into `table`, by way of the tables that every call starts from and of the rows of the steps. All
 // areas are lent blank. Words past the table stay.
@@ -38,10 +40,10 @@ pub fn outcome_table(
     table: &mut [u64],
 )
     requires { ⌜ OutcomesAsked h (now image) (now masks) (now places) (now callers) (now order) (now rows) (now table) ⌝ }
-    ensures { λ _. ⌜ now (table .exit) ≡ outcomes (libraryOf (now (image .entry))) ++ drop (8 * h .sequences) (now (table .entry)) ⌝ }
+    ensures { λ _. ⌜ now (table .exit) ≡ outcomes (libraryOf (now (image .entry))) ++ drop (rowWords * h .sequences) (now (table .entry)) ⌝ }
 {
     let n = h.sequences as usize;
-    let words = 8 * n;
+    let words = ROW_WORDS * n;
     let all = all_facts(h.facts);
     let part = sequences_part(image);
     prepare(h, image, masks, places, callers, order);

@@ -1,4 +1,6 @@
 // Prints the cards of the library image on standard input, a line a sequence, or why the image is refused.
+use card_text::line::MOST_TEXT_BYTES;
+use card_text::print::MOST_BYTES;
 use card_text::print::print_image;
 use libc::STDERR_FILENO;
 use libc::STDIN_FILENO;
@@ -33,14 +35,14 @@ fn read_input(input: &mut [u8]) -> Input
 
 // Prints what the bytes of an image get.
 fn print(bytes: &[u8]) {
-    let mut text = [0u8; 33280];
+    let mut text = [0u8; MOST_TEXT_BYTES];
     let start = print_image(bytes, &mut text);
     io::write_all(STDOUT_FILENO, &text[start..]);
 }
 
-// An image has at most 32,768 bytes: one byte more is enough to tell that there are too many.
+// One byte more than an image has at most is enough to tell that there are too many.
 fn main() {
-    let mut input = [0u8; 32769];
+    let mut input = [0u8; MOST_BYTES + 1];
     match read_input(&mut input) {
         Input::Bytes(n) => print(&input[..n]),
         Input::Failed => {

@@ -18,9 +18,13 @@ chainAnswer (Chained.Refused r) = refusalAnswer r
 abbrev pub linkCount : Asked → ℕ → ℕ
 linkCount q rank = cond (eqb (q .mark) 2) 1 rank
 
+-- how many words a link has in the area
+abbrev pub linkLength : ℕ
+linkLength = 2
+
 -- 12: "A chain exists but has more words than the chain area."
 abbrev pub inRoom : ℕ → ℕ → Chained
-inRoom room count = cond (leb (2 * count) room) (Chained.Shown (record { count = count })) (Chained.Refused ChainArea)
+inRoom room count = cond (leb (linkLength * count) room) (Chained.Shown (record { count = count })) (Chained.Refused ChainArea)
 
 -- ""none", exactly when no run has that outcome": the sequence has no rank
 abbrev pub told : Asked → ℕ → ℕ → Chained
@@ -28,4 +32,4 @@ told q rank room = cond (ltb rank (q .none)) (inRoom room (linkCount q rank)) Ch
 
 -- "the number of links with the words written"
 abbrev pub shownLinks : Asked → ℕ → ℕ → ℕ
-shownLinks q rank room = cond (ltb rank (q .none) && leb (2 * linkCount q rank) room) (linkCount q rank) 0
+shownLinks q rank room = cond (ltb rank (q .none) && leb (linkLength * linkCount q rank) room) (linkCount q rank) 0

@@ -1,5 +1,7 @@
 // What the chain call answers with, and the 64-bit number that the C side gets.
 use crate::asked::Asked;
+use crate::asked::UNTOUCHED_MARK;
+use crate::words::LINK_WORDS;
 use image::answer::Refusal;
 use image::answer::refusal_answer;
 ghost use mathlib.Core.Path.{_≡_};
@@ -32,23 +34,23 @@ pub fn chain_answer(found: Chained) -> u64
 fn link_count(q: Asked, rank: u32) -> u32
     ensures { λ r. ⌜ r ≡ linkCount q rank ⌝ }
 {
-    if q.mark == 2 {
+    if q.mark == UNTOUCHED_MARK {
         return 1;
     }
     rank
 }
 
-// What is told of a chain with so many links, in an area of so many words.
+// The reply about a chain with so many links, in an area of so many words.
 fn in_room(room: usize, count: u32) -> Chained
     ensures { λ r. ⌜ r ≡ inRoom room count ⌝ }
 {
-    if room < 2 * count as usize {
+    if room < LINK_WORDS * count as usize {
         return Chained::Refused(Refusal::ChainArea);
     }
     Chained::Shown(Links { count: count })
 }
 
-// What is told of a sequence with this rank, in an area of so many words.
+// The reply about a sequence with this rank, in an area of so many words.
 pub fn told_of(q: Asked, rank: u32, room: usize) -> Chained
     ensures { λ r. ⌜ r ≡ told q rank room ⌝ }
 {
@@ -58,12 +60,12 @@ pub fn told_of(q: Asked, rank: u32, room: usize) -> Chained
     in_room(room, link_count(q, rank))
 }
 
-// How many links are written there: none where that is not told.
+// How many links are written there: none where the reply is another.
 pub fn shown_links(q: Asked, rank: u32, room: usize) -> u32
     ensures { λ r. ⌜ r ≡ shownLinks q rank room ⌝ }
 {
     let count = link_count(q, rank);
-    if (rank < q.none) & (2 * count as usize <= room) {
+    if (rank < q.none) & (LINK_WORDS * count as usize <= room) {
         return count;
     }
     0

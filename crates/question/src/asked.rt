@@ -5,6 +5,15 @@ ghost use mathlib.Core.Path.{_≡_};
 ghost use Prim.Native.Nat.{_≤_, _<_};
 ghost use Rattle.question.specs.Asked.{inRange, outOfRange, questionAsked};
 
+// The last number of a question.
+const LAST_QUESTION: u64 = 5;
+
+// A side has three questions, one a mark. Those of the last side come first.
+const SIDE_QUESTIONS: u64 = 3;
+
+// The mark "untouched".
+pub const UNTOUCHED_MARK: u32 = 2;
+
 // The question: its side, the mark asked for there (0 and 1 for the two touches, 2 for untouched, 3 where only a rank counts), the fact, and what stands for "no rank".
 pub struct Asked {
     pub first: bool,
@@ -17,7 +26,7 @@ pub struct Asked {
 pub fn in_range(h: Head, sequence: u64, question: u64, fact: u64) -> bool
     ensures { λ r. ⌜ r ≡ inRange h sequence question fact ⌝ }
 {
-    (sequence < h.sequences as u64) & (question <= 5) & (fact < h.facts as u64)
+    (sequence < h.sequences as u64) & (question <= LAST_QUESTION) & (fact < h.facts as u64)
 }
 
 // The first of 9, 10 and 11 that applies, where one does.
@@ -27,7 +36,7 @@ pub fn out_of_range(h: Head, sequence: u64, question: u64) -> Refusal
     if h.sequences as u64 <= sequence {
         return Refusal::Sequence;
     }
-    if 5 < question {
+    if LAST_QUESTION < question {
         return Refusal::Question;
     }
     Refusal::Fact
@@ -39,8 +48,8 @@ pub fn read_question(h: Head, question: u64, fact: u64) -> Asked
     ensures { λ r. ⌜ r ≡ questionAsked h question fact ⌝ }
 {
     Asked {
-        first: 3 <= question,
-        mark: (question % 3) as u32,
+        first: SIDE_QUESTIONS <= question,
+        mark: (question % SIDE_QUESTIONS) as u32,
         fact: fact as u32,
         none: h.sequences + 2,
     }

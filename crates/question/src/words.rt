@@ -4,6 +4,9 @@ ghost use Prim.Native.Nat.{_+_, _^_, _≤_, _<_};
 ghost use lib.ListN.{length, set};
 ghost use Rattle.chains.specs.Link.{choiceWord};
 
+// How many words a link has.
+pub const LINK_WORDS: usize = 2;
+
 // The first word of a link, which has the sequence from bit 0 on and the alternative from bit 8 on.
 const CHOICE_WORD: u32 = 0xa0000000;
 

@@ -11,6 +11,7 @@ use crate::words::RUN;
 use column::sets::count;
 use column::sets::union;
 use column::sets::without;
+use image::word::MOST_SEQUENCES;
 ghost use mathlib.Core.Path.{_≡_};
 ghost use mathlib.Core.List.{_++_};
 ghost use Prim.Native.Nat.{_*_, _≤_};
@@ -36,7 +37,12 @@ pub const ALWAYS_CLEARED: usize = 6;
 
 pub const CARD_WORDS: usize = 7;
 
-// The number of changeable facts stands in the flags from bit 8 on.
+// The words of all cards, for every image.
+pub const MOST_CARD_WORDS: usize = CARD_WORDS * MOST_SEQUENCES as usize;
+
+// In the flags, "an empty run exists" is bit 1, and the number of changeable facts stands from bit 8 on.
+const EMPTY_FROM: u64 = 0x2;
+
 const COUNT_FROM: u64 = 0x100;
 
 // The flags word: a run exists, an empty run exists, and the number of facts that some run sets or clears last.
@@ -44,7 +50,7 @@ fn flags(run: u64, empty: u64, set: u64, cleared: u64) -> u64
     ensures { λ r. ⌜ r ≡ flagsOf run empty set cleared ⌝ }
 {
     let changeable = count(union(set, cleared));
-    run % 2 + 2 * (empty % 2) + COUNT_FROM * changeable as u64
+    run % 2 + EMPTY_FROM * (empty % 2) + COUNT_FROM * changeable as u64
 }
 
 // An "always" column: a run exists, and neither of the two rival outcomes is possible.

@@ -89,7 +89,7 @@ pub record GoodRow (L : Library) (f c : ℕ) (r : Row) : Type 0 where
   pub live : (s : Side) → some (rowSide s r) (sideAlgebra s .all) ≡ r 0
   pub empty : r 1 ≡ true → r 0 ≡ true
 
--- so of the rows of all sequences
+-- the rows of all sequences are good
 abbrev pub GoodRows : Library → ℕ → (ℕ → Row) → Type 0
 GoodRows L f B = (c : ℕ) → GoodRow L f c (B c)
 

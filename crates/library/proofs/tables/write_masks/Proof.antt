@@ -7,7 +7,7 @@ use mathlib.Core.Path.{_≡_, sym, ap, _∙_, subst}
 use mathlib.Core.List.{_++_}
 use lib.ListN.{drop}
 use Rattle.library.specs.Library.{stepsFrom}
-use Rattle.library.specs.Tables.{masks}
+use Rattle.library.specs.Tables.{maskWords, masks}
 use Rattle.library.proofs.Rows.{back, MasksAt, masks-start, fact-fits, masks-fact, row-room, masks-row, masks-end}
 use Rattle.library.proofs.tables.write_masks.Statement.{statement}
 use Rattle.library.proofs.tables.write_masks.Tie as tie
@@ -95,7 +95,7 @@ returns c =
     let none : c .before .loop .i ≡ 0 = omega arith in
     masks-end (start .args .part .now) (start .args .area .now) (c .before .loop .area) (c .before .loop .m)
     (subst (MasksAt _ _ (c .before .loop .area) (c .before .loop .m)) none (c .before .loop .inv))
-    ∙ ap (λ (n : ℕ). masks (stepsFrom (start .args .part .now)) ++ drop (3 * n) (start .args .area .now)) (start .pre .opened)
+    ∙ ap (λ (n : ℕ). masks (stepsFrom (start .args .part .now)) ++ drop (maskWords * n) (start .args .area .now)) (start .pre .opened)
 
 pub write-masks-spec : {M : Type 1} → statement M
 write-masks-spec =

@@ -52,8 +52,8 @@ passes-requires c κs =
     rw (c .before .before .word-at .ensures)
     (at-loop .before .before .before .pre .0 .within (at-loop .loop .i) (folding-inside (at-loop .loop .inv) (entry c)), entry c)
 
-kept-index-requires : tie.Need-kept-index-requires Inv-loop μ-loop
-kept-index-requires c κs = search needs
+selected-index-requires : tie.Need-selected-index-requires Inv-loop μ-loop
+selected-index-requires c κs = search needs
 
 loop-less : tie.Need-loop-less Inv-loop μ-loop
 loop-less c = let test = c .before .before in omega (arith, folding-inside (test .before .before .before .loop .inv) (entry test))
@@ -64,7 +64,7 @@ loop-again c =
     let word = passed .before .before .before in
     let a = word .before .before .before .before .args in
     let pass : ℕ → Bool = λ w. passIn (a .none) (a .behind .now) (entryOf w) in
-    rw (c .kept-index .ensures)
+    rw (c .selected-index .ensures)
     (folding-turn (word .before .loop .inv) (entry (passed .before))
     (tail-cons _ _ _ _ _ _ (tested pass (word .word-at .ensures) (passed .passes .ensures) refl)))
 
@@ -80,6 +80,6 @@ quiet-from-spec =
     returns
     add-i
     passes-requires
-    kept-index-requires
+    selected-index-requires
     loop-less
     loop-again)

@@ -19,6 +19,7 @@ use Rattle.outcome.proofs.pass.settle.Reads as settle-reads
 use Rattle.outcome.proofs.steps.write_step_rows.Reads as write-step-rows-reads
 use Rattle.row.proofs.words.all_facts.Reads as all-facts-reads
 use Rattle.tables.proofs.prepare.prepare.Reads as prepare-reads
+use Rattle.row.specs.Words.{rowWords}
 
 cast-n : tie.Need-cast-n
 cast-n c = search needs
@@ -93,7 +94,7 @@ returns c =
     let part = made .before .before .before .before .before in
     let facts = part .before in
     let start = facts .before .before .before .before .before .before .before .before .before in
-    ap (λ (t : List ℕ). t ++ drop (8 * start .args .h .sequences) (start .args .table .now))
+    ap (λ (t : List ℕ). t ++ drop (rowWords * start .args .h .sequences) (start .args .table .now))
     (outcomes-done (start .pre) (part .sequences-part .ensures) (made .prepare .ensures) (omega (arith, made .prepare .kept)) (omega (arith, made .prepare .kept)) (facts .all-facts .ensures)
     (rows .write-step-rows .ensures) (omega (arith, rows .write-step-rows .kept)) _ (settled .settle .ensures))
 
