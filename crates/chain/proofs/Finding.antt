@@ -60,6 +60,7 @@ areas-asked h q none steps sequences a c =
       masks-room = omega (arith, length-replicate {A = ℕ} (3 * steps) 0);
       masks-blank = blank-zeros (3 * steps);
       callers-room = omega (arith, length-replicate {A = ℕ} (4 * sequences) 0);
+      callers-blank = blank-zeros (4 * sequences);
       ahead-asked = ranks;
       behind-asked = ranks;
       links-asked = ranks;
@@ -90,6 +91,7 @@ tables-asked {h} {image} asked areas =
       masks-room = areas .masks-room;
       places-room = few-sequences image h (asked .accepted);
       callers-room = areas .callers-room;
+      callers-blank = areas .callers-blank;
       order-room = few-sequences image h (asked .accepted);
     }
 

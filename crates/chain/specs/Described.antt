@@ -95,6 +95,7 @@ pub record AreasAsked (h : Head) (q : Asked) (masks callers ahead behind links :
   pub masks-room : 3 * h .steps ≤ length masks
   pub masks-blank : Blank masks
   pub callers-room : 4 * h .sequences ≤ length callers
+  pub callers-blank : Blank callers
   pub ahead-asked : RanksAsked h q ahead
   pub behind-asked : RanksAsked h q behind
   pub links-asked : RanksAsked h q links

@@ -6,14 +6,14 @@ use native.Mathlib.Decide.{ℕ-discrete}
 use mathlib.Core.Path.{_≡_, refl, sym, ap, ap₂, _∙_, subst}
 use mathlib.Core.Bool.{true, false, false≢true}
 use mathlib.Core.List.{List, [], _∷_}
-use lib.ListN.{length, getD, drop}
+use lib.ListN.{length}
 use Rattle.row.specs.Words.{noRow, startRow, orRows, joinRows, liveRow, rowIn, withRow}
-use Rattle.library.specs.Library.{Entry, Alternative, alternativesFrom}
+use Rattle.library.specs.Library.{Entry, Alternative}
 use Rattle.library.specs.Walk.{alternativesAt}
 use Rattle.general.specs.Tests.{All}
 use Rattle.outcome.specs.Walks.{entryIn, joinedFrom, alternativeIn, unitedFrom}
 use Rattle.outcome.specs.Visited.{visitedRow, visited}
-use Rattle.settling.specs.Stale.{callsIn, calls}
+use Rattle.settling.specs.Stale.{calls}
 use Rattle.row.specs.declared.words.Row.{Row}
 use Rattle.outcome.proofs.Stores.{rows-again, row-same, row-other, row-again}
 use Rattle.settling.proofs.Calls.{calls-all}
@@ -39,10 +39,6 @@ module _ (all : ℕ) (steps t t′ : List ℕ) where
       ap (λ (r : Row). unitedFrom all steps t (orRows X (liveRow r)) alts) (joined-local (startRow all) es (a .0))
       ∙ united-local (orRows X (alternativeIn all steps t′ es)) alts (a .1)
 
-  sequence-local : (X : Row) (ws : List ℕ) → ((d : ℕ) → callsIn d ws ≡ true → rowIn t d ≡ rowIn t′ d)
-      → unitedFrom all steps t X (alternativesFrom ws) ≡ unitedFrom all steps t′ X (alternativesFrom ws)
-  sequence-local X ws same = united-local X (alternativesFrom ws) (calls-all Same (λ a. refl) ws same)
-
 -- ---- a visit depends on those that are called
 
 module _ (all : ℕ) (steps part places : List ℕ) where
@@ -53,8 +49,9 @@ module _ (all : ℕ) (steps part places : List ℕ) where
   given-stays : (t : List ℕ) (c d : ℕ) (r : Row) → calls part places d c ≡ false → given (withRow t c r) d ≡ given t d
   unfolding given
   given-stays t c d r apart =
-      sequence-local all steps (withRow t c r) t noRow (drop (getD places d 0 + 1) part)
-      (λ e called. row-other t c r e (λ same. false≢true (sym apart ∙ subst (λ (k : ℕ). calls part places d k ≡ true) same called)))
+      united-local all steps (withRow t c r) t noRow (alternativesAt part places d)
+      (calls-all (Same all steps (withRow t c r) t) (λ a. refl) (alternativesAt part places d)
+      (λ e called. row-other t c r e (λ same. false≢true (sym apart ∙ subst (λ (k : ℕ). calls part places d k ≡ true) same called))))
 
   -- a visit that would write the row that stands there
   visit-still : (t : List ℕ) (d : ℕ) → visitedRow all steps part places t d ≡ rowIn t d → visited all steps part places t d ≡ t

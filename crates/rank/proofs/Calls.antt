@@ -1,13 +1,13 @@
 -- Ranks by stale sequences: a sequence's rank depends on those that it calls and on no other.
 -- Assumes nothing.
-use Prim.Native.Nat.{ℕ, suc, _+_, _≤_, _<_, min, max}
+use Prim.Native.Nat.{ℕ, suc, _≤_, _<_, min, max}
 use native.Mathlib.Omega.{arith}
 use native.Mathlib.Decide.{ℕ-discrete}
 use mathlib.Core.Path.{_≡_, refl, sym, ap, ap₂, _∙_, subst}
 use mathlib.Core.Bool.{Bool, true, false, cond, _&&_, false≢true}
 use mathlib.Core.List.{List, [], _∷_}
 use lib.Dec.{eqb, ltb}
-use lib.ListN.{length, getD, set, take, drop}
+use lib.ListN.{length, getD, set, take}
 use lib.Seq.{set-getD, take-set-lt, drop-set-lt, getD-set-same, getD-set-other}
 use Rattle.library.specs.Library.{Entry, Alternative}
 use Rattle.library.specs.Walk.{alternativesAt}
@@ -105,7 +105,7 @@ module _ (q : Asked) (ahead behind part places : List ℕ) where
       (looks-local q ahead behind (set T c s) T (alternativesAt part places d)
       (calls-all (Same q ahead behind (set T c s) T)
       (λ a past. ap (λ (D : List ℕ). getD D a past) (drop-set-lt (q .none) T c s low))
-      (drop (getD places d 0 + 1) part)
+      (alternativesAt part places d)
       (λ e called past.
       ap (λ (D : List ℕ). getD D e (q .none)) (take-set-lt (q .none) T c s low)
       ∙ getD-set-other (take (q .none) T) c e s (q .none)

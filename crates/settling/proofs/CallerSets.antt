@@ -3,17 +3,16 @@
 -- Assumes nothing.
 use Prim.Native.Nat.{ℕ, zero, suc, _+_, _-_, _*_, _/_, _%_, _^_, _≤_, _<_}
 use native.Mathlib.Omega.{arith}
-use native.Mathlib.Numerals.{add-one}
 use native.Mathlib.Nat.{add-zero}
 use native.Mathlib.Decide.{ℕ-discrete, decLt}
-use mathlib.Core.Path.{_≡_, refl, sym, ap, ap₂, _∙_, subst}
-use mathlib.Core.Bool.{Bool, true, false, cond, _&&_, _||_, false≢true, true≢false}
+use mathlib.Core.Path.{_≡_, refl, sym, ap, ap₂, _∙_}
+use mathlib.Core.Bool.{Bool, true, false, cond, _&&_, _||_, false≢true}
 use mathlib.Core.List.{List, [], _∷_}
 use lib.Bits.{bitOr, or-zero-l}
 use lib.Dec.{eqb, ltb}
 use lib.ListN.{length, getD, set, drop, List·getD-eq-default}
 use lib.Pow.{pow-lt}
-use lib.Seq.{drop-cons, getD-set-same, getD-set-other}
+use lib.Seq.{getD-set-same, getD-set-other}
 use mir.Val.{boolByte}
 use borrow.Author.Tests.{eqb-true, eqb-false, eq-eqb, ne-eqb, lt-ltb, le-ltb}
 use Rattle.image.specs.Word.{kind, payload, isKind, isEntry}
@@ -80,11 +79,6 @@ without-same a f low =
     let gone : bit (difference 64 a (2 ^ f)) f ≡ 0 =
     omega (arith, bit-and a (2 ^ 64 - 1 - 2 ^ f) f, bit-not 64 (2 ^ f) f small low, bit-pow f f, ap boolByte (eq-eqb f f refl), bit-le a f) in
     ap (λ (b : ℕ). eqb b 1) (ap (λ (b : ℕ). bit (difference 64 a b) f) one ∙ gone)
-
--- tests against each other
-pub back : (a b : Bool) → (a ≡ true → b ≡ true) → b ≡ false → a ≡ false
-back true b there e = absurd (false≢true (sym e ∙ there refl))
-back false b there e = refl
 
 -- ---- the stale sequences
 

@@ -2,13 +2,13 @@
 -- from an index of the words on.
 -- Assumes nothing.
 use Prim.Native.Nat.{ℕ, _+_}
-use mathlib.Core.Path.{_≡_, refl, sym, ap, ap₂, _∙_}
-use mathlib.Core.Bool.{Bool, true, false, cond, _||_, false≢true}
+use mathlib.Core.Path.{_≡_, refl, sym, ap₂, _∙_}
+use mathlib.Core.Bool.{Bool, true, false, _||_, false≢true}
 use mathlib.Core.List.{List, [], _∷_}
 use lib.Dec.{eqb}
 use lib.ListN.{getD, drop}
 use borrow.Author.Tests.{eq-eqb}
-use Rattle.image.specs.Word.{payload, isKind, isEntry}
+use Rattle.image.specs.Word.{isKind, isEntry}
 use Rattle.library.specs.Library.{Entry, step, item, call, Alternative, entriesFrom, alternativesFrom}
 use Rattle.library.specs.Walk.{entryOf}
 use Rattle.library.proofs.Decode.{entry-opens-none}

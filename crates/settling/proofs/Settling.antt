@@ -13,12 +13,12 @@ use mathlib.Core.List.{List}
 use lib.ListN.{length, getD}
 use Rattle.general.proofs.Scan.{countPassing, count-all, count-more}
 use Rattle.settling.specs.Passes.{Reached, Visit, Settles, Complete, placeOf}
-use Rattle.settling.specs.Stale.{Fresh, isStale, isCaller, Removed, United}
+use Rattle.settling.specs.Stale.{Fresh, isStale, isCaller, calls, Removed, United, Scheduled}
 use Rattle.settling.specs.Turns.{numberAt, toVisit, Passed, StalePlace, TurnAt, NextTurn, StaleAfter}
 use Rattle.settling.specs.declared.turns.Turn.{Turn}
 use Rattle.settling.proofs.Visits.{place-back, reached-visit}
 use Rattle.settling.proofs.Stale.{Local, fresh-turn}
-use Rattle.settling.proofs.CallerSets.{back, united-out}
+use Rattle.settling.proofs.CallerSets.{united-out}
 
 -- ---- the next turn
 
@@ -86,6 +86,13 @@ load weight t stale = 257 * weight t + countPassing (isStale stale) 256
 pub settling-end : {visit : List ℕ → ℕ → List ℕ} {n : ℕ} (t₀ t stale : List ℕ) (turn : Turn) → n ≤ turn .number → Settling visit n t₀ t stale turn → Settles visit n t₀ t
 settling-end t₀ t stale turn high p = record { reached = p .reached; settled = λ c l. p .fresh c l (p .next .none high c l) }
 
+-- the sets of callers say which sequences below n call which
+caller-is : {n : ℕ} {part places callers order : List ℕ} → Scheduled n part places callers order → (c d : ℕ) → c < n → d < n
+    → isCaller callers d c ≡ calls part places c d
+caller-is {n} {part} {places} by c d l m =
+    by .written d c (omega (arith, by .few)) (omega (arith, by .room))
+    ∙ ap (λ (b : Bool). b && calls part places c d) (lt-ltb c n l)
+
 module _ {visit : List ℕ → ℕ → List ℕ} {weight : List ℕ → ℕ} {n : ℕ} where
   pub settling-less : (t₀ t stale : List ℕ) (turn : Turn) (callers t′ stale′ : List ℕ) (changed : Bool) → n ≤ 256 → turn .number < n
       → Settling visit n t₀ t stale turn → Visit visit weight t (turn .number) t′ changed → StaleAfter callers (turn .number) stale stale′ changed
@@ -103,22 +110,22 @@ module _ {visit : List ℕ → ℕ → List ℕ} {weight : List ℕ → ℕ} {n 
       256 c (omega arith) (out .out) (p .next .chosen low) in
       omega (arith, ap weight (v .stays refl))
 
-  -- `calls c d` says that a visit of c looks at d, and the sets of callers have it
-  module _ {room : ℕ} {calls : ℕ → ℕ → Bool} (callers : List ℕ) (local : Local visit calls n room)
-      (written : (c d : ℕ) → c < n → d < n → calls c d ≡ true → isCaller callers d c ≡ true) where
-    pub settling-turn : (t₀ t stale : List ℕ) (turn : Turn) (t′ stale′ : List ℕ) (changed : Bool) (turn′ : Turn) → n ≤ 256 → room ≤ length t
+  -- a visit of a sequence looks at those that it calls
+  module _ {room : ℕ} {part places callers order : List ℕ} (local : Local visit (calls part places) n room) (by : Scheduled n part places callers order) where
+    pub settling-turn : (t₀ t stale : List ℕ) (turn : Turn) (t′ stale′ : List ℕ) (changed : Bool) (turn′ : Turn) → room ≤ length t
         → turn .number < n → Settling visit n t₀ t stale turn → Visit visit weight t (turn .number) t′ changed
         → StaleAfter callers (turn .number) stale stale′ changed → length stale′ ≡ length stale → NextTurn n stale′ turn′
         → Settling visit n t₀ t′ stale′ turn′
-    settling-turn t₀ t stale turn t′ stale′ changed turn′ few long low p v after same next =
+    settling-turn t₀ t stale turn t′ stale′ changed turn′ long low p v after same next =
         let c = turn .number in
+        let few = by .few in
         record {
           reached = reached-visit t c t′ changed low (p .reached) v;
           fresh =
               fresh-turn local t c t′ changed (isStale stale) (isStale stale′) long low (p .fresh) v
               (λ d l e. (
                 after .others d (omega arith) e,
-                λ q. back (calls d c) (isCaller callers c d) (written d c l low) (after .called q d (omega arith) e),
+                λ q. sym (caller-is by d c l low) ∙ after .called q d (omega arith) e,
               ));
           four = same ∙ p .four;
           next = next;

@@ -19,7 +19,8 @@ use Rattle.library.specs.Tables.{StepsAsked, SequencesAsked, maskOf, masks, pla
 use Rattle.library.proofs.Accepted.{faultless, parts, library-is}
 use Rattle.library.proofs.Lookup.{noFacts, words-at, Placed, place-at, places-length}
 use Rattle.settling.specs.Passes.{Blank, Complete}
-use Rattle.settling.specs.Stale.{CallersWritten, Scheduled}
+use Rattle.settling.specs.Stale.{CallersAsked, CallersWritten, Scheduled}
+use Rattle.settling.proofs.Visits.{blank-zeros}
 use Rattle.tables.specs.Tables.{smallSteps, smallSequences, isSmall, TablesAsked, Prepared}
 
 -- ---- the size of an image
@@ -49,8 +50,23 @@ module _ (image : List ℕ) (h : Head) (accepted : accepts image h) where
         masks-room = omega (arith, length-replicate {A = ℕ} (3 * steps) 0);
         places-room = omega (arith, length-replicate {A = ℕ} sequences 0);
         callers-room = omega (arith, length-replicate {A = ℕ} (4 * sequences) 0);
+        callers-blank = blank-zeros (4 * sequences);
         order-room = omega (arith, length-replicate {A = ℕ} sequences 0);
       }
+
+-- ---- the places
+
+module _ (image : List ℕ) (h : Head) (accepted : accepts image h) {part : List ℕ} (sequences : part ≡ sequencesPart image) where
+  opened-is : opened 6 part ≡ h .sequences
+  opened-is = ap (opened 6) sequences ∙ parts image h accepted .sequences-opened
+
+  -- the place of sequence c, whatever stands after the places
+  place-in : (rest : List ℕ) {ps : List ℕ} → ps ≡ placesFrom 0 part ++ rest → (c : ℕ) → c < h .sequences → Placed part c (getD ps c 0)
+  place-in rest {ps} placed c l =
+      let count = opened-is in
+      let word : getD ps c 0 ≡ getD (placesFrom 0 part) c 0 =
+      ap (λ (x : List ℕ). getD x c 0) placed ∙ List·getD-append (placesFrom 0 part) rest 0 c (omega (arith, places-length 0 part)) in
+      subst (Placed part c) (sym word) (place-at part c (omega arith))
 
 -- ---- what the makers ask, and what they have made
 
@@ -72,6 +88,16 @@ module _ {h : Head} {image ms₀ ps₀ callers₀ order₀ : List ℕ} (asked : 
       let p = parts image h (asked .accepted) in
       subst (λ (x : List ℕ). SequencesAsked h x ps₀) (sym e)
       (record { short = p .sequences-short; numbered = p .sequences-numbered; opened = p .sequences-opened; room = asked .places-room })
+
+  pub callers-asked : {part ps : List ℕ} → part ≡ sequencesPart image → ps ≡ placesFrom 0 part ++ drop (h .sequences) ps₀ → length ps ≡ length ps₀
+      → CallersAsked (h .sequences) part ps callers₀
+  callers-asked e placed long =
+      record {
+        few = few-sequences image h (asked .accepted);
+        placed = omega (arith, asked .places-room);
+        within = λ c l. place-in image h (asked .accepted) e (drop (h .sequences) ps₀) placed c l .within;
+        blank = asked .callers-blank;
+      }
 
   pub prepared : {first part ms ps callers order : List ℕ} → first ≡ stepsPart image → part ≡ sequencesPart image
       → ms ≡ masks (stepsFrom first) ++ drop (3 * h .steps) ms₀ → ps ≡ placesFrom 0 part ++ drop (h .sequences) ps₀
@@ -109,9 +135,6 @@ module _ {h : Head} {image ms₀ ps₀ ms ps callers order : List ℕ} (accepted
       (word (3 * a) ∙ words .0, word (3 * a + 1) ∙ words .1, word (3 * a + 2) ∙ words .2)
 
   module _ {part : List ℕ} (sequences : part ≡ sequencesPart image) where
-    opened-is : opened 6 part ≡ h .sequences
-    opened-is = ap (opened 6) sequences ∙ parts image h accepted .sequences-opened
-
     -- the library's sequences stand in the part
     pub sequences-are : libraryOf image .sequences ≡ sequencesFrom part
     sequences-are = ap (λ (L : Library). L .sequences) (library-is image h accepted) ∙ ap sequencesFrom (sym sequences)
@@ -121,12 +144,7 @@ module _ {h : Head} {image ms₀ ps₀ ms ps callers order : List ℕ} (accepted
 
     -- the place of sequence c
     pub place-is : (c : ℕ) → c < h .sequences → Placed part c (getD ps c 0)
-    place-is c l =
-        let count = opened-is in
-        let word : getD ps c 0 ≡ getD (placesFrom 0 part) c 0 =
-        ap (λ (x : List ℕ). getD x c 0) places-are
-        ∙ List·getD-append (placesFrom 0 part) (drop (h .sequences) ps₀) 0 c (omega (arith, places-length 0 part)) in
-        subst (Placed part c) (sym word) (place-at part c (omega arith))
+    place-is = place-in image h accepted sequences (drop (h .sequences) ps₀) places-are
 
     -- by a blank area no place is past the part, whatever its index
     pub place-within : Blank ps₀ → 0 < h .sequences → (c : ℕ) → getD ps c 0 < length part
@@ -134,7 +152,7 @@ module _ {h : Head} {image ms₀ ps₀ ms ps callers order : List ℕ} (accepted
         elim (decLt c (h .sequences)) [
           | yes l ↦ place-is c l .within
           | no l ↦
-              let count = opened-is in
+              let count = opened-is image h accepted sequences in
               let word : getD ps c 0 ≡ 0 =
               ap (λ (x : List ℕ). getD x c 0) places-are ∙ past-blank (placesFrom 0 part) _ (blank-drop (h .sequences) ps₀ blank) c
               ∙ List·getD-eq-default (placesFrom 0 part) 0 {n = c} (omega (arith, places-length 0 part)) in

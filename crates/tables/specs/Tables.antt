@@ -8,7 +8,7 @@ use lib.Dec.{leb}
 use Rattle.reader.specs.Checked.{accepts}
 use Rattle.library.specs.Library.{libraryOf, sequencesPart}
 use Rattle.library.specs.Tables.{masks, placesFrom}
-use Rattle.settling.specs.Passes.{Complete}
+use Rattle.settling.specs.Passes.{Blank, Complete}
 use Rattle.settling.specs.Stale.{CallersWritten}
 use Rattle.image.specs.declared.answer.Head.{Head}
 
@@ -24,16 +24,17 @@ abbrev pub isSmall : Head → Bool
 isSmall h = leb (h .steps) smallSteps && leb (h .sequences) smallSequences
 
 -- what is asked: an accepted image, and room for three masks a step, a place of each sequence, four words a sequence for its callers, and a
--- number of each sequence
+-- number of each sequence. The sets of callers are blank
 pub record TablesAsked (h : Head) (image ms ps callers order : List ℕ) : Type 0 where
   pub accepted : accepts image h
   pub masks-room : 3 * h .steps ≤ length ms
   pub places-room : h .sequences ≤ length ps
   pub callers-room : 4 * h .sequences ≤ length callers
+  pub callers-blank : Blank callers
   pub order-room : h .sequences ≤ length order
 
 -- what is written, from the areas before on: the masks are those of the library's steps and the places those of its sequences, and words past
--- them stay; each sequence is among the callers of those that it calls; the order names each sequence
+-- them stay; each sequence is among the callers of those that it calls, and of no other; the order names each sequence
 pub record Prepared (h : Head) (image ms₀ ps₀ ms ps callers order : List ℕ) : Type 0 where
   pub masked : ms ≡ masks (libraryOf image .steps) ++ drop (3 * h .steps) ms₀
   pub placed : ps ≡ placesFrom 0 (sequencesPart image) ++ drop (h .sequences) ps₀

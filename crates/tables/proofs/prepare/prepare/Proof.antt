@@ -4,7 +4,7 @@ use borrow.Author.Needs.{needs}
 use native.Mathlib.Omega.{arith}
 use mathlib.Core.Path.{ap}
 use lib.ListN.{length}
-use Rattle.tables.proofs.Tables.{image-long, few-sequences, steps-asked, sequences-asked, prepared}
+use Rattle.tables.proofs.Tables.{image-long, few-sequences, steps-asked, sequences-asked, callers-asked, prepared}
 use Rattle.tables.proofs.prepare.prepare.Statement.{statement}
 use Rattle.tables.proofs.prepare.prepare.Tie as tie
 use Rattle.tables.proofs.prepare.prepare.Reads as reads
@@ -35,8 +35,9 @@ write-places-requires c κs = sequences-asked (c .before .before .before .before
 
 write-callers-requires : tie.Need-write-callers-requires
 write-callers-requires c κs =
-    let start = c .before .before .before .before .before .before .before .before .before .before .before .before .before .before .before .before .before .before in
-    (omega (arith, few-sequences (start .args .image .now) (start .args .h) (start .pre .accepted)), omega (arith, c .before .before .before .before .write-places .kept, start .pre .places-room))
+    let placed = c .before .before .before .before in
+    let part = placed .before .before .before .before .before .before .before in
+    callers-asked (part .before .before .before .before .before .before .before .pre) (part .sequences-part .ensures) (placed .write-places .ensures) (omega (arith, placed .write-places .kept))
 
 visiting-order-requires : tie.Need-visiting-order-requires
 visiting-order-requires c κs = let start = c .before .before .before .before .before .before .before .before .before .before .before .before .before .before .before .before .before .before .before .before .before .before .before in (few-sequences (start .args .image .now) (start .args .h) (start .pre .accepted), start .pre .order-room)
