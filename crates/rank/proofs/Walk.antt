@@ -157,7 +157,7 @@ module _ (none : ℕ) (test : Item → Bool) (ahead behind : Entry → Bool) (T 
   unfolding linkLook
   look-none es = least-start (value es) none (length es)
 
-  -- so from left to right
+  -- from left to right
   look-min : (ok : Bool) (best : ℕ) (es : List Entry) → best ≤ none → fewestFrom none rank ahead behind ok best es
       ≡ min (cond (every behind es) best none) (cond ok (linkLook none test ahead behind T es) none)
   unfolding fewestFrom every
