@@ -23,15 +23,15 @@
  *
  * Tried: the engine was broken on a copy, compiled without its proofs and
  * linked with this test. Each break was reported, first by the words after it.
- *   runs, an alternative counts where one of two entries has a run
+ *   row, an alternative counts where one of two entries has a run
  *     (`x.run | y.run`): word 1 of a card, 1 for 0
- *   runs, a touch counts though a later entry always touches
+ *   row, a touch counts though a later entry always touches
  *     (`x.present & x.present`): word 3 of a card, 6 for 2
  *   outcome, callers are stale where a visit changed nothing, and not where it
  *     did (`if !changed`): word 1 of a card, 1 for 101
- *   card_words, a run may leave an always set fact untouched
+ *   row, a run may leave an always set fact untouched
  *     (`union(rival, rival)`): word 2 of a card, 1 for 0
- *   card_words, a card too many is written (`c <= n`): word 1 of a card past
+ *   row, a card too many is written (`c <= n`): word 1 of a card past
  *     the last
  *   link, a link with one link more after it is taken (`t.rank <= k + 1`): a
  *     link's entry is no step with the touch, or no sequence
@@ -43,16 +43,17 @@
  *     (`passes(none, ahead, w)`): none, and a run has the outcome
  *   rank, entries ahead of the position may touch (`ok = ok`): a chain, and no
  *     run has the outcome
- *   chain_words, one word more is written: words past the chain are changed
+ *   question, one word more is written: words past the chain are changed
  *   outcome, a visit always says that it changed the table, and rank, that it
  *     lowered a rank: the time limit is over, and no answer from
  *     dulimoven_cards, and from dulimoven_chain
- * And the must-fail edits of the crates that change the code of the three
- * calls, 46 of them: all are reported but three. What shows in no answer and no
- * area is not: bits from F upward in the outcome table (runs/bits_above), an
- * order of visits that is never asked for (visits/one_number). Nor is the order
- * of refusals 10 and 11 (chain_words/eleven_before_ten), since all questions
- * here are in range; chain_test has it.
+ * And the must-fail edits of the crates that changed the code of the three
+ * calls when this was tried, 46 of them: all are reported but three. What shows
+ * in no answer and no area is not: bits from F upward in the outcome table
+ * (row/bits_above), an order of visits that is never asked for
+ * (settling/one_number). Nor is the order of refusals 10 and 11
+ * (question/eleven_before_ten), since all questions here are in range;
+ * chain_test has it.
  *
  * C11 and C++17. Prints a line for each of the first dozen differences, the
  * counts of each kind, and last the total with its differences; the exit status
