@@ -10,7 +10,7 @@ use mathlib.Core.Logic.{by-cases}
 use mathlib.Core.List.{List}
 use lib.ListN.{length, getD, drop, take, replicate, length-replicate}
 use lib.Seq.{take-append-seam, ext-getD}
-use Rattle.reader.specs.Checked.{checked}
+use Rattle.rules.specs.Checked.{checked}
 use Rattle.library.specs.Library.{libraryOf}
 use Rattle.image.specs.declared.answer.Head.{Head}
 use Rattle.image.specs.declared.answer.Checked.{Checked}

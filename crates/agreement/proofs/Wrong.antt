@@ -12,7 +12,7 @@ use Rattle.column.specs.Column.{bit}
 use Rattle.column.specs.Sets.{inColumn, countBelow}
 use Rattle.column.proofs.Bits.{bit-zero, bit-none}
 use Rattle.image.specs.Answer.{checkedAnswer}
-use Rattle.reader.specs.Checked.{scan, checked}
+use Rattle.rules.specs.Checked.{scan, checked}
 use Rattle.library.specs.Library.{Library, has, libraryOf}
 use Rattle.rules.specs.Rules.{opened, lastOf}
 use Rattle.image.specs.Word.{total}

@@ -9,7 +9,7 @@ use lib.ListN.{length, drop}
 use lib.Dec.{ltb}
 use borrow.Author.Tests.{lt-ltb, le-ltb, ltb-false}
 use Rattle.library.specs.Library.{libraryOf}
-use Rattle.reader.specs.Checked.{checked}
+use Rattle.rules.specs.Checked.{checked}
 use Rattle.library.specs.Accepted.{Counted, Faultless}
 use Rattle.image.specs.declared.answer.Head.{Head}
 use Rattle.image.specs.declared.answer.Refusal.{Refusal}
@@ -21,24 +21,24 @@ use Rattle.cards.specs.Layout.{cardWords}
 use Rattle.cards.specs.Card.{cards}
 use Rattle.row.specs.Words.{rowWords}
 use Rattle.row.specs.Card.{tableCards}
-use Rattle.card.specs.Answer.{cardsGiven, cardsOf, areaWith, Called}
+use Rattle.card.specs.Answer.{cardsGiven, cardsOf, areaWith, CardsCalled}
 use Rattle.card.specs.declared.answer.Cards.{Cards}
 use Rattle.card.proofs.Table.{table-cards}
 
 -- an answer, and the area that goes with it
 called : (image area : List ℕ) (found : Checked) (answer : Cards) (after : List ℕ) → checked image ≡ found
-    → cardsGiven found (length area) ≡ answer → after ≡ areaWith answer image area → Called image area answer after
+    → cardsGiven found (length area) ≡ answer → after ≡ areaWith answer image area → CardsCalled image area answer after
 called image area found answer after e a w =
     let same : cardsOf image area ≡ answer = ap (λ (f : Checked). cardsGiven f (length area)) e ∙ a in
     record { answer = sym same; area = w ∙ ap (λ (c : Cards). areaWith c image area) (sym same) }
 
 -- 1 to 7
-pub call-refused : (image area : List ℕ) (r : Refusal) → checked image ≡ Checked.Refused r → Called image area (Cards.Refused r) area
+pub call-refused : (image area : List ℕ) (r : Refusal) → checked image ≡ Checked.Refused r → CardsCalled image area (Cards.Refused r) area
 call-refused image area r e = called image area (Checked.Refused r) (Cards.Refused r) area e refl refl
 
 module _ (image area : List ℕ) (h : Head) (accepted : checked image ≡ Checked.Accepted h) where
   -- 8
-  pub call-short : length area < cardWords * h .sequences → Called image area (Cards.Refused CardArea) area
+  pub call-short : length area < cardWords * h .sequences → CardsCalled image area (Cards.Refused CardArea) area
   call-short l =
       called image area (Checked.Accepted h) (Cards.Refused CardArea) area accepted
       (ap (λ (b : Bool). cond b (Cards.Refused CardArea) (Cards.Filled (h .sequences))) (lt-ltb (length area) (cardWords * h .sequences) l)) refl
@@ -57,7 +57,7 @@ module _ (image area : List ℕ) (h : Head) (accepted : checked image ≡ Checke
       w ∙ ap (λ (x : List ℕ). x ++ drop (cardWords * h .sequences) area) written
 
   pub call-filled : cardWords * h .sequences ≤ length area → (after : List ℕ) → after ≡ cards (libraryOf image) ++ drop (cardWords * h .sequences) area
-      → Called image area (Cards.Filled (h .sequences)) after
+      → CardsCalled image area (Cards.Filled (h .sequences)) after
   call-filled l after w =
       called image area (Checked.Accepted h) (Cards.Filled (h .sequences)) after accepted
       (ap (λ (b : Bool). cond b (Cards.Refused CardArea) (Cards.Filled (h .sequences))) (le-ltb (length area) (cardWords * h .sequences) l)) w

@@ -7,7 +7,7 @@ use mathlib.Core.List.{List, _++_}
 use lib.ListN.{length, drop}
 use lib.Dec.{ltb}
 use Rattle.image.specs.Answer.{refusalAnswer}
-use Rattle.reader.specs.Checked.{checked, accepts}
+use Rattle.rules.specs.Checked.{checked, accepts}
 use Rattle.library.specs.Library.{libraryOf}
 use Rattle.image.specs.declared.answer.Head.{Head}
 use Rattle.image.specs.declared.answer.Refusal.the-variants.{CardArea}
@@ -41,7 +41,7 @@ cardsAnswer (Cards.Filled n) = n
 cardsAnswer (Cards.Refused r) = refusalAnswer r
 
 -- what the card call does: its answer, and the area after it
-pub record Called (image before : List ℕ) (found : Cards) (after : List ℕ) : Type 0 where
+pub record CardsCalled (image before : List ℕ) (found : Cards) (after : List ℕ) : Type 0 where
   pub answer : found ≡ cardsOf image before
   pub area : after ≡ cardArea image before
 

@@ -26,9 +26,9 @@ ghost use lib.ListN.{drop};
 ghost use Rattle.library.specs.Library.{libraryOf};
 ghost use Rattle.cards.specs.Layout.{cardWords};
 ghost use Rattle.cards.specs.Card.{cards};
-ghost use Rattle.reader.specs.Checked.{accepts};
+ghost use Rattle.rules.specs.Checked.{accepts};
 ghost use Rattle.tables.specs.Tables.{isSmall};
-ghost use Rattle.card.specs.Answer.{Called, FillAsked};
+ghost use Rattle.card.specs.Answer.{CardsCalled, FillAsked};
 
 // Fills the cards of an accepted image by way of its outcome table, in small areas that have the room.
 fn fill_small(h: Head, image: &[u32], area: &mut [u64])
@@ -81,7 +81,7 @@ fn fill_large(h: Head, image: &[u32], area: &mut [u64])
 // Fills the cards of an accepted image, where the area has room for them: nothing is written before that is known.
 fn fill(h: Head, image: &[u32], area: &mut [u64]) -> Cards
     requires { ⌜ accepts (now image) h ⌝ }
-    ensures { λ r. ⌜ Called (now (image .entry)) (now (area .entry)) r (now (area .exit)) ⌝ }
+    ensures { λ r. ⌜ CardsCalled (now (image .entry)) (now (area .entry)) r (now (area .exit)) ⌝ }
 {
     if area.len() < CARD_WORDS * h.sequences as usize {
         return Cards::Refused(Refusal::CardArea);
@@ -96,7 +96,7 @@ fn fill(h: Head, image: &[u32], area: &mut [u64]) -> Cards
 
 // The card call: what it answers, and the words of the area after it, for every image and every area.
 pub fn cards(image: &[u32], area: &mut [u64]) -> Cards
-    ensures { λ r. ⌜ Called (now (image .entry)) (now (area .entry)) r (now (area .exit)) ⌝ }
+    ensures { λ r. ⌜ CardsCalled (now (image .entry)) (now (area .entry)) r (now (area .exit)) ⌝ }
 {
     match check(image) {
         Checked::Refused(r) => Cards::Refused(r),

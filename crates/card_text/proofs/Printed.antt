@@ -9,7 +9,7 @@ use lib.ListN.{length, take, drop, length-drop}
 use lib.Seq.{take-at, take-append-le, drop-append-le}
 use lib.Dec.{eqb}
 use borrow.Author.Tests.{le-ltb, le-leb, lt-leb, eq-eqb, ne-eqb}
-use Rattle.reader.specs.Checked.{checked}
+use Rattle.rules.specs.Checked.{checked}
 use Rattle.library.specs.Library.{libraryOf}
 use Rattle.library.specs.Accepted.{Counted}
 use Rattle.image.specs.declared.answer.Refusal.the-variants.{CardArea}
@@ -17,7 +17,7 @@ use Rattle.image.specs.declared.answer.Checked.{Checked}
 use Rattle.library.proofs.Accepted.{faultless, counted}
 use Rattle.cards.specs.Layout.{cardWords}
 use Rattle.cards.specs.Card.{cards}
-use Rattle.card.specs.Answer.{cardsGiven, areaWith, Called}
+use Rattle.card.specs.Answer.{cardsGiven, areaWith, CardsCalled}
 use Rattle.card.specs.declared.answer.Cards.{Cards}
 use Rattle.cards.proofs.Area.{length-cards}
 use Rattle.card.proofs.Filled.{filled}
@@ -63,7 +63,7 @@ module _ (image area : List ℕ) (room : 1792 ≤ length area) where
       ap (λ (a : Cards). answerText a (areaWith a image area)) (ap (λ (b : Bool). cond b (Cards.Refused CardArea) (Cards.Filled (h .sequences))) enough)
       ∙ lines-prefix (cards L) (drop (cardWords * h .sequences) area) 0 (h .sequences) (omega (arith, length-cards L, has .sequences))
 
-  module _ (found : Cards) (after : List ℕ) (call : Called image area found after) where
+  module _ (found : Cards) (after : List ℕ) (call : CardsCalled image area found after) where
     pub answer-asked : (text : List ℕ) (at : ℕ) → length after ≡ length area → textBytes ≤ at → at ≤ length text → AnswerAsked text at found after
     answer-asked text at long fits within =
         record {

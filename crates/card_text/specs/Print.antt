@@ -5,7 +5,7 @@ use mathlib.Core.List.{List}
 use lib.ListN.{length}
 use lib.Dec.{leb, eqb}
 use Rattle.image.specs.Answer.{refusalNumber, refusalPosition}
-use Rattle.reader.specs.Checked.{checked}
+use Rattle.rules.specs.Checked.{checked}
 use Rattle.library.specs.Library.{libraryOf}
 use Rattle.image.specs.declared.answer.Checked.{Checked}
 use Rattle.cards.specs.Card.{cards}

@@ -11,7 +11,7 @@ use image::word::MOST_WORDS;
 use row::card::MOST_CARD_WORDS;
 ghost use Prim.Native.Nat.{_≤_};
 ghost use lib.ListN.{length};
-ghost use Rattle.reader.specs.Checked.{checked};
+ghost use Rattle.rules.specs.Checked.{checked};
 ghost use Rattle.card_text.specs.Words.{wordsOf};
 ghost use Rattle.card_text.specs.Text.{InFront};
 ghost use Rattle.card_text.specs.Print.{imageText, printed};

@@ -7,7 +7,7 @@ use native.Mathlib.Omega.{arith}
 use lib.ListN.{length}
 use lib.Dec.{leb, ltb}
 use borrow.Author.Tests.{leb-true, ltb-true}
-use Rattle.reader.specs.Checked.{checked}
+use Rattle.rules.specs.Checked.{checked}
 use Rattle.library.specs.Library.{libraryOf}
 use Rattle.image.specs.declared.answer.Head.{Head}
 use Rattle.image.specs.declared.answer.Refusal.{Refusal}
@@ -17,18 +17,18 @@ use Rattle.image.specs.declared.answer.Checked.the-variants.{Accepted, Refused}
 use Rattle.runs.specs.Touch.{questionOf}
 use Rattle.runs.specs.Touch as touch
 use Rattle.general.proofs.Bools.{and-parts}
-use Rattle.question.specs.Answer.{told}
+use Rattle.question.specs.Answer.{byRank}
 use Rattle.question.specs.Asked.{inRange, outOfRange, questionAsked}
 use Rattle.question.specs.declared.asked.Asked.{Asked}
 use Rattle.chains.specs.Answer.{none, answer}
 use Rattle.chain.specs.Described.{FindAsked, questionBy}
-use Rattle.question.specs.Reply.{Answered, Called, chainedAs}
+use Rattle.question.specs.Reply.{Answered, ChainCalled, chainedAs}
 use Rattle.question.specs.declared.answer.Chained.{Chained}
 use Rattle.chains.specs.Call.{Reply, refused, inArea, afterCheck, chained, areaAfter}
 use Rattle.chains.proofs.Call.{call-asked}
 
 -- 1 to 7
-pub call-refused : (image : List ℕ) (r : Refusal) (c q f : ℕ) (area : List ℕ) → checked image ≡ Refused r → Called image c q f area (Chained.Refused r) area
+pub call-refused : (image : List ℕ) (r : Refusal) (c q f : ℕ) (area : List ℕ) → checked image ≡ Refused r → ChainCalled image c q f area (Chained.Refused r) area
 unfolding chained
 call-refused image r c q f area e = record { answer = rw e; area = rw e }
 
@@ -58,15 +58,15 @@ by-tests true true true reply e = absurd (true≢false e)
 
 module _ (image : List ℕ) (h : Head) (c q f : ℕ) (area : List ℕ) (accepted : checked image ≡ Accepted h) where
   -- 9, 10 and 11, in this order
-  pub call-out : (r : Refusal) → inRange h c q f ≡ false → r ≡ outOfRange h c q → Called image c q f area (Chained.Refused r) area
+  pub call-out : (r : Refusal) → inRange h c q f ≡ false → r ≡ outOfRange h c q → ChainCalled image c q f area (Chained.Refused r) area
   unfolding chained
-  call-out r out told =
+  call-out r out byRank =
       let reply = inArea (length area) (answer (libraryOf image) (questionOf q) c f) in
       let same : chained image c q f (length area) ≡ refused (outOfRange h c q) =
       ap (λ (k : Checked). afterCheck k image c q f (length area)) accepted
       ∙ by-tests (ltb c (h .sequences)) (leb q 5) (ltb f (h .facts)) reply out in
       record {
-        answer = ap Chained.Refused told ∙ ap chainedAs (sym same);
+        answer = ap Chained.Refused byRank ∙ ap chainedAs (sym same);
         area = ap (λ (k : Reply). areaAfter k area) (sym same);
       }
 
@@ -84,8 +84,8 @@ module _ (image : List ℕ) (h : Head) (c q f : ℕ) (area : List ℕ) (accepted
         }
 
     -- its answer in the area
-    pub call-told : (rank : ℕ) (found : Chained) (after : List ℕ) → found ≡ told p rank (length area)
-        → Answered (answer (libraryOf image) (questionBy p) c (p .fact)) area (told p rank (length area)) after → Called image c q f area found after
+    pub call-told : (rank : ℕ) (found : Chained) (after : List ℕ) → found ≡ byRank p rank (length area)
+        → Answered (answer (libraryOf image) (questionBy p) c (p .fact)) area (byRank p rank (length area)) after → ChainCalled image c q f area found after
     call-told rank found after is done =
         let low = in-range h c q f within in
         let same : answer (libraryOf image) (questionBy p) c (p .fact) ≡ answer (libraryOf image) (questionOf q) c f =

@@ -25,7 +25,7 @@ use Rattle.runs.specs.Algebra.{sameMark}
 use Rattle.chains.specs.Link.{Link, touchLink, untouchedLink, Chain}
 use Rattle.general.specs.Scan.{every}
 use Rattle.chains.specs.Stands.{entryAt}
-use Rattle.chains.specs.Ranks.{Ranks, Reached, Linked, Closed, unranked, entryRank, entryPasses, depthLook, passLook, hasMark, aheadOf, behindOf, touchLook, untouchedLook}
+use Rattle.chains.specs.Ranks.{Ranks, Attained, Linked, Unlowered, unranked, entryRank, entryPasses, depthLook, passLook, hasMark, aheadOf, behindOf, touchLook, untouchedLook}
 use Rattle.chains.specs.Answer.{Answer, none, shown, chosenAlternative, followed, linksFrom, touchAnswer, untouchedAnswer}
 use Rattle.rank.specs.Walk.{linkFrom, alternativeFrom, depthFrom, fewestFrom}
 use Rattle.rank.specs.Tables.{entryNumber, inRanks, rankIn, passIn, depthIn, everyIn, fewestIn, lookIn, stepMark, markIn, stepRank, Stepped}
@@ -95,13 +95,13 @@ module _ (L : Library) (q : Asked) (Q : Question) (masks : List ℕ) (asks : Ask
 
   module _ (before after : List ℕ) (size : length before ≡ q .none + length (L .steps)) where
     -- the table's words are by the marks, or all 0
-    step-in : (any : Bool) → Stepped any q masks before after → (past a : ℕ) → a < length (L .steps)
-        → getD (drop (q .none) after) a past ≡ stepRank any q masks a
-    step-in any stepped past a l =
+    step-in : (all : Bool) → Stepped all q masks before after → (past a : ℕ) → a < length (L .steps)
+        → getD (drop (q .none) after) a past ≡ stepRank all q masks a
+    step-in all stepped past a l =
         getD-drop (q .none) after a past ∙ getD-inside after (q .none + a) past 0 (omega (arith, stepped .long)) ∙ stepped .ranked a (omega arith)
 
-    step-out : (any : Bool) → Stepped any q masks before after → (past a : ℕ) → length (L .steps) ≤ a → getD (drop (q .none) after) a past ≡ past
-    step-out any stepped past a l = getD-drop (q .none) after a past ∙ List·getD-eq-default after past {n = q .none + a} (omega (arith, stepped .long))
+    step-out : (all : Bool) → Stepped all q masks before after → (past a : ℕ) → length (L .steps) ≤ a → getD (drop (q .none) after) a past ≡ past
+    step-out all stepped past a l = getD-drop (q .none) after a past ∙ List·getD-eq-default after past {n = q .none + a} (omega (arith, stepped .long))
 
     pub steps-marked : Stepped false q masks before after → (past : ℕ) → past ≡ cond (sameMark untouched (Q .mark)) 0 (q .none)
         → StepsBy (q .none) past (hasMark L Q asked) after
@@ -226,7 +226,7 @@ module _ (L : Library) (q : Asked) (Q : Question) (asks : Asks L q Q) where
 
       -- a question that asks for a touch, by ranks that are reached and that no look lowers
       module _ (touch : Q .mark ≢ untouched) (described : Described L Q f ahead behind) (steps : StepsBy (unranked L) (unranked L) (hasMark L Q f) ranks)
-          (reached : Reached (Linked L Q f) (unranked L) T) (closed : Closed (L .sequences) (touchLook L Q f) T) where
+          (reached : Attained (Linked L Q f) (unranked L) T) (closed : Unlowered (L .sequences) (touchLook L Q f) T) where
         link-is : (k c : ℕ) → k < unranked L → c < length (L .sequences)
             → linkAt (q .none) ahead behind ranks part places k c ≡ touchLink c (chosenAt L Q f (unranked L) T c k) (positionAt L Q f (unranked L) T c k)
         unfolding linkIn

@@ -10,7 +10,7 @@ use mathlib.Core.Bool.{Bool, true, false, cond, not}
 use mathlib.Core.List.{List, []}
 use lib.ListN.{length, getD, take, drop, replicate, length-replicate, List·getD-eq-default}
 use lib.Seq.{getD-take, ext-getD, length-take-le}
-use Rattle.reader.specs.Checked.{accepts}
+use Rattle.rules.specs.Checked.{accepts}
 use Rattle.rules.specs.Rules.{opened}
 use Rattle.library.specs.Library.{Library, Sequence, Entry, alternativesFrom, sequencesPart, libraryOf, Item, step}
 use Rattle.library.specs.Walk.{alternativesAt}
@@ -19,23 +19,23 @@ use Rattle.library.specs.Accepted.{SequenceWord, Counted}
 use Rattle.image.specs.declared.answer.Head.{Head}
 use Rattle.library.proofs.Accepted.{faultless, parts, counted}
 use Rattle.library.proofs.Rows.{all-at}
-use Rattle.settling.specs.Passes.{Blank}
-use Rattle.settling.specs.Stale.{Scheduled}
+use Rattle.general.specs.Numbers.{Zeros}
+use Rattle.settling.specs.Settling.{Scheduled}
 use Rattle.tables.specs.Tables.{TablesAsked, Prepared}
 use Rattle.tables.proofs.Tables.{few-sequences, step-masks, sequences-are, place-is, place-within, scheduled}
 use Rattle.runs.specs.Possible.{hasRun, possibleOutcome}
 use Rattle.runs.specs.Run.{RunOf, alternativesOf}
-use Rattle.settling.proofs.Visits.{blank-zeros}
+use Rattle.general.proofs.Numbers.{zeros}
 use Rattle.runs.proofs.Outcome.{present≢untouched, absent≢untouched}
 use Rattle.runs.specs.Touch.{Mark, present, absent, untouched, Question, untouchedOn, lastSet}
 use Rattle.runs.specs.Algebra.{sameMark}
 use Rattle.general.specs.Scan.{every}
 use Rattle.chains.specs.Ranks.{Look, passLook, unranked, entryPasses, hasMark, canStay, canRun, aheadOf, behindOf, touchLook, untouchedLook}
 use Rattle.chains.specs.Answer.{answer, ranksIn}
-use Rattle.rank.specs.Visits.{Visits, Settled}
-use Rattle.rank.specs.Tables.{inRanks, passIn, lookIn, Rankable, Readable, Visitable, Steppable, Ranked}
+use Rattle.rank.specs.Visits.{Visits, RanksSettled}
+use Rattle.rank.specs.Tables.{inRanks, passIn, lookIn, Rankable, RanksReadable, RanksVisitable, Steppable, Ranked}
 use Rattle.link.specs.Choice.{Choosable, answerIn}
-use Rattle.chain.specs.Described.{Asks, Masked, Placed, StepsBy, Described, FindAsked, RanksAsked, AreasAsked, Unranked, Findable, Marked, quietly, whether, isFirst, markNumber, sideBy, markBy, questionBy}
+use Rattle.chain.specs.Described.{Asks, Masked, Placed, StepsBy, Described, FindAsked, RanksAsked, AreasAsked, Unranked, Findable, EntriesMarked, forUntouched, forRun, isFirst, markNumber, sideBy, markBy, questionBy}
 use Rattle.question.specs.declared.asked.Asked.{Asked}
 use Rattle.chains.proofs.Entries.{quiet-run, any-run}
 use Rattle.chains.proofs.Passing.{Passable, pass-reached, pass-exact}
@@ -58,9 +58,9 @@ areas-asked h q none steps sequences a c =
     let ranks = ranks-asked h q (sequences + 2 + steps) (omega arith) in
     record {
       masks-room = omega (arith, length-replicate {A = ℕ} (3 * steps) 0);
-      masks-blank = blank-zeros (3 * steps);
+      masks-blank = zeros (3 * steps);
       callers-room = omega (arith, length-replicate {A = ℕ} (4 * sequences) 0);
-      callers-blank = blank-zeros (4 * sequences);
+      callers-blank = zeros (4 * sequences);
       ahead-asked = ranks;
       behind-asked = ranks;
       links-asked = ranks;
@@ -99,13 +99,13 @@ tables-asked {h} {image} asked areas =
 
 module _ {q : Asked} {n : ℕ} {masks ahead behind links part places callers order : List ℕ}
     (asked : Findable q n masks ahead behind links part places callers order) where
-  visited : (T A B : List ℕ) → length T ≡ length links → length A ≡ length links → length B ≡ length links → Readable (q .none) A B T part
+  visited : (T A B : List ℕ) → length T ≡ length links → length A ≡ length links → length B ≡ length links → RanksReadable (q .none) A B T part
   visited T A B t a b =
       record { by-ahead = rankable-at A a (asked .rankable); by-behind = rankable-at B b (asked .rankable); by-ranks = rankable-at T t (asked .rankable) }
 
   -- to mark the entries
   pub mark-asked : (T : List ℕ) → length T ≡ length links
-      → Steppable (quietly q) masks T × Visitable (whether q) n links links T part places × Scheduled n part places callers order
+      → Steppable (forUntouched q) masks T × RanksVisitable (forRun q) n links links T part places × Scheduled n part places callers order
   mark-asked T long = (
     record { fact = asked .steppable .fact; sequences = omega (arith, asked .steppable .sequences); masked = omega (arith, asked .steppable .masked) },
     record { readable = visited T links links long refl refl; low = asked .low; ranked = omega (arith, asked .ranked); placed = asked .placed; within = λ c l. asked .opened .within c },
@@ -113,7 +113,7 @@ module _ {q : Asked} {n : ℕ} {masks ahead behind links part places callers ord
   )
 
   -- to rank the sequences by the question
-  pub rank-asked : Steppable q masks links × Visitable q n ahead behind links part places × Scheduled n part places callers order
+  pub rank-asked : Steppable q masks links × RanksVisitable q n ahead behind links part places × Scheduled n part places callers order
   rank-asked = (
     asked .steppable,
     record { readable = visited links ahead behind refl (asked .ahead-long) (asked .behind-long); low = asked .low; ranked = asked .ranked; placed = asked .placed; within = λ c l. asked .opened .within c },
@@ -148,7 +148,7 @@ module _ {q : Asked} {n : ℕ} {masks ahead behind links part places callers ord
 
 module _ {h : Head} {image ms₀ ps₀ ms ps callers order : List ℕ} (accepted : accepts image h) (made : Prepared h image ms₀ ps₀ ms ps callers order)
     {part : List ℕ} (sequences : part ≡ sequencesPart image) where
-  pub masks-made : Blank ms₀ → Masked (libraryOf image) ms
+  pub masks-made : Zeros ms₀ → Masked (libraryOf image) ms
   masks-made blank =
       let words = step-masks accepted made blank in
       record {
@@ -175,7 +175,7 @@ module _ {h : Head} {image ms₀ ps₀ ms ps callers order : List ℕ} (accepted
               record { step = λ k. omega (arith, w .step k); sequence = λ k. (omega (arith, w .sequence k), omega (arith, w .sequence k)) };
         }
 
-    pub tables-findable : {ahead behind links : List ℕ} → Unranked h q ahead → Unranked h q behind → Unranked h q links → Blank ps₀ → 3 * h .steps ≤ length ms
+    pub tables-findable : {ahead behind links : List ℕ} → Unranked h q ahead → Unranked h q behind → Unranked h q links → Zeros ps₀ → 3 * h .steps ≤ length ms
         → h .sequences ≤ length ps → 4 * h .sequences ≤ length callers
         → Findable q (h .sequences) ms ahead behind links part ps callers (take (h .sequences) order)
     tables-findable {links = links} a-yet b-yet yet blank masked placed room =
@@ -231,8 +231,8 @@ module _ (image : List ℕ) (h : Head) (accepted : accepts image h) (ms ps part 
       }
 
   -- a table from one without a rank, whose steps are ranked by the question p and whose sequences by q
-  module _ (any : Bool) (p q : Asked) (p-none : p .none ≡ unranked L) (q-none : q .none ≡ unranked L) (ahead behind before ranks : List ℕ)
-      (yet : Unranked h p before) (ranked : Ranked any p q (h .sequences) ms ahead behind part ps before ranks) where
+  module _ (all : Bool) (p q : Asked) (p-none : p .none ≡ unranked L) (q-none : q .none ≡ unranked L) (ahead behind before ranks : List ℕ)
+      (yet : Unranked h p before) (ranked : Ranked all p q (h .sequences) ms ahead behind part ps before ranks) where
     abbrev m : ℕ
     m = unranked L
 
@@ -274,7 +274,7 @@ module _ (image : List ℕ) (h : Head) (accepted : accepts image h) (ms ps part 
           (settled-visits q ahead behind part ps (drop m (ranked .start)) (L .sequences) look m (h .sequences) (sym (has .sequences)) (omega (arith, has .sequences)) q-none looks
           reads refl (ranked .settled))
 
-      made-settled : Settled (L .sequences) look m (take m ranks)
+      made-settled : RanksSettled (L .sequences) look m (take m ranks)
       made-settled =
           settled-all q ahead behind part ps (drop m (ranked .start)) (L .sequences) look m (h .sequences) (sym (has .sequences)) (omega (arith, has .sequences)) q-none looks
           reads refl (ranked .settled)
@@ -305,36 +305,36 @@ module _ (image : List ℕ) (h : Head) (accepted : accepts image h) (ms ps part 
     no-rank : q .none ≡ unranked L
     no-rank = omega (arith, asked .none, counted image h accepted .sequences)
 
-    quiet-asks : Asks L (quietly q) (questionBy (quietly q))
-    quiet-asks = asks-by (quietly q) (omega arith) (asked .fact) (asked .none)
+    quiet-asks : Asks L (forUntouched q) (questionBy (forUntouched q))
+    quiet-asks = asks-by (forUntouched q) (omega arith) (asked .fact) (asked .none)
 
-    again : {T : List ℕ} → Unranked h q T → Unranked h (quietly q) T
+    again : {T : List ℕ} → Unranked h q T → Unranked h (forUntouched q) T
     again u = record { long = u .long; empty = u .empty }
 
     quiet-steps : (r : Asked) (ahead behind before ranks : List ℕ) → Unranked h q before
-        → (ranked : Ranked false (quietly q) r (h .sequences) ms ahead behind part ps before ranks)
-        → StepsBy (q .none) 0 (hasMark L (questionBy (quietly q)) (q .fact)) (ranked .start)
+        → (ranked : Ranked false (forUntouched q) r (h .sequences) ms ahead behind part ps before ranks)
+        → StepsBy (q .none) 0 (hasMark L (questionBy (forUntouched q)) (q .fact)) (ranked .start)
     quiet-steps r ahead behind before ranks yet ranked =
-        steps-marked L (quietly q) (questionBy (quietly q)) ms quiet-asks masks-are before (ranked .start) (omega (arith, counted image h accepted .steps, yet .long)) (ranked .steps) 0 refl
+        steps-marked L (forUntouched q) (questionBy (forUntouched q)) ms quiet-asks masks-are before (ranked .start) (omega (arith, counted image h accepted .steps, yet .long)) (ranked .steps) 0 refl
 
     -- the entries that can stay untouched, and those that have a run
-    stays-done : (links₀ stays₀ stays : List ℕ) → Unranked h q stays₀ → Ranked false (quietly q) (whether q) (h .sequences) ms links₀ links₀ part ps stays₀ stays
+    stays-done : (links₀ stays₀ stays : List ℕ) → Unranked h q stays₀ → Ranked false (forUntouched q) (forRun q) (h .sequences) ms links₀ links₀ part ps stays₀ stays
         → (e : Entry) → passIn (unranked L) stays e ≡ canStay L Q (q .fact) e
     stays-done links₀ stays₀ stays yet ranked =
-        entries-pass false (quietly q) (whether q) no-rank no-rank links₀ links₀ stays₀ stays (again yet) ranked refl (hasMark L (questionBy (quietly q)) (q .fact))
-        (quiet-steps (whether q) links₀ links₀ stays₀ stays yet ranked) (λ d. possibleOutcome L (untouchedOn Q) d (q .fact)) (quiet-run L Q (q .fact))
+        entries-pass false (forUntouched q) (forRun q) no-rank no-rank links₀ links₀ stays₀ stays (again yet) ranked refl (hasMark L (questionBy (forUntouched q)) (q .fact))
+        (quiet-steps (forRun q) links₀ links₀ stays₀ stays yet ranked) (λ d. possibleOutcome L (untouchedOn Q) d (q .fact)) (quiet-run L Q (q .fact))
 
-    runs-done : (links₀ runs₀ runs : List ℕ) → Unranked h q runs₀ → Ranked true (quietly q) (whether q) (h .sequences) ms links₀ links₀ part ps runs₀ runs
+    runs-done : (links₀ runs₀ runs : List ℕ) → Unranked h q runs₀ → Ranked true (forUntouched q) (forRun q) (h .sequences) ms links₀ links₀ part ps runs₀ runs
         → (e : Entry) → passIn (unranked L) runs e ≡ canRun L Q (q .fact) e
     runs-done links₀ runs₀ runs yet ranked =
-        entries-pass true (quietly q) (whether q) no-rank no-rank links₀ links₀ runs₀ runs (again yet) ranked refl (λ (a : Item). true)
-        (steps-any L (quietly q) (questionBy (quietly q)) ms quiet-asks masks-are runs₀ (ranked .start) (omega (arith, counted image h accepted .steps, yet .long)) (ranked .steps))
+        entries-pass true (forUntouched q) (forRun q) no-rank no-rank links₀ links₀ runs₀ runs (again yet) ranked refl (λ (a : Item). true)
+        (steps-any L (forUntouched q) (questionBy (forUntouched q)) ms quiet-asks masks-are runs₀ (ranked .start) (omega (arith, counted image h accepted .steps, yet .long)) (ranked .steps))
         (λ d. hasRun L d) (any-run L)
 
     -- by the tables for the entries ahead of the position and those behind it
     described-by : (blank ahead₀ behind₀ ahead behind : List ℕ) → Unranked h q ahead₀ → Unranked h q behind₀ → (b : Bool) → q .first ≡ b
-        → Ranked (not b) (quietly q) (whether q) (h .sequences) ms blank blank part ps ahead₀ ahead
-        → Ranked b (quietly q) (whether q) (h .sequences) ms blank blank part ps behind₀ behind → Described L Q (q .fact) ahead behind
+        → Ranked (not b) (forUntouched q) (forRun q) (h .sequences) ms blank blank part ps ahead₀ ahead
+        → Ranked b (forUntouched q) (forRun q) (h .sequences) ms blank blank part ps behind₀ behind → Described L Q (q .fact) ahead behind
     described-by blank ahead₀ behind₀ ahead behind a-yet b-yet false side a-ranked b-ranked =
         record {
           by-ahead = λ e. runs-done blank ahead₀ ahead a-yet a-ranked e ∙ ap (λ (x : Bool). aheadOf L Q (q .fact) (sideBy x) e) (sym side);
@@ -399,7 +399,7 @@ module _ (image : List ℕ) (h : Head) (accepted : accepts image h) (ms ps part 
 
       -- the answer by the three tables
       pub found-done : (ahead₀ behind₀ : List ℕ) → Unranked h q ahead₀ → Unranked h q behind₀
-          → Marked q (h .sequences) ms links₀ part ps ahead₀ behind₀ ahead behind → answerIn q ahead behind links part ps c ≡ answer L Q c (q .fact)
+          → EntriesMarked q (h .sequences) ms links₀ part ps ahead₀ behind₀ ahead behind → answerIn q ahead behind links part ps c ≡ answer L Q c (q .fact)
       found-done ahead₀ behind₀ a-yet b-yet marked =
           elim (ℕ-discrete (q .mark) 2) [
             | yes two ↦ quiet-done (ap markBy two)

@@ -6,20 +6,20 @@ use mathlib.Core.Bool.{Bool, true, false, cond, not}
 use mathlib.Core.Logic.{_≢_}
 use mathlib.Core.List.{List, [], _∷_}
 use lib.ListN.{length, getD, drop}
-use Rattle.reader.specs.Checked.{accepts}
+use Rattle.rules.specs.Checked.{accepts}
 use Rattle.library.specs.Library.{Library, Entry, libraryOf, Item, step}
 use Rattle.library.specs.Walk.{alternativesAt}
 use Rattle.image.specs.declared.answer.Head.{Head}
 use Rattle.library.specs.Tables.{maskOf}
-use Rattle.settling.specs.Passes.{Blank}
-use Rattle.settling.specs.Stale.{Scheduled}
+use Rattle.general.specs.Numbers.{Zeros}
+use Rattle.settling.specs.Settling.{Scheduled}
 use Rattle.runs.specs.Run.{alternativesOf}
 use Rattle.runs.specs.Execution.{stepOf}
 use Rattle.runs.specs.Touch.{Side, last, first, Mark, present, absent, untouched, Question}
 use Rattle.chains.specs.Ranks.{unranked, aheadOf, behindOf}
 use Rattle.rank.specs.Tables.{passIn, Rankable, Steppable, Ranked}
 use Rattle.link.specs.Choice.{Opened, answerIn}
-use Rattle.question.specs.Answer.{told}
+use Rattle.question.specs.Answer.{byRank}
 use Rattle.question.specs.Reply.{Answered}
 use Rattle.chains.specs.Answer.{answer}
 use Rattle.question.specs.declared.asked.Asked.{Asked}
@@ -83,7 +83,7 @@ pub record FindAsked (h : Head) (image : List ℕ) (q : Asked) (c : ℕ) : Type 
 
 -- the answer to the question of sequence c, and the area after it, by the rank that was found
 abbrev pub AnswerFound : List ℕ → Asked → ℕ → List ℕ → ℕ → List ℕ → Type 0
-AnswerFound image q c area rank after = Answered (answer (libraryOf image) (questionBy q) c (q .fact)) area (told q rank (length area)) after
+AnswerFound image q c area rank after = Answered (answer (libraryOf image) (questionBy q) c (q .fact)) area (byRank q rank (length area)) after
 
 -- an area without a rank, which has a word for each sequence and each step
 pub record RanksAsked (h : Head) (q : Asked) (T : List ℕ) : Type 0 where
@@ -93,9 +93,9 @@ pub record RanksAsked (h : Head) (q : Asked) (T : List ℕ) : Type 0 where
 -- the areas that the answer is found in
 pub record AreasAsked (h : Head) (q : Asked) (masks callers ahead behind links : List ℕ) : Type 0 where
   pub masks-room : 3 * h .steps ≤ length masks
-  pub masks-blank : Blank masks
+  pub masks-blank : Zeros masks
   pub callers-room : 4 * h .sequences ≤ length callers
-  pub callers-blank : Blank callers
+  pub callers-blank : Zeros callers
   pub ahead-asked : RanksAsked h q ahead
   pub behind-asked : RanksAsked h q behind
   pub links-asked : RanksAsked h q links
@@ -120,23 +120,23 @@ pub record Findable (q : Asked) (n : ℕ) (masks ahead behind links part places 
   pub scheduled : Scheduled n part places callers order
 
 -- the same question for "untouched", and where only a rank counts
-abbrev pub quietly : Asked → Asked
-quietly q = record { first = q .first; mark = 2; fact = q .fact; none = q .none }
+abbrev pub forUntouched : Asked → Asked
+forUntouched q = record { first = q .first; mark = 2; fact = q .fact; none = q .none }
 
-abbrev pub whether : Asked → Asked
-whether q = record { first = q .first; mark = 3; fact = q .fact; none = q .none }
+abbrev pub forRun : Asked → Asked
+forRun q = record { first = q .first; mark = 3; fact = q .fact; none = q .none }
 
 -- the tables of the entries ahead of the position and behind it, for a question that asks for a touch: which can stay untouched, and which
 -- have a run
-pub record Marked (q : Asked) (n : ℕ) (masks blank part places ahead₀ behind₀ ahead behind : List ℕ) : Type 0 where
-  pub ahead-marked : q .mark ≢ 2 → Ranked (not (q .first)) (quietly q) (whether q) n masks blank blank part places ahead₀ ahead
-  pub behind-marked : q .mark ≢ 2 → Ranked (q .first) (quietly q) (whether q) n masks blank blank part places behind₀ behind
+pub record EntriesMarked (q : Asked) (n : ℕ) (masks blank part places ahead₀ behind₀ ahead behind : List ℕ) : Type 0 where
+  pub ahead-marked : q .mark ≢ 2 → Ranked (not (q .first)) (forUntouched q) (forRun q) n masks blank blank part places ahead₀ ahead
+  pub behind-marked : q .mark ≢ 2 → Ranked (q .first) (forUntouched q) (forRun q) n masks blank blank part places behind₀ behind
 
 -- tables of ranks from those before, and the answer by them in the area
 pub record Found (q : Asked) (n c : ℕ) (masks part places ahead₀ behind₀ links₀ area : List ℕ) (rank : ℕ) (after : List ℕ) : Type 0 where
   pub ahead : List ℕ
   pub behind : List ℕ
   pub links : List ℕ
-  pub marked : Marked q n masks links₀ part places ahead₀ behind₀ ahead behind
+  pub marked : EntriesMarked q n masks links₀ part places ahead₀ behind₀ ahead behind
   pub ranked : Ranked false q q n masks ahead behind part places links₀ links
-  pub answered : Answered (answerIn q ahead behind links part places c) area (told q rank (length area)) after
+  pub answered : Answered (answerIn q ahead behind links part places c) area (byRank q rank (length area)) after

@@ -6,13 +6,16 @@ use image::word::MOST_STEPS;
 use library::parts::sequences_part;
 use link::write::write_chain;
 use question::answer::Chained;
-use question::answer::told_of;
+use question::answer::answer_by_rank;
 use question::asked::Asked;
+use question::asked::NO_RANK_ABOVE;
+use question::asked::RUN_MARK;
+use question::asked::UNTOUCHED_MARK;
 use question::asked::in_range;
 use question::asked::out_of_range;
 use question::asked::read_question;
 use rank::entry::write_step_ranks;
-use rank::pass::settle;
+use rank::settle::settle;
 use reader::check::check;
 use tables::prepare::prepare;
 use tables::size::MOST_CALLERS;
@@ -26,21 +29,25 @@ use tables::size::is_small;
 ghost use mathlib.Core.Path.{_≡_};
 ghost use mathlib.Core.Bool.{true};
 ghost use Prim.Native.Nat.{_<_};
-ghost use Rattle.settling.specs.Stale.{Scheduled};
+ghost use Rattle.settling.specs.Settling.{Scheduled};
 ghost use Rattle.tables.specs.Tables.{isSmall};
-ghost use Rattle.rank.specs.Tables.{Steppable, Visitable, Ranked};
-ghost use Rattle.chain.specs.Described.{FindAsked, AreasAsked, AnswerFound, Findable, Marked, Found};
-ghost use Rattle.reader.specs.Checked.{accepts};
-ghost use Rattle.question.specs.Reply.{Called};
+ghost use Rattle.rank.specs.Tables.{Steppable, RanksVisitable, Ranked};
+ghost use Rattle.chain.specs.Described.{FindAsked, AreasAsked, AnswerFound, Findable, EntriesMarked, Found};
+ghost use Rattle.rules.specs.Checked.{accepts};
+ghost use Rattle.question.specs.Reply.{ChainCalled};
 
 // A table of ranks has a word for each sequence, two between, and a word for each step.
-pub const SMALL_RANKS: usize = SMALL_SEQUENCES as usize + 2 + SMALL_STEPS as usize;
+pub const SMALL_RANKS: usize = SMALL_SEQUENCES as usize
+    + NO_RANK_ABOVE as usize
+    + SMALL_STEPS as usize;
 
-pub const MOST_RANKS: usize = MOST_SEQUENCES as usize + 2 + MOST_STEPS as usize;
+pub const MOST_RANKS: usize = MOST_SEQUENCES as usize
+    + NO_RANK_ABOVE as usize
+    + MOST_STEPS as usize;
 
 // Ranks the steps by one question and the sequences by another, in a table that has no rank yet.
 fn rank(
-    any: bool,
+    all: bool,
     p: Asked,
     q: Asked,
     masks: &[u64],
@@ -53,10 +60,10 @@ fn rank(
     ranks: &mut [u32],
     n: usize,
 )
-    requires { ⌜ Steppable p (now masks) (now ranks) × Visitable q n (now ahead) (now behind) (now ranks) (now part) (now places) × Scheduled n (now part) (now places) (now callers) (now order) ⌝ }
-    ensures { λ _. ⌜ Ranked any p q n (now (masks .entry)) (now (ahead .entry)) (now (behind .entry)) (now (part .entry)) (now (places .entry)) (now (ranks .entry)) (now (ranks .exit)) ⌝ }
+    requires { ⌜ Steppable p (now masks) (now ranks) × RanksVisitable q n (now ahead) (now behind) (now ranks) (now part) (now places) × Scheduled n (now part) (now places) (now callers) (now order) ⌝ }
+    ensures { λ _. ⌜ Ranked all p q n (now (masks .entry)) (now (ahead .entry)) (now (behind .entry)) (now (part .entry)) (now (places .entry)) (now (ranks .entry)) (now (ranks .exit)) ⌝ }
 {
-    write_step_ranks(any, p, masks, ranks);
+    write_step_ranks(all, p, masks, ranks);
     settle(q, ahead, behind, part, places, callers, order, ranks, n);
 }
 
@@ -75,25 +82,25 @@ fn mark_entries(
     n: usize,
 )
     requires { ⌜ Findable q n (now masks) (now ahead) (now behind) (now blank) (now part) (now places) (now callers) (now order) ⌝ }
-    ensures { λ _. ⌜ Marked q n (now (masks .entry)) (now (blank .entry)) (now (part .entry)) (now (places .entry)) (now (ahead .entry)) (now (behind .entry)) (now (ahead .exit)) (now (behind .exit)) ⌝ }
+    ensures { λ _. ⌜ EntriesMarked q n (now (masks .entry)) (now (blank .entry)) (now (part .entry)) (now (places .entry)) (now (ahead .entry)) (now (behind .entry)) (now (ahead .exit)) (now (behind .exit)) ⌝ }
 {
-    if q.mark != 2 {
-        let quiet = Asked {
+    if q.mark != UNTOUCHED_MARK {
+        let untouched = Asked {
             first: q.first,
-            mark: 2,
+            mark: UNTOUCHED_MARK,
             fact: q.fact,
             none: q.none,
         };
-        let ranked = Asked {
+        let any_run = Asked {
             first: q.first,
-            mark: 3,
+            mark: RUN_MARK,
             fact: q.fact,
             none: q.none,
         };
         rank(
             !q.first,
-            quiet,
-            ranked,
+            untouched,
+            any_run,
             masks,
             blank,
             blank,
@@ -106,8 +113,8 @@ fn mark_entries(
         );
         rank(
             q.first,
-            quiet,
-            ranked,
+            untouched,
+            any_run,
             masks,
             blank,
             blank,
@@ -269,19 +276,19 @@ fn find(h: Head, image: &[u32], q: Asked, c: u32, area: &mut [u32]) -> u32
 // Asks an accepted image: the sequence, the question and the fact are tested first.
 fn ask(h: Head, image: &[u32], sequence: u64, question: u64, fact: u64, area: &mut [u32]) -> Chained
     requires { ⌜ accepts (now image) h ⌝ }
-    ensures { λ r. ⌜ Called (now (image .entry)) sequence question fact (now (area .entry)) r (now (area .exit)) ⌝ }
+    ensures { λ r. ⌜ ChainCalled (now (image .entry)) sequence question fact (now (area .entry)) r (now (area .exit)) ⌝ }
 {
     if in_range(h, sequence, question, fact) {
         let q = read_question(h, question, fact);
         let room = area.len();
-        return told_of(q, find(h, image, q, sequence as u32, area), room);
+        return answer_by_rank(q, find(h, image, q, sequence as u32, area), room);
     }
     Chained::Refused(out_of_range(h, sequence, question))
 }
 
 // The chain call: what it answers, and the words of the area after it, for every image, every number and every area.
 pub fn chain(image: &[u32], sequence: u64, question: u64, fact: u64, area: &mut [u32]) -> Chained
-    ensures { λ r. ⌜ Called (now (image .entry)) sequence question fact (now (area .entry)) r (now (area .exit)) ⌝ }
+    ensures { λ r. ⌜ ChainCalled (now (image .entry)) sequence question fact (now (area .entry)) r (now (area .exit)) ⌝ }
 {
     match check(image) {
         Checked::Refused(r) => Chained::Refused(r),

@@ -22,7 +22,7 @@ use Rattle.runs.proofs.Possible.{alternative-below}
 use Rattle.chains.specs.Link.{touchLink, untouchedLink, Chain}
 use Rattle.chains.specs.Stands.{About, entryAt, Choices, StandsFor}
 use Rattle.chains.specs.Depth.{deepest}
-use Rattle.chains.specs.Ranks.{Ranks, Closed, Reached, Linked, Passing, unranked, entryRank, ranks, hasMark, untouchedLook, touchLook}
+use Rattle.chains.specs.Ranks.{Ranks, Unlowered, Attained, Linked, Passing, unranked, entryRank, ranks, hasMark, untouchedLook, touchLook}
 use Rattle.chains.specs.Answer.{Answer, none, shown, chosenAlternative, followed, linksFrom, touchAnswer, untouchedAnswer, ranksIn}
 use Rattle.chains.specs.Answer.{touchShown, untouchedShown, answerFor, answer}
 use Rattle.chains.specs.Shows.{NoHigher, LeastDepth, Shows}
@@ -40,7 +40,7 @@ about-one (l ∷ ls) c about = omega arith
 
 -- Questions that ask for a touch, by any table all of whose ranks are reached and that no look lowers.
 module _ (L : Library) (q : Question) (f : ℕ) (touch : q .mark ≢ untouched) (T : Ranks)
-    (reached : Reached (Linked L q f) (unranked L) T) (closed : Closed (L .sequences) (touchLook L q f) T) where
+    (reached : Attained (Linked L q f) (unranked L) T) (closed : Unlowered (L .sequences) (touchLook L q f) T) where
   -- the links after this one
   abbrev next : ℕ → ℕ → Chain
   next k d = linksFrom L q f T k d
@@ -194,8 +194,8 @@ module _ (L : Library) (s : Side) (f : ℕ) where
   abbrev leaves : Item → Bool
   leaves = hasMark L quiet f
 
-  module _ (T : Ranks) (reached : Reached (Passing (L .sequences) leaves) (unranked L) T)
-      (closed : Closed (L .sequences) (untouchedLook L quiet f) T) where
+  module _ (T : Ranks) (reached : Attained (Passing (L .sequences) leaves) (unranked L) T)
+      (closed : Unlowered (L .sequences) (untouchedLook L quiet f) T) where
     -- an alternative that comes to the least depth, with a derivation no deeper
     least-depth : (c k i : ℕ) → T c ≡ suc k → Lowest (L .sequences) (untouchedLook L quiet f) T c k i
         → Given (L .sequences) (unranked L) leaves (alternativeOf (L .sequences) c i) k → LeastDepth L quiet f c i
@@ -284,10 +284,10 @@ module _ (L : Library) (s : Side) (f : ℕ) where
 
 -- what holds of the answers that ask for a touch and of those that ask for none
 module _ (L : Library) (c f : ℕ) (P : Question → Answer → Type 0)
-    (touching : (q : Question) → q .mark ≢ untouched → (T : Ranks) → Reached (Linked L q f) (unranked L) T
-    → Closed (L .sequences) (touchLook L q f) T → ((d : ℕ) → T d ≤ unranked L) → P q (touchAnswer L q f T c))
-    (leaving : (s : Side) (T : Ranks) → Reached (Passing (L .sequences) (leaves L s f)) (unranked L) T
-    → Closed (L .sequences) (untouchedLook L (quiet L s f) f) T → ((d : ℕ) → T d ≤ unranked L)
+    (touching : (q : Question) → q .mark ≢ untouched → (T : Ranks) → Attained (Linked L q f) (unranked L) T
+    → Unlowered (L .sequences) (touchLook L q f) T → ((d : ℕ) → T d ≤ unranked L) → P q (touchAnswer L q f T c))
+    (leaving : (s : Side) (T : Ranks) → Attained (Passing (L .sequences) (leaves L s f)) (unranked L) T
+    → Unlowered (L .sequences) (untouchedLook L (quiet L s f) f) T → ((d : ℕ) → T d ≤ unranked L)
     → P (quiet L s f) (untouchedAnswer L (quiet L s f) f T c)) where
   by-touch : (q : Question) → q .mark ≢ untouched → P q (touchShown L q c f (ranks (L .sequences) (touchLook L q f) (unranked L)))
   unfolding touchShown
@@ -333,11 +333,11 @@ answer-possible L q c f = (
 )
 
 -- Any table of ranks that are reached, that no look lowers and none of which is above `unranked` gives the answer.
-pub touch-table : (L : Library) (q : Question) (f : ℕ) → q .mark ≢ untouched → (T : Ranks) → Reached (Linked L q f) (unranked L) T
-    → Closed (L .sequences) (touchLook L q f) T → ((d : ℕ) → T d ≤ unranked L) → (c : ℕ) → touchAnswer L q f T c ≡ answer L q c f
+pub touch-table : (L : Library) (q : Question) (f : ℕ) → q .mark ≢ untouched → (T : Ranks) → Attained (Linked L q f) (unranked L) T
+    → Unlowered (L .sequences) (touchLook L q f) T → ((d : ℕ) → T d ≤ unranked L) → (c : ℕ) → touchAnswer L q f T c ≡ answer L q c f
 touch-table L q f touch T reached closed capped c =
     by-answer L c f
-    (λ r a. r .mark ≢ untouched → (T : Ranks) → Reached (Linked L r f) (unranked L) T → Closed (L .sequences) (touchLook L r f) T
+    (λ r a. r .mark ≢ untouched → (T : Ranks) → Attained (Linked L r f) (unranked L) T → Unlowered (L .sequences) (touchLook L r f) T
     → ((d : ℕ) → T d ≤ unranked L) → touchAnswer L r f T c ≡ a)
     (λ r t U reached′ closed′ capped′ t′ T reached closed capped. ap (λ (W : Ranks). touchAnswer L r f W c) (fun-ext (λ d.
     let low = ranks-least (Linked L r f) (unranked L) T U (links-below L r f (unranked L) t T closed) capped reached′ d in
@@ -348,12 +348,12 @@ touch-table L q f touch T reached closed capped c =
     q touch T reached closed capped
 
 pub untouched-table : (L : Library) (q : Question) (f : ℕ) → q .mark ≡ untouched → (T : Ranks)
-    → Reached (Passing (L .sequences) (hasMark L q f)) (unranked L) T → Closed (L .sequences) (untouchedLook L q f) T
+    → Attained (Passing (L .sequences) (hasMark L q f)) (unranked L) T → Unlowered (L .sequences) (untouchedLook L q f) T
     → ((d : ℕ) → T d ≤ unranked L) → (c : ℕ) → untouchedAnswer L q f T c ≡ answer L q c f
 untouched-table L q f leaving T reached closed capped c =
     by-answer L c f
-    (λ r a. r .mark ≡ untouched → (T : Ranks) → Reached (Passing (L .sequences) (hasMark L r f)) (unranked L) T
-    → Closed (L .sequences) (untouchedLook L r f) T → ((d : ℕ) → T d ≤ unranked L) → untouchedAnswer L r f T c ≡ a)
+    (λ r a. r .mark ≡ untouched → (T : Ranks) → Attained (Passing (L .sequences) (hasMark L r f)) (unranked L) T
+    → Unlowered (L .sequences) (untouchedLook L r f) T → ((d : ℕ) → T d ≤ unranked L) → untouchedAnswer L r f T c ≡ a)
     (λ r t U reached′ closed′ capped′ t′. absurd (t t′))
     (λ s U reached′ closed′ capped′ t′ T reached closed capped. ap (λ (W : Ranks). untouchedAnswer L (quiet L s f) f W c) (fun-ext (λ d.
     let P = Passing (L .sequences) (leaves L s f) in

@@ -13,7 +13,7 @@ use Rattle.runs.specs.Run.{RunOf, Gives, nothing, by-item, by-call, alternative
 use Rattle.runs.proofs.Possible.{alternative-below}
 use Rattle.general.specs.Scan.{every}
 use Rattle.chains.specs.Depth.{deepest, depthOf}
-use Rattle.chains.specs.Ranks.{Ranks, Closed, Reached, entryRank, depthLook, Passing}
+use Rattle.chains.specs.Ranks.{Ranks, Unlowered, Attained, entryRank, depthLook, Passing}
 use Rattle.general.proofs.Scan.{every-append, greatest-reached, Gapless, gapless-bound}
 
 -- the rank of a step that passes is 0, and below `none` only a step that passes has one
@@ -46,7 +46,7 @@ module _ (S : List Sequence) (none : ℕ) (test : Item → Bool) where
       record { list = g .list; derivation = g .derivation; passes = g .passes; depth = omega arith }
 
   -- a closed table has no rank above the depth of a derivation
-  pub depth-least : (T : Ranks) → Closed S (depthLook none test) T → {es : List Entry} {w : List Item} (g : Gives S es w) → every test w ≡ true
+  pub depth-least : (T : Ranks) → Unlowered S (depthLook none test) T → {es : List Entry} {w : List Item} (g : Gives S es w) → every test w ≡ true
       → depthLook none test T es ≤ deepest S g
   unfolding depthLook deepest every
   depth-least T closed nothing h = omega arith
@@ -62,7 +62,7 @@ module _ (S : List Sequence) (none : ℕ) (test : Item → Bool) where
       let c-le = closed c i lt in
       omega arith
 
-  pub depth-below : (T : Ranks) → Closed S (depthLook none test) T → (c n : ℕ) → Passing S test c n → T c ≤ n
+  pub depth-below : (T : Ranks) → Unlowered S (depthLook none test) T → (c n : ℕ) → Passing S test c n → T c ≤ n
   depth-below T closed c n r =
       let low = depth-least T closed (r .derivation .given) (r .passes) in
       let up = closed c (r .derivation .alternative) (r .derivation .listed) in
@@ -70,7 +70,7 @@ module _ (S : List Sequence) (none : ℕ) (test : Item → Bool) where
       omega arith
 
   -- one look at entries finds only a depth that a derivation has
-  pub depth-given : (T : Ranks) → Reached (Passing S test) none T → (es : List Entry) → depthLook none test T es < none
+  pub depth-given : (T : Ranks) → Attained (Passing S test) none T → (es : List Entry) → depthLook none test T es < none
       → Given es (depthLook none test T es)
   unfolding depthLook deepest every
   depth-given T reached [] lt = record { list = []; derivation = nothing; passes = refl; depth = omega arith }
@@ -96,7 +96,7 @@ module _ (S : List Sequence) (none : ℕ) (test : Item → Bool) where
       }
 
   -- and so at a sequence
-  pub depth-reached : (T : Ranks) → Reached (Passing S test) none T → (c i : ℕ) → i < length (alternativesOf S c)
+  pub depth-reached : (T : Ranks) → Attained (Passing S test) none T → (c i : ℕ) → i < length (alternativesOf S c)
       → suc (depthLook none test T (alternativeOf S c i)) < none → Passing S test c (suc (depthLook none test T (alternativeOf S c i)))
   depth-reached T reached c i lt low =
       let r = depth-given T reached (alternativeOf S c i) (omega arith) in
@@ -109,7 +109,7 @@ module _ (S : List Sequence) (none : ℕ) (test : Item → Bool) where
       }
 
   -- Below: a table all of whose ranks are reached and that no look lowers.
-  module _ (T : Ranks) (reached : Reached (Passing S test) none T) (closed : Closed S (depthLook none test) T) where
+  module _ (T : Ranks) (reached : Attained (Passing S test) none T) (closed : Unlowered S (depthLook none test) T) where
     -- a rank is the least depth
     pub depth-exact : (c : ℕ) (lt : T c < none) → (T c ≡ depthOf S (reached c lt .derivation))
         × (T c ≡ suc (depthLook none test T (alternativeOf S c (reached c lt .derivation .alternative))))

@@ -6,7 +6,7 @@ use native.Mathlib.Omega.{arith}
 use lib.ListN.{length}
 use Rattle.general.specs.Tests.{All}
 use Rattle.library.specs.Accepted.{Small}
-use Rattle.reader.specs.Checked.{checked}
+use Rattle.rules.specs.Checked.{checked}
 use Rattle.library.specs.Library.{Library, Sequence, Entry, item, call, libraryOf, Item}
 use Rattle.image.specs.declared.answer.Head.{Head}
 use Rattle.image.specs.declared.answer.Checked.the-variants.{Accepted}

@@ -19,7 +19,7 @@ use Rattle.runs.proofs.Possible.{alternative-below}
 use Rattle.general.specs.Scan.{every}
 use Rattle.chains.specs.Link.{touchLink, untouchedLink, Chain}
 use Rattle.chains.specs.Stands.{About, EntryTouches, entryAt, Choices, StandsFor}
-use Rattle.chains.specs.Ranks.{Ranks, Look, Closed, Reached, Linked, entryRank, candidate, linkLook, hasMark, aheadOf, behindOf}
+use Rattle.chains.specs.Ranks.{Ranks, Look, Unlowered, Attained, Linked, entryRank, candidate, linkLook, hasMark, aheadOf, behindOf}
 use Rattle.chains.specs.Answer.{chosenAlternative, chosenPosition}
 use Rattle.general.proofs.Scan.{least-le, least-cases, first-found, Gapless, gapless-bound}
 use Rattle.chains.proofs.Ranks.{Lowest, alternative-lowest}
@@ -78,7 +78,7 @@ module _ (L : Library) (q : Question) (f none : ℕ) where
       omega arith
 
   -- a closed table has no rank above the number of links
-  pub links-least : q .mark ≢ untouched → (T : Ranks) → Closed (L .sequences) look T → (ls : Chain) (c : ℕ) (w : List Item) → About c ls
+  pub links-least : q .mark ≢ untouched → (T : Ranks) → Unlowered (L .sequences) look T → (ls : Chain) (c : ℕ) (w : List Item) → About c ls
       → StandsFor L q f ls w → HasOutcome L q f w → T c ≤ length ls
   links-least touch T closed [] c w about stands outcome = absurd about
   links-least touch T closed (touchLink d i p ∷ ls) c w about (lt, k) outcome =
@@ -89,7 +89,7 @@ module _ (L : Library) (q : Question) (f none : ℕ) where
       rw about at le
   links-least touch T closed (untouchedLink d i ∷ ls) c w about (lt, ends, g, quiet) outcome = absurd (touch (sym outcome ∙ quiet))
 
-  pub links-below : q .mark ≢ untouched → (T : Ranks) → Closed (L .sequences) look T → (c n : ℕ) → Linked L q f c n → T c ≤ n
+  pub links-below : q .mark ≢ untouched → (T : Ranks) → Unlowered (L .sequences) look T → (c n : ℕ) → Linked L q f c n → T c ≤ n
   links-below touch T closed c n r =
       let le = links-least touch T closed (r .chain) c (r .run) (r .about) (r .stands) (r .outcome) in
       let le′ = r .links in
@@ -102,7 +102,7 @@ module _ (L : Library) (q : Question) (f none : ℕ) where
     pub touching : Touching L q f links e given
     pub fewer : length links ≤ n
 
-  entry-linked : (T : Ranks) → Reached (Linked L q f) none T → (e : Entry) → entryRank none (hasMark L q f) T e < none
+  entry-linked : (T : Ranks) → Attained (Linked L q f) none T → (e : Entry) → entryRank none (hasMark L q f) T e < none
       → Entered e (entryRank none (hasMark L q f) T e)
   entry-linked T reached (item a) lt =
       record {
@@ -183,7 +183,7 @@ module _ (L : Library) (q : Question) (f none : ℕ) where
         (b .0, b .1, r .1)
 
     -- one look at an alternative finds only a number that a chain has
-    pub links-reached : (T : Ranks) → Reached (Linked L q f) none T → (c i : ℕ) → i < length (alternativesOf (L .sequences) c)
+    pub links-reached : (T : Ranks) → Attained (Linked L q f) none T → (c i : ℕ) → i < length (alternativesOf (L .sequences) c)
         → suc (look T (entriesOf L c i)) < none → Linked L q f c (suc (look T (entriesOf L c i)))
     links-reached T reached c i lt low =
         let m = look-reached T (entriesOf L c i) (omega arith) in
@@ -204,7 +204,7 @@ module _ (L : Library) (q : Question) (f none : ℕ) where
         }
 
     -- Below: a table all of whose ranks are reached and that no look lowers.
-    module _ (T : Ranks) (reached : Reached (Linked L q f) none T) (closed : Closed (L .sequences) look T) where
+    module _ (T : Ranks) (reached : Attained (Linked L q f) none T) (closed : Unlowered (L .sequences) look T) where
       -- an alternative that keeps the number of links fewest, and a position
       rank-alternative : (c k : ℕ) → T c ≡ suc k → suc k < none
           → (i : ℕ) × (i < length (alternativesOf (L .sequences) c)) × (look T (entriesOf L c i) ≤ k)

@@ -13,7 +13,7 @@ use Rattle.library.specs.Library.{Sequence, Entry, Item}
 use Rattle.general.proofs.Bools.{and-parts, and-both, both-ways}
 use Rattle.runs.specs.Run.{RunOf, Gives, nothing, by-item, by-call, alternativesOf, alternativeOf}
 use Rattle.general.specs.Scan.{every}
-use Rattle.chains.specs.Ranks.{Ranks, Closed, Reached, entryPasses, passLook}
+use Rattle.chains.specs.Ranks.{Ranks, Unlowered, Attained, entryPasses, passLook}
 use Rattle.chains.proofs.Depth.{append-passes}
 use Rattle.chains.proofs.Entries.{passes-given}
 
@@ -26,7 +26,7 @@ module _ (S : List Sequence) (none : ℕ) (test : Item → Bool) where
   pass T = entryPasses test (λ d. ltb (T d) none)
 
   -- one look at an alternative finds only what is so
-  pub pass-reached : (T : Ranks) → Reached Passable none T → (c i : ℕ) → i < length (alternativesOf S c)
+  pub pass-reached : (T : Ranks) → Attained Passable none T → (c i : ℕ) → i < length (alternativesOf S c)
       → suc (passLook none test T (alternativeOf S c i)) < none → Passable c (suc (passLook none test T (alternativeOf S c i)))
   unfolding passLook
   pass-reached T reached c i lt low = go (every (pass T) (alternativeOf S c i)) refl low
@@ -39,7 +39,7 @@ module _ (S : List Sequence) (none : ℕ) (test : Item → Bool) where
       go false e l = absurd (omega arith)
 
   -- a table that no look lowers has a rank for each sequence with such a run
-  module _ (T : Ranks) (closed : Closed S (passLook none test) T) (room : 1 < none) where
+  module _ (T : Ranks) (closed : Unlowered S (passLook none test) T) (room : 1 < none) where
     passed-low : (c i : ℕ) → i < length (alternativesOf S c) → every (pass T) (alternativeOf S c i) ≡ true → T c < none
     unfolding passLook
     passed-low c i lt e = let low = closed c i lt in let zero-look = ap (λ (b : Bool). cond b 0 none) e in omega arith
@@ -54,7 +54,7 @@ module _ (S : List Sequence) (none : ℕ) (test : Item → Bool) where
         let p = append-passes test u v (rw e at h) in
         and-both (ltb (T c) none) (every (pass T) es) (lt-ltb (T c) none (passed-low c i lt (given-passed g (p .0)))) (given-passed g′ (p .1))
 
-    pub pass-exact : Reached Passable none T → (c : ℕ) (b : Bool) → ((b ≡ true) ↔ ((w : List Item) × RunOf S c w × (every test w ≡ true))) → ltb (T c) none ≡ b
+    pub pass-exact : Attained Passable none T → (c : ℕ) (b : Bool) → ((b ≡ true) ↔ ((w : List Item) × RunOf S c w × (every test w ≡ true))) → ltb (T c) none ≡ b
     pass-exact reached c b right =
         both-ways (ltb (T c) none) b (λ e. right .1 (reached c (ltb-true (T c) none e)))
         (λ e. let r = right .0 e in lt-ltb (T c) none (passed-low c (r .1 .alternative) (r .1 .listed) (given-passed (r .1 .given) (r .2))))

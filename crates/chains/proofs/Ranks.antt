@@ -15,7 +15,7 @@ use Rattle.runs.specs.Run.{alternativesOf, alternativeOf}
 use Rattle.runs.proofs.Possible.{alternative-below}
 use Rattle.general.proofs.Bools.{passes-or-not}
 use Rattle.general.specs.Scan.{listBelow, total}
-use Rattle.chains.specs.Ranks.{Ranks, Look, lowered, Closed, round, rounds, ranks, Reached}
+use Rattle.chains.specs.Ranks.{Ranks, Look, lowered, Unlowered, round, rounds, ranks, Attained}
 use Rattle.chains.specs.Answer.{chosenAlternative}
 use Rattle.general.proofs.Scan.{first-found, least-start, least-le, least-cases, length-listBelow, getD-listBelow, total-constant, total-same}
 
@@ -40,7 +40,7 @@ alternative-lowest S look T c k j lt low =
 
 -- Ranks that are reached, and that are no higher than what anything reaches, are the least ones: no table whose ranks are reached has a
 -- lower one.
-pub ranks-least : (P : ℕ → ℕ → Type 0) (none : ℕ) (T U : Ranks) → ((c n : ℕ) → P c n → T c ≤ n) → ((c : ℕ) → T c ≤ none) → Reached P none U
+pub ranks-least : (P : ℕ → ℕ → Type 0) (none : ℕ) (T U : Ranks) → ((c n : ℕ) → P c n → T c ≤ n) → ((c : ℕ) → T c ≤ none) → Attained P none U
     → (c : ℕ) → T c ≤ U c
 ranks-least P none T U low capped reached c = go (decLt (U c) none)
   where
@@ -67,7 +67,7 @@ module _ (S : List Sequence) (look : Look) where
     round-length T = length-listBelow (lowered S look (inList T)) (length S)
 
     -- a round that lowers nothing leaves a closed table
-    closed-last : (T : List ℕ) → length T ≡ length S → total T ≤ total (round S look none T) → Closed S look (inList T)
+    closed-last : (T : List ℕ) → length T ≡ length S → total T ≤ total (round S look none T) → Unlowered S look (inList T)
     unfolding round
     closed-last T e le c i lt =
         let below : c < length T = rw e (alternative-below S c i lt) in
@@ -86,14 +86,14 @@ module _ (S : List Sequence) (look : Look) where
         (λ (e : ltb (total (round S look none T)) (total T) ≡ false). inr (rw (e, rounds), ltb-false (total (round S look none T)) (total T) e))
         (passes-or-not (ltb (total (round S look none T)) (total T)))
 
-    rounds-closed : (n : ℕ) (T : List ℕ) → length T ≡ length S → total T ≤ n → Closed S look (inList (rounds S look none n T))
+    rounds-closed : (n : ℕ) (T : List ℕ) → length T ≡ length S → total T ≤ n → Unlowered S look (inList (rounds S look none n T))
     rounds-closed zero T e le = unfold rounds in closed-last T e (omega arith)
     rounds-closed (suc n) T e le =
         ⊎-elim (λ (s, fewer). rw s (rounds-closed n (round S look none T) (round-length T) (omega arith)))
         (λ (s, same). rw s (closed-last T e same)) (rounds-step n T)
 
     -- no look lowers a rank
-    pub ranks-closed : Closed S look (inList (ranks S look none))
+    pub ranks-closed : Unlowered S look (inList (ranks S look none))
     unfolding ranks
     ranks-closed =
         rounds-closed (length S * none) (listBelow (λ c. none) (length S)) (length-listBelow (λ c. none) (length S))
@@ -126,19 +126,19 @@ module _ (S : List Sequence) (look : Look) where
 
     -- what one look at an alternative preserves holds of every rank
     module _ (P : ℕ → ℕ → Type 0)
-        (keeps : (T : Ranks) → Reached P none T → (c i : ℕ) → i < length (alternativesOf S c) → suc (look T (alternativeOf S c i)) < none
+        (keeps : (T : Ranks) → Attained P none T → (c i : ℕ) → i < length (alternativesOf S c) → suc (look T (alternativeOf S c i)) < none
         → P c (suc (look T (alternativeOf S c i)))) where
-      pub lowered-reached : (T : Ranks) → Reached P none T → Reached P none (lowered S look T)
+      pub lowered-reached : (T : Ranks) → Attained P none T → Attained P none (lowered S look T)
       unfolding lowered
       lowered-reached T reached c lt =
           ⊎-elim (λ e. subst (P c) (sym e) (reached c (omega arith)))
           (λ (i, l, e). subst (P c) (sym e) (keeps T reached c i l (omega arith)))
           (least-cases (λ i. suc (look T (alternativeOf S c i))) (T c) (length (alternativesOf S c)))
 
-      pub start-reached : (n : ℕ) → Reached P none (inList (replicate n none))
+      pub start-reached : (n : ℕ) → Attained P none (inList (replicate n none))
       start-reached n c lt = let e = start-unranked n c in absurd (omega arith)
 
-      list-reached : (v : Ranks) → Reached P none v → Reached P none (inList (listBelow v (length S)))
+      list-reached : (v : Ranks) → Attained P none v → Attained P none (inList (listBelow v (length S)))
       list-reached v reached c lt = go (decLt c (length S))
         where
           go : Dec (c < length S) → P c (inList (listBelow v (length S)) c)
@@ -150,14 +150,14 @@ module _ (S : List Sequence) (look : Look) where
               let e = List·getD-eq-default (listBelow v (length S)) none {n = c} (omega arith) in
               absurd (omega arith)
 
-      rounds-reached : (n : ℕ) (T : List ℕ) → Reached P none (inList T) → Reached P none (inList (rounds S look none n T))
+      rounds-reached : (n : ℕ) (T : List ℕ) → Attained P none (inList T) → Attained P none (inList (rounds S look none n T))
       rounds-reached zero T reached = unfold rounds in reached
       rounds-reached (suc n) T reached =
           ⊎-elim
           (λ (s, fewer). rw s (rounds-reached n (round S look none T) (unfold round in list-reached (lowered S look (inList T)) (lowered-reached (inList T) reached))))
           (λ (s, same). rw s reached) (rounds-step n T)
 
-      pub ranks-reached : Reached P none (inList (ranks S look none))
+      pub ranks-reached : Attained P none (inList (ranks S look none))
       unfolding ranks
       ranks-reached =
           rounds-reached (length S * none) (listBelow (λ c. none) (length S))

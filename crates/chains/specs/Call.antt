@@ -5,7 +5,7 @@ use mathlib.Core.Bool.{cond}
 use mathlib.Core.List.{List, _++_}
 use lib.ListN.{length, drop}
 use lib.Dec.{leb, ltb}
-use Rattle.reader.specs.Checked.{checked}
+use Rattle.rules.specs.Checked.{checked}
 use Rattle.library.specs.Library.{Library, libraryOf}
 use Rattle.image.specs.declared.answer.Head.{Head}
 use Rattle.image.specs.declared.answer.Refusal.{Refusal}

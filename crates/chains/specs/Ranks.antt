@@ -31,8 +31,8 @@ module _ (S : List Sequence) (look : Look) where
   lowered T c = leastBelow (λ i. suc (look T (alternativeOf S c i))) (T c) (length (alternativesOf S c))
 
   -- no look at an alternative lowers a rank
-  abbrev pub Closed : Ranks → Type 0
-  Closed T = (c i : ℕ) → i < length (alternativesOf S c) → T c ≤ suc (look T (alternativeOf S c i))
+  abbrev pub Unlowered : Ranks → Type 0
+  Unlowered T = (c i : ℕ) → i < length (alternativesOf S c) → T c ≤ suc (look T (alternativeOf S c i))
 
   module _ (none : ℕ) where
     -- one round: every rank lowered by the ranks as they stand, as a list that is computed once
@@ -135,5 +135,5 @@ pub record Linked (L : Library) (q : Question) (f c n : ℕ) : Type 0 where
   pub links : length chain ≤ n
 
 -- each rank below `none` is reached
-abbrev pub Reached : (ℕ → ℕ → Type 0) → ℕ → Ranks → Type 0
-Reached P none T = (c : ℕ) → T c < none → P c (T c)
+abbrev pub Attained : (ℕ → ℕ → Type 0) → ℕ → Ranks → Type 0
+Attained P none T = (c : ℕ) → T c < none → P c (T c)

@@ -7,7 +7,7 @@ use mathlib.Core.List.{List}
 use lib.ListN.{length, getD}
 use Rattle.image.specs.Word.{payload}
 use Rattle.image.specs.Answer.{checkedAnswer}
-use Rattle.reader.specs.Checked.{checked, firstWord}
+use Rattle.rules.specs.Checked.{checked, firstWord}
 use Rattle.library.specs.Library.{Library, libraryOf, Item}
 use Rattle.image.specs.declared.answer.Head.{Head}
 use Rattle.image.specs.declared.answer.Refusal.{Refusal}

@@ -4,7 +4,7 @@ use Prim.Native.Nat.{ℕ}
 use mathlib.Core.List.{List}
 use lib.ListN.{length}
 use Rattle.image.specs.Answer.{checkedAnswer}
-use Rattle.reader.specs.Checked.{checked}
+use Rattle.rules.specs.Checked.{checked}
 use Rattle.card.specs.Answer.{cardsOf, cardArea, cardsAnswer}
 use Rattle.chains.specs.Call.{Reply, chained, areaAfter}
 use Rattle.question.specs.Reply.{replyNumber}

@@ -1,3 +1,4 @@
 pub mod Bools
 pub mod Scan
 pub mod Tests
+pub mod Numbers

@@ -5,6 +5,20 @@ use mathlib.Core.List.{List, [], _∷_}
 use lib.Dec.{leb, eqb}
 use Rattle.image.specs.declared.answer.Head.{Head}
 
+-- "fewer than 2 or more than 8,192 words" are refused
+abbrev pub mostWords : ℕ
+mostWords = 8192
+
+-- "1 to 64" facts, "0 to 1,024" steps and "0 to 256" sequences: the most that a head counts
+abbrev pub mostFacts : ℕ
+mostFacts = 64
+
+abbrev pub mostSteps : ℕ
+mostSteps = 1024
+
+abbrev pub mostSequences : ℕ
+mostSequences = 256
+
 -- "Bits 31 to 28 are the kind; the low 28 bits are the payload, an unsigned number."
 abbrev pub kind : ℕ → ℕ
 kind w = w / 2 ^ 28
@@ -48,7 +62,7 @@ headOf w = record { facts = payload w % 2 ^ 7; steps = payload w / 2 ^ 7 % 2 ^ 1
 abbrev pub headRight : ℕ → Bool
 headRight w =
     isKind 1 w
-    && (leb 1 (headOf w .facts) && leb (headOf w .facts) 64)
-    && leb (headOf w .steps) 1024
-    && leb (headOf w .sequences) 256
+    && (leb 1 (headOf w .facts) && leb (headOf w .facts) mostFacts)
+    && leb (headOf w .steps) mostSteps
+    && leb (headOf w .sequences) mostSequences
     && eqb (payload w / 2 ^ 27) 0

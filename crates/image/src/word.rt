@@ -36,7 +36,12 @@ pub const KIND_SUM: u32 = 15;
 // An alternative's opener: its payload is 0.
 pub const ALTERNATIVE_WORD: u32 = 0x70000000;
 
-// The most words of an image, and the most that its head counts.
+// How many words are looked at at once, where they can be.
+pub const AT_ONCE: usize = 4;
+
+// The fewest and the most words of an image, and the most that its head counts.
+pub const FEWEST_WORDS: usize = 2;
+
 pub const MOST_WORDS: usize = 8192;
 
 pub const MOST_FACTS: u32 = 64;

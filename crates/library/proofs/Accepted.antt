@@ -16,8 +16,8 @@ use mir.Val.{boolByte}
 use Rattle.image.specs.Word.{kind, payload, isKind, isFact, isEntry, headOf, headRight, sumRight}
 use Rattle.rules.specs.Rules.{opened, earlier, mayStand, whereKind, payloadRight, inOrder, faultAt}
 use Rattle.rules.specs.Quick.{after}
-use Rattle.reader.specs.Checked.{atWord, scan, allButLast, between, firstWord, lastWord, checked}
-use Rattle.reader.specs.Walk.{walk, opening}
+use Rattle.rules.specs.Checked.{atWord, scan, allButLast, between, firstWord, lastWord, checked}
+use Rattle.rules.specs.Walk.{walk, opening}
 use Rattle.library.specs.Library.{step, item, call, factsFrom, stepsFrom, alternativesFrom, sequencesFrom, beforeSequences, fromSequences, stepsPart, sequencesPart, libraryOf}
 use Rattle.library.specs.Walk.{entryOf}
 use Rattle.general.specs.Tests.{All}
@@ -33,7 +33,7 @@ use Rattle.rules.specs.declared.rules.Fault.the-variants.{Found, Nothing}
 use Rattle.general.proofs.Bools.{and-left, and-right, or-cases, or-five, and-six}
 use Rattle.image.proofs.Entries.{entry-kinds}
 use Rattle.library.proofs.Decode.{is, is-not, kind-is, alternatives-all, parts-opened, parts-joined, steps-length, sequences-length}
-use Rattle.reader.proofs.Read.{checked-walk}
+use Rattle.rules.proofs.Checked.{checked-walk}
 use Rattle.library.proofs.Seam.{length-between}
 
 -- ---- an answer that is no refusal

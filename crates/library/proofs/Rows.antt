@@ -23,7 +23,7 @@ use Rattle.image.specs.declared.answer.Head.{Head}
 use Rattle.library.specs.declared.tables.Masks.{Masks}
 use Rattle.library.proofs.Decode.{kind-is, steps-open, steps-skip, facts-here, facts-other, facts-end}
 use Rattle.library.proofs.Lookup.{mask-none}
-use Rattle.reader.proofs.Walk.{opened-snoc}
+use Rattle.rules.proofs.Checked.{opened-snoc}
 
 -- ---- lists
 

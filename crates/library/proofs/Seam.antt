@@ -9,10 +9,10 @@ use mathlib.Core.List.{List, [], _∷_}
 use lib.ListN.{length, getD, take, drop, length-append, length-take, length-drop}
 use lib.Seq.{drop-cons, drop-length, take-append-seam, drop-append-seam}
 use Rattle.image.specs.Word.{isKind}
-use Rattle.reader.specs.Checked.{between}
+use Rattle.rules.specs.Checked.{between}
 use Rattle.library.specs.Library.{beforeSequences, fromSequences, stepsPart, sequencesPart}
 use Rattle.library.specs.Seam.{Passed, NoneOpens}
-use Rattle.reader.proofs.Read.{whole-rest}
+use Rattle.general.proofs.Numbers.{whole-rest}
 use Rattle.library.proofs.Decode.{parts-joined}
 
 pub length-between : (image : List ℕ) → length (between image) ≡ length image - 2

@@ -8,7 +8,7 @@ use Rattle.general.specs.Tests.{All}
 use Rattle.image.specs.Word.{kind, payload, headOf}
 use Rattle.image.specs.Answer.{headPayload}
 use Rattle.rules.specs.Rules.{opened, earlier, faultAt}
-use Rattle.reader.specs.Checked.{firstWord}
+use Rattle.rules.specs.Checked.{firstWord}
 use Rattle.library.specs.Library.{Step, Entry, step, item, call, Library, stepsPart, sequencesPart}
 use Rattle.image.specs.declared.answer.Head.{Head}
 use Rattle.rules.specs.declared.rules.Fault.the-variants.{Nothing}

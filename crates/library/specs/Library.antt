@@ -9,7 +9,7 @@ use mathlib.Core.Bool.{Bool, false, cond, _||_}
 use mathlib.Core.List.{List, [], _∷_}
 use lib.Dec.{eqb}
 use Rattle.image.specs.Word.{payload, isKind, isFact, isEntry, headOf}
-use Rattle.reader.specs.Checked.{firstWord, between}
+use Rattle.rules.specs.Checked.{firstWord, between}
 
 -- "Kinds 2, 3 and 4 follow a step's opener: the step needs, sets or clears the fact with that number"
 pub record Step : Type 0 where

@@ -1,16 +1,14 @@
 // The two parts of an accepted image: the steps' part and the sequences' part, each a slice that begins where they begin.
+use image::word::AT_ONCE;
 use image::word::KIND_SEQUENCE;
 use image::word::is_kind;
 ghost use mathlib.Core.Path.{_≡_};
 ghost use mathlib.Core.Bool.{true};
 ghost use Prim.Native.Nat.{_+_, _≤_};
 ghost use lib.ListN.{length};
-ghost use Rattle.reader.specs.Checked.{between};
+ghost use Rattle.rules.specs.Checked.{between};
 ghost use Rattle.library.specs.Library.{beforeSequences, stepsPart, sequencesPart};
 ghost use Rattle.library.specs.Seam.{Passed, NoneOpens};
-
-// How many words one test looks at.
-pub const AT_ONCE: usize = 4;
 
 // Whether none of the four words from index `at` on opens a sequence. One test without a way out, so that it compiles to vector code.
 pub fn none_opens(words: &[u32], at: usize) -> bool

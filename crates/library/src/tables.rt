@@ -1,8 +1,8 @@
 // Tables made of the parts of an accepted image, in lent areas: the steps' masks, and where each sequence stands. Both are written from the
 // last word to the first, since a step's facts stand after its opener.
-use crate::parts::AT_ONCE;
 use crate::parts::none_opens;
 use image::answer::Head;
+use image::word::AT_ONCE;
 use image::word::KIND_NEEDS;
 use image::word::KIND_SEQUENCE;
 use image::word::KIND_SETS;
@@ -13,7 +13,7 @@ ghost use mathlib.Core.Path.{_≡_};
 ghost use mathlib.Core.List.{_++_};
 ghost use Prim.Native.Nat.{_+_, _*_, _≤_, _<_};
 ghost use lib.ListN.{length, drop};
-ghost use Rattle.image.specs.Word.{payload};
+ghost use Rattle.image.specs.Word.{payload, mostFacts};
 ghost use Rattle.library.specs.Library.{stepsFrom};
 ghost use Rattle.library.specs.Tables.{maskWords, masks, placesFrom, withWord, withRow, NoPlaces, StepsAsked, SequencesAsked};
 
@@ -29,7 +29,7 @@ pub struct Masks {
 
 // A fact word's fact added to the masks of the fact words after it.
 fn with_word(m: Masks, w: u32) -> Masks
-    requires { ⌜ payload w < 64 ⌝ }
+    requires { ⌜ payload w < mostFacts ⌝ }
     ensures { λ r. ⌜ r ≡ withWord m w ⌝ }
 {
     let f = payload_of(w);

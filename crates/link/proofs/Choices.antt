@@ -17,7 +17,7 @@ use Rattle.general.specs.Scan.{every}
 use Rattle.chains.specs.Link.{Link, touchLink}
 use Rattle.chains.specs.Stands.{entryAt}
 use Rattle.rank.specs.Walk.{tailFrom, positionFrom, linkFrom, alternativeFrom}
-use Rattle.rank.specs.Tables.{entryNumber, rankIn, passIn, traitsIn, AlternativeRead}
+use Rattle.rank.specs.Tables.{entryNumber, rankIn, passIn, traitsIn, AlternativeRanked}
 use Rattle.link.specs.Choice.{linkIn, Chosen}
 use Rattle.rank.specs.declared.entry.Traits.{Traits}
 use Rattle.rank.specs.declared.read.Read.{Read}
@@ -31,7 +31,7 @@ use Rattle.rank.proofs.Walk.{tail-from}
 pub tail-cons : (test : Entry → Bool) (i start : ℕ) (e : Entry) (es : List Entry) (b : Bool) → test e ≡ b
     → tailFrom test i start (e ∷ es) ≡ tailFrom test (i + 1) (cond b start (i + 1)) es
 unfolding tailFrom
-tail-cons test i start e es b told = rw (add-one i) (ap (λ (x : Bool). tailFrom test (suc i) (cond x start (suc i)) es) told)
+tail-cons test i start e es b byRank = rw (add-one i) (ap (λ (x : Bool). tailFrom test (suc i) (cond x start (suc i)) es) byRank)
 
 -- ---- the first position of an alternative
 
@@ -75,7 +75,7 @@ module _ (none : ℕ) (ahead behind ranks part : List ℕ) (k : ℕ) where
     -- an entry, with its traits, where `quiet` is the index from which on all entries pass as those behind
     module _ (quiet : ℕ) (quieted : quiet ≡ tailFrom (passIn none behind) s s entries) (ok : Bool) (i : ℕ) (here : Placing ok i)
         (e : isEntry (getD part i 0) ≡ true) (t : Traits)
-        (told : t ≡ traitsIn none ahead behind ranks (entryOf (getD part i 0))) where
+        (byRank : t ≡ traitsIn none ahead behind ranks (entryOf (getD part i 0))) where
       abbrev entry : Entry
       entry = entryOf (getD part i 0)
 
@@ -103,10 +103,10 @@ module _ (none : ℕ) (ahead behind ranks part : List ℕ) (k : ℕ) where
       position-here b taken =
           let test : ((ok && every (passIn none behind) later) && leb (rank entry) k) ≡ b =
           ap (λ (x : Bool). (ok && x) && leb (rank entry) k) (sym behind-passes)
-          ∙ ap (λ (x : Traits). (ok && leb quiet (i + 1)) && leb (x .rank) k) (sym told)
+          ∙ ap (λ (x : Traits). (ok && leb quiet (i + 1)) && leb (x .rank) k) (sym byRank)
           ∙ taken in
           ap (λ (x : Bool). cond x (i - s) (position (ok && passIn none ahead entry) (suc (i - s)) later)) test
-          ∙ ap (λ (x : Traits). cond b (i - s) (position (ok && x .ahead) (suc (i - s)) later)) (sym told)
+          ∙ ap (λ (x : Traits). cond b (i - s) (position (ok && x .ahead) (suc (i - s)) later)) (sym byRank)
 
       pub placing-turn : Taken ≡ false → Placing (ok && t .ahead) (i + 1)
       placing-turn taken =
@@ -217,12 +217,12 @@ module _ (none : ℕ) (ahead behind ranks part : List ℕ) (k : ℕ) where
           → t ≡ traitsIn none ahead behind ranks (entryOf (getD part j 0)) → (ok && leb quiet (j + 1)) && leb (t .rank) k ≡ true
           → Chosen none ahead behind ranks part at k (record { alternative = alternative; position = j - (i + 1); entry = payload (getD part j 0) })
       unfolding linkIn
-      choosing-found e quiet quieted ok j placed e′ t told taken =
+      choosing-found e quiet quieted ok j placed e′ t byRank taken =
           let es = entriesFrom (drop (i + 1) part) in
           let more = alternativesFrom (drop (i + 1) part) in
           let l = walking-opener-inside (here .walk 0) e in
           let l′ = folding-inside placed e′ in
-          let found = placing-found (i + 1) quiet quieted ok j placed e′ t told taken in
+          let found = placing-found (i + 1) quiet quieted ok j placed e′ t byRank taken in
           let opened : (c : ℕ) → left (here .read) c (es ∷ more) ≡ all c = λ c. walking-here (here .walk c) e in
           record {
             link = λ c.
@@ -257,13 +257,13 @@ module _ (value : Alternative → ℕ) (part : List ℕ) (k at : ℕ) where
     pub picking-skip : isKind 7 (getD part i 0) ≡ false → isEntry (getD part i 0) ≡ true → Picking alternative (i + 1)
     picking-skip e f = record { low = omega (arith, here .low); walk = walking-skip (here .walk) e f }
 
-    module _ (e : isKind 7 (getD part i 0) ≡ true) (r : Read) (read : AlternativeRead value part (i + 1) r) where
+    module _ (e : isKind 7 (getD part i 0) ≡ true) (r : Read) (read : AlternativeRanked value part (i + 1) r) where
       -- the alternative that stands here, by whether it is chosen
       one : (b : Bool) → leb (r .value) k ≡ b → (alts : List Alternative)
           → after alternative (entriesFrom (drop (i + 1) part) ∷ alts) ≡ cond b alternative (after (suc alternative) alts)
       unfolding alternativeFrom
-      one b told alts =
-          ap (λ (x : Bool). cond x alternative (after (suc alternative) alts)) (ap (λ (x : ℕ). leb x k) (sym (read .value)) ∙ told)
+      one b byRank alts =
+          ap (λ (x : Bool). cond x alternative (after (suc alternative) alts)) (ap (λ (x : ℕ). leb x k) (sym (read .value)) ∙ byRank)
 
       pub picking-turn : k < r .value → Picking (alternative + 1) (r .next)
       picking-turn lt =

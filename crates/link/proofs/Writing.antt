@@ -14,7 +14,7 @@ use Rattle.image.specs.Word.{payload, isKind}
 use Rattle.general.specs.Tests.{All}
 use Rattle.library.specs.Library.{Entry, step, item, call, alternativesFrom}
 use Rattle.library.specs.Walk.{entryOf, alternativesAt}
-use Rattle.question.specs.Answer.{linkLength, linkCount, told, shownLinks}
+use Rattle.question.specs.Answer.{linkLength, linkCount, byRank, shownLinks}
 use Rattle.chains.specs.Link.{Link, touchLink, choiceWord, linkWords, chainWords}
 use Rattle.chains.specs.Stands.{entryAt}
 use Rattle.rank.specs.Tables.{entryNumber, depthIn}
@@ -203,7 +203,7 @@ module _ (q : Asked) (ahead behind ranks part places : List ℕ) (c rank count :
       (cond (leb (linkLength * cond b 1 rank) (length before)) (Chained.Shown (record { count = cond b 1 rank })) (Chained.Refused ChainArea)) Chained.None
 
   by-mark : (b : Bool) → eqb (q .mark) 2 ≡ b → Answered (known rank b) before (found b) after
-      → Answered (answerIn q ahead behind ranks part places c) before (told q rank (length before)) after
+      → Answered (answerIn q ahead behind ranks part places c) before (byRank q rank (length before)) after
   unfolding answerIn
   by-mark b mark answered =
       subst (λ (x : Chained). Answered (answerIn q ahead behind ranks part places c) before x after) (ap found (sym mark))
@@ -213,7 +213,7 @@ module _ (q : Asked) (ahead behind ranks part places : List ℕ) (c rank count :
   count-by b mark = counted ∙ ap (λ (x : Bool). cond (ltb rank (q .none) && leb (linkLength * cond x 1 rank) (length before)) (cond x 1 rank) 0) mark
 
   pub answered-quiet : q .mark ≡ 2 → after ≡ quietWords (q .none) ranks part places count c before
-      → Answered (answerIn q ahead behind ranks part places c) before (told q rank (length before)) after
+      → Answered (answerIn q ahead behind ranks part places c) before (byRank q rank (length before)) after
   answered-quiet two words =
       let mark = eq-eqb (q .mark) 2 two in
       by-mark true mark
@@ -226,7 +226,7 @@ module _ (q : Asked) (ahead behind ranks part places : List ℕ) (c rank count :
       go false = refl
 
   pub answered-links : q .mark ≢ 2 → after ≡ chainWords (linksIn (q .none) ahead behind ranks part places count c) ++ drop (linkLength * count) before
-      → Answered (answerIn q ahead behind ranks part places c) before (told q rank (length before)) after
+      → Answered (answerIn q ahead behind ranks part places c) before (byRank q rank (length before)) after
   unfolding linksIn chainWords
   answered-links other words =
       let mark = ne-eqb (q .mark) 2 other in

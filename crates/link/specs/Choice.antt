@@ -11,7 +11,7 @@ use Rattle.chains.specs.Link.{Link, touchLink, untouchedLink, Chain, chainWords
 use Rattle.question.specs.declared.asked.Asked.{Asked}
 use Rattle.chains.specs.Stands.{entryAt}
 use Rattle.rank.specs.Walk.{linkFrom, alternativeFrom}
-use Rattle.rank.specs.Tables.{entryNumber, rankIn, passIn, depthIn, Readable}
+use Rattle.rank.specs.Tables.{entryNumber, rankIn, passIn, depthIn, RanksReadable}
 use Rattle.chains.specs.Answer.{Answer, shown}
 use Rattle.chains.specs.Answer as known
 use Rattle.link.specs.declared.link.Choice.{Choice}
@@ -40,7 +40,7 @@ pub record Opened (part places : List ℕ) : Type 0 where
 
 -- what the words of a chain ask of the tables
 pub record Choosable (none : ℕ) (ahead behind ranks part places : List ℕ) : Type 0 where
-  pub readable : Readable none ahead behind ranks part
+  pub readable : RanksReadable none ahead behind ranks part
   pub opened : Opened part places
 
 module _ (none : ℕ) (ahead behind ranks part places : List ℕ) where

@@ -11,9 +11,10 @@ ghost use mathlib.Core.Path.{_≡_};
 ghost use mathlib.Core.Bool.{cond};
 ghost use Prim.Native.Nat.{_+_, _≤_, _<_};
 ghost use lib.ListN.{length, drop};
+ghost use Rattle.image.specs.Word.{mostWords};
 ghost use Rattle.library.specs.Library.{entriesFrom, alternativesFrom};
 ghost use Rattle.rank.specs.Walk.{tailFrom, alternativeFrom};
-ghost use Rattle.rank.specs.Tables.{passIn, depthIn, Rankable, Readable};
+ghost use Rattle.rank.specs.Tables.{passIn, depthIn, Rankable, RanksReadable};
 ghost use Rattle.link.specs.Choice.{Chosen};
 
 // An alternative, the position of an entry there, and the number that the entry names.
@@ -60,7 +61,7 @@ pub fn chosen_link(
     at: usize,
     k: u32,
 ) -> Choice
-    requires { ⌜ Readable none (now ahead) (now behind) (now ranks) (now part) × (at ≤ length (now part)) × (length (now part) ≤ 8192) ⌝ }
+    requires { ⌜ RanksReadable none (now ahead) (now behind) (now ranks) (now part) × (at ≤ length (now part)) × (length (now part) ≤ mostWords) ⌝ }
     ensures { λ r. ⌜ Chosen none (now (ahead .entry)) (now (behind .entry)) (now (ranks .entry)) (now (part .entry)) at k r ⌝ }
 {
     let mut alternative = 0;
@@ -102,8 +103,8 @@ pub fn chosen_link(
 
 // The first alternative whose greatest depth is no more than `k`, among those that stand from index `at` on.
 pub fn chosen_alternative(none: u32, ranks: &[u32], part: &[u32], at: usize, k: u32) -> u32
-    requires { ⌜ Rankable none (now ranks) (now part) × (at ≤ length (now part)) × (length (now part) ≤ 8192) ⌝ }
-    ensures { λ r. ⌜ (r ≡ alternativeFrom (depthIn none (now (ranks .entry))) k 0 (alternativesFrom (drop at (now (part .entry))))) × (r ≤ 8192) ⌝ }
+    requires { ⌜ Rankable none (now ranks) (now part) × (at ≤ length (now part)) × (length (now part) ≤ mostWords) ⌝ }
+    ensures { λ r. ⌜ (r ≡ alternativeFrom (depthIn none (now (ranks .entry))) k 0 (alternativesFrom (drop at (now (part .entry))))) × (r ≤ mostWords) ⌝ }
 {
     let mut alternative = 0;
     let mut i = at;

@@ -13,7 +13,7 @@ ghost use mathlib.Core.List.{_++_};
 ghost use Prim.Native.Nat.{_+_, _*_, _^_, _≤_, _<_, pred};
 ghost use lib.ListN.{length, getD, drop};
 ghost use Rattle.chains.specs.Link.{chainWords};
-ghost use Rattle.question.specs.Answer.{linkLength, told};
+ghost use Rattle.question.specs.Answer.{linkLength, byRank};
 ghost use Rattle.rank.specs.Tables.{Rankable};
 ghost use Rattle.link.specs.Choice.{Opened, Choosable, linksIn, quietWords, answerIn};
 ghost use Rattle.question.specs.Reply.{Answered};
@@ -97,7 +97,7 @@ pub fn write_chain(
     c: u32,
 ) -> u32
     requires { ⌜ Choosable (q .none) (now ahead) (now behind) (now ranks) (now part) (now places) × (c < 2 ^ 28) × (c < length (now ranks)) ⌝ }
-    ensures { λ r. ⌜ Answered (answerIn q (now (ahead .entry)) (now (behind .entry)) (now (ranks .entry)) (now (part .entry)) (now (places .entry)) c) (now (area .entry)) (told q r (length (now (area .entry)))) (now (area .exit)) ⌝ }
+    ensures { λ r. ⌜ Answered (answerIn q (now (ahead .entry)) (now (behind .entry)) (now (ranks .entry)) (now (part .entry)) (now (places .entry)) c) (now (area .entry)) (byRank q r (length (now (area .entry)))) (now (area .exit)) ⌝ }
 {
     let rank = ranks[c as usize];
     let count = shown_links(q, rank, area.len());

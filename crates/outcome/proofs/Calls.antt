@@ -13,10 +13,10 @@ use Rattle.library.specs.Walk.{alternativesAt}
 use Rattle.general.specs.Tests.{All}
 use Rattle.outcome.specs.Walks.{entryIn, joinedFrom, alternativeIn, unitedFrom}
 use Rattle.outcome.specs.Visited.{visitedRow, visited}
-use Rattle.settling.specs.Stale.{calls}
+use Rattle.callers.specs.Callers.{calls}
 use Rattle.row.specs.declared.words.Row.{Row}
 use Rattle.outcome.proofs.Stores.{rows-again, row-same, row-other, row-again}
-use Rattle.settling.proofs.Calls.{calls-all}
+use Rattle.callers.proofs.Calls.{calls-all}
 use Rattle.settling.proofs.Stale.{Local}
 
 -- ---- two tables with the same rows of the sequences called

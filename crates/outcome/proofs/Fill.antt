@@ -16,23 +16,23 @@ use Rattle.library.proofs.Lookup.{mask-low}
 use Rattle.library.proofs.Rows.{all-at}
 use Rattle.runs.specs.Execution.{noStep}
 use Rattle.row.specs.Words.{rowWords, allFacts, stepRow, rowIn}
-use Rattle.settling.specs.Passes.{Blank, Settles}
-use Rattle.settling.specs.Stale.{Scheduled}
+use Rattle.general.specs.Numbers.{Zeros}
+use Rattle.settling.specs.Settling.{Settles, Scheduled}
 use Rattle.tables.specs.Tables.{Prepared}
-use Rattle.settling.proofs.Visits.{blank-zeros}
-use Rattle.reader.specs.Checked.{accepts}
+use Rattle.general.proofs.Numbers.{zeros}
+use Rattle.rules.specs.Checked.{accepts}
 use Rattle.tables.proofs.Tables as tables
 use Rattle.tables.proofs.Tables.{step-masks, sequences-are, place-is, scheduled}
 use Rattle.outcome.specs.Area.{outcomes, OutcomesAsked}
 use Rattle.outcome.specs.Walks.{StepRows}
-use Rattle.outcome.specs.Visited.{Visitable, visited}
+use Rattle.outcome.specs.Visited.{RowsVisitable, visited}
 use Rattle.outcome.proofs.Bridge.{Stepped}
 use Rattle.outcome.proofs.Filled.{table-filled}
 use Rattle.outcome.proofs.Low.{LowRow, none-low, step-low}
 use Rattle.outcome.proofs.Settled.{Given, blank-row}
 use Rattle.library.specs.Tables.{maskWords}
 
-blank-take : (n : ℕ) (area : List ℕ) → Blank area → Blank (take n area)
+blank-take : (n : ℕ) (area : List ℕ) → Zeros area → Zeros (take n area)
 blank-take zero area blank k = refl
 blank-take (suc n) [] blank k = refl
 blank-take (suc n) (x ∷ xs) blank zero = blank 0
@@ -45,11 +45,11 @@ pub areas-asked : (image : List ℕ) (h : Head) → accepts image h → (steps s
 areas-asked image h accepted steps sequences a c =
     record {
       tables = tables.areas-asked image h accepted steps sequences a c;
-      masks-blank = blank-zeros (maskWords * steps);
+      masks-blank = zeros (maskWords * steps);
       rows-room = omega (arith, length-replicate {A = ℕ} (rowWords * steps) 0);
-      rows-blank = blank-zeros (rowWords * steps);
+      rows-blank = zeros (rowWords * steps);
       room = omega (arith, length-replicate {A = ℕ} (rowWords * sequences) 0);
-      blank = blank-zeros (rowWords * sequences);
+      blank = zeros (rowWords * sequences);
     }
 
 module _ {h : Head} {image ms₀ ps₀ callers₀ order₀ rs₀ table : List ℕ} (asked : OutcomesAsked h image ms₀ ps₀ callers₀ order₀ rs₀ table) where
@@ -102,7 +102,7 @@ module _ {h : Head} {image ms₀ ps₀ callers₀ order₀ rs₀ table : List �
         ]
 
     -- what the passes ask
-    pub settle-asked : Visitable (h .sequences) rs part ps (take (rowWords * h .sequences) table)
+    pub settle-asked : RowsVisitable (h .sequences) rs part ps (take (rowWords * h .sequences) table)
         × Scheduled (h .sequences) part ps callers (take (h .sequences) order)
     settle-asked = (
       record {

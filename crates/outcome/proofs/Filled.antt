@@ -18,7 +18,7 @@ use Rattle.runs.specs.Possible.{columnPossible}
 use Rattle.outcome.specs.Area.{outcomeWord, outcomeRows, outcomes}
 use Rattle.runs.specs.Rows.{columnNumber}
 use Rattle.row.specs.Words.{rowWords, allFacts, rowIn, wordsOf}
-use Rattle.settling.specs.Passes.{Reached, Settled}
+use Rattle.settling.specs.Settling.{Reached, Settled}
 use Rattle.outcome.specs.Visited.{visited}
 use Rattle.row.specs.declared.words.Row.{Row}
 use Rattle.outcome.proofs.Low.{LowRow, none-low, reached-low}

@@ -14,7 +14,7 @@ use Rattle.library.specs.Walk.{alternativesAt}
 use Rattle.row.specs.Words.{rowWords, allFacts, noRow, startRow, notWord, stepMarks, stepRow, laterMarks, joinRows, orMarks, orRows, liveRow, rowIn}
 use Rattle.outcome.specs.Walks.{entryIn, joinedFrom, alternativeIn, unitedFrom}
 use Rattle.outcome.specs.Visited.{visited}
-use Rattle.settling.specs.Passes.{Reached, here, next}
+use Rattle.settling.specs.Settling.{Reached, here, next}
 use Rattle.row.specs.declared.words.Marks.{Marks}
 use Rattle.row.specs.declared.words.Row.{Row}
 use Rattle.outcome.proofs.Stores.{row-same, row-other}

@@ -25,7 +25,7 @@ use Rattle.runs.specs.Rows.{Row, columnNumber, readRow, GoodRow, GoodRows, Clos
 use Rattle.row.specs.Words.{rowWords, allFacts, noRow, orRows, rowIn, bitRow}
 use Rattle.outcome.specs.Walks.{unitedFrom}
 use Rattle.outcome.specs.Visited.{visited}
-use Rattle.settling.specs.Passes.{Reached, here, next, Settled}
+use Rattle.settling.specs.Settling.{Reached, here, next, Settled}
 use Rattle.row.specs.declared.words.Row as words
 use Rattle.outcome.proofs.Bridge.{Stepped, tableBits, united-bits}
 use Rattle.runs.proofs.Rows.{by-column, columnNumber-below, none-good, or-good, read-good, rows-possible}

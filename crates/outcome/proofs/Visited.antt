@@ -11,8 +11,8 @@ use Rattle.row.specs.Words.{rowWords, noRow, rowIn, withRow, sameRows}
 use Rattle.settling.proofs.Visits.{Lowers}
 use Rattle.library.specs.Walk.{alternativesAt}
 use Rattle.outcome.specs.Walks.{unitedFrom}
-use Rattle.settling.specs.Passes.{Visit}
-use Rattle.outcome.specs.Visited.{lacking, Visitable, visitedRow, visited}
+use Rattle.settling.specs.Settling.{Visit}
+use Rattle.outcome.specs.Visited.{lacking, RowsVisitable, visitedRow, visited}
 use Rattle.outcome.proofs.Stores.{Fitting, row-length, row-again, rows-equal, lacking-least, lacking-falls}
 
 module _ (all : ℕ) (steps part places : List ℕ) where
@@ -36,7 +36,7 @@ module _ (all : ℕ) (steps part places : List ℕ) where
       }
 
 -- areas of the same lengths can be visited too
-pub visitable-at : {n : ℕ} {steps part places t : List ℕ} (s : List ℕ) → length s ≡ length t → Visitable n steps part places t → Visitable n steps part places s
+pub visitable-at : {n : ℕ} {steps part places t : List ℕ} (s : List ℕ) → length s ≡ length t → RowsVisitable n steps part places t → RowsVisitable n steps part places s
 visitable-at s e v =
     record {
       readable = λ i l. let w = v .readable i l in (w .0, λ k. omega (arith, w .1 k));

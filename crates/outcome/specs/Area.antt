@@ -7,7 +7,7 @@ use Rattle.library.specs.Library.{Library}
 use Rattle.image.specs.declared.answer.Head.{Head}
 use Rattle.column.specs.Column.{column}
 use Rattle.runs.specs.Possible.{columnPossible}
-use Rattle.settling.specs.Passes.{Blank}
+use Rattle.general.specs.Numbers.{Zeros}
 use Rattle.tables.specs.Tables.{TablesAsked}
 use Rattle.row.specs.Words.{rowWords}
 
@@ -32,8 +32,8 @@ outcomes L = outcomeRows L 0 (length (L .sequences))
 -- what the table asks: the areas that every call starts from, and room for eight words a step and eight a sequence. Each is blank
 pub record OutcomesAsked (h : Head) (image ms ps callers order rows table : List ℕ) : Type 0 where
   pub tables : TablesAsked h image ms ps callers order
-  pub masks-blank : Blank ms
+  pub masks-blank : Zeros ms
   pub rows-room : rowWords * h .steps ≤ length rows
-  pub rows-blank : Blank rows
+  pub rows-blank : Zeros rows
   pub room : rowWords * h .sequences ≤ length table
-  pub blank : Blank table
+  pub blank : Zeros table

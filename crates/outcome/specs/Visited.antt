@@ -4,7 +4,7 @@ use mathlib.Core.List.{List, [], _∷_}
 use lib.ListN.{length, getD}
 use Rattle.library.specs.Walk.{alternativesAt}
 use Rattle.row.specs.Words.{rowWords, noRow, orRows, rowIn, withRow}
-use Rattle.outcome.specs.Walks.{Readable, unitedFrom}
+use Rattle.outcome.specs.Walks.{RowsReadable, unitedFrom}
 use Rattle.row.specs.declared.words.Row.{Row}
 
 -- how much the words lack to the greatest number: what falls while the table grows
@@ -13,8 +13,8 @@ lacking [] = 0
 lacking (x ∷ xs) = 2 ^ 64 - 1 - x + lacking xs
 
 -- what a visit of the sequences below n asks of the areas
-pub record Visitable (n : ℕ) (steps part places table : List ℕ) : Type 0 where
-  pub readable : Readable steps table part
+pub record RowsVisitable (n : ℕ) (steps part places table : List ℕ) : Type 0 where
+  pub readable : RowsReadable steps table part
   pub rows : rowWords * n ≤ length table
   pub placed : n ≤ length places
   pub within : (c : ℕ) → c < n → getD places c 0 < length part

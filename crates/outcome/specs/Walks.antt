@@ -13,12 +13,12 @@ use Rattle.outcome.specs.declared.read.Read.{Read}
 use Rattle.library.specs.Tables.{maskWords}
 
 -- an entry names a row of the steps' table or of the table of outcomes
-abbrev pub Within : List ℕ → List ℕ → ℕ → Type 0
-Within steps table w = (kind w ≡ 8 → rowWords * payload w + rowWords ≤ length steps) × (kind w ≡ 9 → rowWords * payload w + rowWords ≤ length table)
+abbrev pub RowWithin : List ℕ → List ℕ → ℕ → Type 0
+RowWithin steps table w = (kind w ≡ 8 → rowWords * payload w + rowWords ≤ length steps) × (kind w ≡ 9 → rowWords * payload w + rowWords ≤ length table)
 
 -- each entry among the words does
-abbrev pub Readable : List ℕ → List ℕ → List ℕ → Type 0
-Readable steps table part = (i : ℕ) → i < length part → Within steps table (getD part i 0)
+abbrev pub RowsReadable : List ℕ → List ℕ → List ℕ → Type 0
+RowsReadable steps table part = (i : ℕ) → i < length part → RowWithin steps table (getD part i 0)
 
 module _ (steps table : List ℕ) where
   -- the row of an entry
@@ -43,7 +43,7 @@ module _ (all : ℕ) (steps table : List ℕ) where
   unitedFrom X (es ∷ alts) = unitedFrom (orRows X (alternativeIn es)) alts
 
   -- what the reader of an alternative promises, whose entries stand from an index on: its row, and where its entries end
-  pub record AlternativeRead (part : List ℕ) (at : ℕ) (r : Read) : Type 0 where
+  pub record AlternativeFolded (part : List ℕ) (at : ℕ) (r : Read) : Type 0 where
     pub row : r .row ≡ alternativeIn (entriesFrom (drop at part))
     pub next : r .next ≡ entriesEnd part at
 

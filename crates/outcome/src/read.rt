@@ -21,7 +21,7 @@ ghost use Rattle.image.specs.Word.{isEntry};
 ghost use Rattle.library.specs.Library.{alternativesFrom};
 ghost use Rattle.library.specs.Walk.{entryOf};
 ghost use Rattle.row.specs.Words.{noRow};
-ghost use Rattle.outcome.specs.Walks.{Within, Readable, entryIn, unitedFrom, AlternativeRead, EmptiesEnd};
+ghost use Rattle.outcome.specs.Walks.{RowWithin, RowsReadable, entryIn, unitedFrom, AlternativeFolded, EmptiesEnd};
 
 // The row of an alternative, and the index of the word after its entries.
 pub struct Read {
@@ -31,7 +31,7 @@ pub struct Read {
 
 // The row of an entry, by the rows of the steps and of the sequences.
 fn entry_row(steps: &[u64], table: &[u64], w: u32) -> Row
-    requires { ⌜ Within (now steps) (now table) w × (isEntry w ≡ true) ⌝ }
+    requires { ⌜ RowWithin (now steps) (now table) w × (isEntry w ≡ true) ⌝ }
     ensures { λ r. ⌜ r ≡ entryIn (now (steps .entry)) (now (table .entry)) (entryOf w) ⌝ }
 {
     if is_kind(KIND_STEP_ENTRY, w) {
@@ -42,8 +42,8 @@ fn entry_row(steps: &[u64], table: &[u64], w: u32) -> Row
 
 // Reads the entries that stand from index `at` on. Where what is read has no run, the entries after it are passed over.
 fn read_alternative(all: u64, steps: &[u64], table: &[u64], part: &[u32], at: usize) -> Read
-    requires { ⌜ Readable (now steps) (now table) (now part) × (at ≤ length (now part)) ⌝ }
-    ensures { λ r. ⌜ AlternativeRead all (now (steps .entry)) (now (table .entry)) (now (part .entry)) at r ⌝ }
+    requires { ⌜ RowsReadable (now steps) (now table) (now part) × (at ≤ length (now part)) ⌝ }
+    ensures { λ r. ⌜ AlternativeFolded all (now (steps .entry)) (now (table .entry)) (now (part .entry)) at r ⌝ }
 {
     let mut x = start(all);
     let mut i = at;
@@ -84,7 +84,7 @@ fn empties_end(part: &[u32], at: usize) -> usize
 // Unites the alternatives that stand from index `at` on, up to the next sequence. An alternative without entries has the row that
 // reading begins with, and where many of them stand in a row it is united once.
 pub fn read_sequence(all: u64, steps: &[u64], table: &[u64], part: &[u32], at: usize) -> Row
-    requires { ⌜ Readable (now steps) (now table) (now part) × (at ≤ length (now part)) ⌝ }
+    requires { ⌜ RowsReadable (now steps) (now table) (now part) × (at ≤ length (now part)) ⌝ }
     ensures { λ r. ⌜ r ≡ unitedFrom all (now (steps .entry)) (now (table .entry)) noRow (alternativesFrom (drop at (now (part .entry)))) ⌝ }
 {
     let mut x = none();

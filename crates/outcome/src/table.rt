@@ -1,5 +1,5 @@
 // The outcome table of a library: for each sequence eight words, worked out for all facts at once from the image's slices.
-use crate::pass::settle;
+use crate::settle::settle;
 use crate::steps::write_step_rows;
 use image::answer::Head;
 use image::word::MOST_SEQUENCES;

@@ -3,6 +3,6 @@ use Prim.Native.Nat.{ℕ, _≤_}
 use Rattle.print_cards.specs.declared.Input.{Input}
 
 -- the bytes read are no more than there is room for
-abbrev pub Within : Input → ℕ → Type 0
-Within (Input.Bytes n) room = n ≤ room
-Within Input.Failed room = Unit {0}
+abbrev pub InputWithin : Input → ℕ → Type 0
+InputWithin (Input.Bytes n) room = n ≤ room
+InputWithin Input.Failed room = Unit {0}

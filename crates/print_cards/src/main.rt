@@ -6,7 +6,7 @@ use libc::STDERR_FILENO;
 use libc::STDIN_FILENO;
 use libc::STDOUT_FILENO;
 ghost use lib.ListN.{length};
-ghost use Rattle.print_cards.specs.Input.{Within};
+ghost use Rattle.print_cards.specs.Input.{InputWithin};
 
 // What reading standard input gives: so many bytes, or a read that failed.
 pub enum Input {
@@ -16,7 +16,7 @@ pub enum Input {
 
 // Reads standard input, in as many pieces as it comes in, until `input` is full or the input ends.
 fn read_input(input: &mut [u8]) -> Input
-    ensures { λ r. ⌜ Within r (length (now (input .exit))) ⌝ }
+    ensures { λ r. ⌜ InputWithin r (length (now (input .exit))) ⌝ }
 {
     let mut n = 0;
     while n < input.len() {

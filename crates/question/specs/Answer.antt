@@ -27,8 +27,8 @@ abbrev pub inRoom : ℕ → ℕ → Chained
 inRoom room count = cond (leb (linkLength * count) room) (Chained.Shown (record { count = count })) (Chained.Refused ChainArea)
 
 -- ""none", exactly when no run has that outcome": the sequence has no rank
-abbrev pub told : Asked → ℕ → ℕ → Chained
-told q rank room = cond (ltb rank (q .none)) (inRoom room (linkCount q rank)) Chained.None
+abbrev pub byRank : Asked → ℕ → ℕ → Chained
+byRank q rank room = cond (ltb rank (q .none)) (inRoom room (linkCount q rank)) Chained.None
 
 -- "the number of links with the words written"
 abbrev pub shownLinks : Asked → ℕ → ℕ → ℕ

@@ -24,6 +24,6 @@ pub record Answered (a : Answer) (before : List ℕ) (found : Chained) (after : 
   pub area : after ≡ areaAfter (inArea (length before) a) before
 
 -- what the chain call does: its answer, and the area after it
-pub record Called (image : List ℕ) (c q f : ℕ) (before : List ℕ) (found : Chained) (after : List ℕ) : Type 0 where
+pub record ChainCalled (image : List ℕ) (c q f : ℕ) (before : List ℕ) (found : Chained) (after : List ℕ) : Type 0 where
   pub answer : found ≡ chainedAs (chained image c q f (length before))
   pub area : after ≡ areaAfter (chained image c q f (length before)) before

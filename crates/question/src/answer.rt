@@ -5,7 +5,7 @@ use crate::words::LINK_WORDS;
 use image::answer::Refusal;
 use image::answer::refusal_answer;
 ghost use mathlib.Core.Path.{_≡_};
-ghost use Rattle.question.specs.Answer.{chainAnswer, linkCount, inRoom, told, shownLinks};
+ghost use Rattle.question.specs.Answer.{chainAnswer, linkCount, inRoom, byRank, shownLinks};
 
 // How many links a chain has.
 pub struct Links {
@@ -51,8 +51,8 @@ fn in_room(room: usize, count: u32) -> Chained
 }
 
 // The reply about a sequence with this rank, in an area of so many words.
-pub fn told_of(q: Asked, rank: u32, room: usize) -> Chained
-    ensures { λ r. ⌜ r ≡ told q rank room ⌝ }
+pub fn answer_by_rank(q: Asked, rank: u32, room: usize) -> Chained
+    ensures { λ r. ⌜ r ≡ byRank q rank room ⌝ }
 {
     if q.none <= rank {
         return Chained::None;

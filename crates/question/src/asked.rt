@@ -3,6 +3,7 @@ use image::answer::Head;
 use image::answer::Refusal;
 ghost use mathlib.Core.Path.{_≡_};
 ghost use Prim.Native.Nat.{_≤_, _<_};
+ghost use Rattle.image.specs.Word.{mostSequences};
 ghost use Rattle.question.specs.Asked.{inRange, outOfRange, questionAsked};
 
 // The last number of a question.
@@ -11,10 +12,20 @@ const LAST_QUESTION: u64 = 5;
 // A side has three questions, one a mark. Those of the last side come first.
 const SIDE_QUESTIONS: u64 = 3;
 
-// The mark "untouched".
+// The marks: the two touches, "untouched", and where only a rank counts.
+pub const PRESENT_MARK: u32 = 0;
+
+pub const ABSENT_MARK: u32 = 1;
+
 pub const UNTOUCHED_MARK: u32 = 2;
 
-// The question: its side, the mark asked for there (0 and 1 for the two touches, 2 for untouched, 3 where only a rank counts), the fact, and what stands for "no rank".
+pub const RUN_MARK: u32 = 3;
+
+// What stands for "no rank" is so much above the number of sequences: a rank is at most that number, and one above a rank is told from "no
+// rank" too.
+pub const NO_RANK_ABOVE: u32 = 2;
+
+// The question: its side, the mark asked for there, the fact, and what stands for "no rank".
 pub struct Asked {
     pub first: bool,
     pub mark: u32,
@@ -44,13 +55,13 @@ pub fn out_of_range(h: Head, sequence: u64, question: u64) -> Refusal
 
 // The question that has this number.
 pub fn read_question(h: Head, question: u64, fact: u64) -> Asked
-    requires { ⌜ (fact < h .facts) × (h .sequences ≤ 256) ⌝ }
+    requires { ⌜ (fact < h .facts) × (h .sequences ≤ mostSequences) ⌝ }
     ensures { λ r. ⌜ r ≡ questionAsked h question fact ⌝ }
 {
     Asked {
         first: SIDE_QUESTIONS <= question,
         mark: (question % SIDE_QUESTIONS) as u32,
         fact: fact as u32,
-        none: h.sequences + 2,
+        none: h.sequences + NO_RANK_ABOVE,
     }
 }

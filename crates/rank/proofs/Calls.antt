@@ -13,8 +13,8 @@ use Rattle.library.specs.Library.{Entry, Alternative}
 use Rattle.library.specs.Walk.{alternativesAt}
 use Rattle.general.specs.Tests.{All}
 use Rattle.general.specs.Scan.{every}
-use Rattle.settling.specs.Stale.{calls}
-use Rattle.settling.proofs.Calls.{calls-all}
+use Rattle.callers.specs.Callers.{calls}
+use Rattle.callers.proofs.Calls.{calls-all}
 use Rattle.settling.proofs.Stale.{Local}
 use Rattle.question.specs.declared.asked.Asked.{Asked}
 use Rattle.rank.specs.Walk.{loweredFrom, depthFrom, fewestFrom}

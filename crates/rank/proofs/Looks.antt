@@ -11,7 +11,7 @@ use borrow.Author.Tests.{eq-eqb, ne-eqb}
 use Rattle.library.specs.Library.{Entry, Alternative, entriesFrom}
 use Rattle.general.specs.Scan.{every}
 use Rattle.rank.specs.Walk.{loweredFrom}
-use Rattle.rank.specs.Tables.{passIn, depthIn, everyIn, fewestIn, lookIn, AlternativeRead}
+use Rattle.rank.specs.Tables.{passIn, depthIn, everyIn, fewestIn, lookIn, AlternativeRanked}
 use Rattle.question.specs.declared.asked.Asked.{Asked}
 use Rattle.rank.specs.declared.read.Read.{Read}
 
@@ -33,19 +33,19 @@ module _ (q : Asked) (ahead behind ranks part : List ℕ) (at : ℕ) (r : Read) 
   abbrev by : Bool → Bool → ℕ
   by b d = cond b (depthIn (q .none) ranks es) (cond d (everyIn (q .none) ranks es) (fewestIn (q .none) ahead behind ranks es))
 
-  look-same : (worth : Alternative → ℕ) → lookIn q ahead behind ranks es ≡ worth es → AlternativeRead worth part at r
-      → AlternativeRead (lookIn q ahead behind ranks) part at r
+  look-same : (worth : Alternative → ℕ) → lookIn q ahead behind ranks es ≡ worth es → AlternativeRanked worth part at r
+      → AlternativeRanked (lookIn q ahead behind ranks) part at r
   look-same worth same read = record { value = read .value ∙ sym same; next = read .next }
 
-  pub look-depth : q .mark ≡ 2 → AlternativeRead (depthIn (q .none) ranks) part at r → AlternativeRead (lookIn q ahead behind ranks) part at r
+  pub look-depth : q .mark ≡ 2 → AlternativeRanked (depthIn (q .none) ranks) part at r → AlternativeRanked (lookIn q ahead behind ranks) part at r
   look-depth e = look-same (depthIn (q .none) ranks) (ap (λ (b : Bool). by b (eqb (q .mark) 3)) (eq-eqb (q .mark) 2 e))
 
-  pub look-every : (q .mark ≡ 2 → ⊥) → q .mark ≡ 3 → AlternativeRead (everyIn (q .none) ranks) part at r
-      → AlternativeRead (lookIn q ahead behind ranks) part at r
+  pub look-every : (q .mark ≡ 2 → ⊥) → q .mark ≡ 3 → AlternativeRanked (everyIn (q .none) ranks) part at r
+      → AlternativeRanked (lookIn q ahead behind ranks) part at r
   look-every e d = look-same (everyIn (q .none) ranks) (ap₂ by (ne-eqb (q .mark) 2 e) (eq-eqb (q .mark) 3 d))
 
-  pub look-links : (q .mark ≡ 2 → ⊥) → (q .mark ≡ 3 → ⊥) → AlternativeRead (fewestIn (q .none) ahead behind ranks) part at r
-      → AlternativeRead (lookIn q ahead behind ranks) part at r
+  pub look-links : (q .mark ≡ 2 → ⊥) → (q .mark ≡ 3 → ⊥) → AlternativeRanked (fewestIn (q .none) ahead behind ranks) part at r
+      → AlternativeRanked (lookIn q ahead behind ranks) part at r
   look-links e d = look-same (fewestIn (q .none) ahead behind ranks) (ap₂ by (ne-eqb (q .mark) 2 e) (ne-eqb (q .mark) 3 d))
 
 -- ---- the alternatives of a sequence

@@ -10,14 +10,14 @@ use lib.Dec.{ltb}
 use borrow.Author.Tests.{ltb-true, ltb-false}
 use Rattle.library.specs.Library.{Sequence, Alternative, alternativesFrom}
 use Rattle.library.specs.Walk.{alternativesAt}
-use Rattle.settling.specs.Passes as passes
+use Rattle.settling.specs.Settling as settling
 use Rattle.runs.specs.Run.{alternativesOf}
 use Rattle.settling.proofs.Visits.{Lowers}
 use Rattle.general.specs.Scan.{total}
 use Rattle.chains.specs.Ranks.{Look}
 use Rattle.rank.specs.Walk.{loweredFrom}
-use Rattle.rank.specs.Visits.{visited, Visits, Settled}
-use Rattle.rank.specs.Tables.{inRanks, lookIn, Rankable, Readable, Visitable, visitedRank, visitedRanks}
+use Rattle.rank.specs.Visits.{visited, Visits, RanksSettled}
+use Rattle.rank.specs.Tables.{inRanks, lookIn, Rankable, RanksReadable, RanksVisitable, visitedRank, visitedRanks}
 use Rattle.question.specs.declared.asked.Asked.{Asked}
 use Rattle.general.proofs.Scan.{getD-inside, total-set}
 use Rattle.rank.proofs.Walk.{lowered-low, lowered-from}
@@ -41,7 +41,7 @@ module _ (q : Asked) (ahead behind part places : List ℕ) where
   -- a visit, from what its code does
   pub visit-made : (T : List ℕ) (c old new : ℕ) (T′ : List ℕ) → c < length T → old ≡ getD T c 0
       → new ≡ loweredFrom (lookIn q ahead behind T) old (alternativesAt part places c) → T′ ≡ set T c new
-      → passes.Visit (visitedRanks q ahead behind part places) total T c T′ (ltb new old)
+      → settling.Visit (visitedRanks q ahead behind part places) total T c T′ (ltb new old)
   visit-made T c old new T′ lt read found written =
       let inside : old ≡ getD T c (q .none) = read ∙ getD-inside T c 0 (q .none) lt in
       let rank : new ≡ visitedRank q ahead behind part places T c =
@@ -65,12 +65,12 @@ rankable-at U e r =
           record { step = λ k. omega (arith, w .step k); sequence = λ k. (w .sequence k .0, omega (arith, w .sequence k .1)) };
     }
 
-pub readable-at : {none : ℕ} {ahead behind T part : List ℕ} (U : List ℕ) → length U ≡ length T → Readable none ahead behind T part
-    → Readable none ahead behind U part
+pub readable-at : {none : ℕ} {ahead behind T part : List ℕ} (U : List ℕ) → length U ≡ length T → RanksReadable none ahead behind T part
+    → RanksReadable none ahead behind U part
 readable-at U e r = record { by-ahead = r .by-ahead; by-behind = r .by-behind; by-ranks = rankable-at U e (r .by-ranks) }
 
-pub visitable-at : {q : Asked} {n : ℕ} {ahead behind T part places : List ℕ} (U : List ℕ) → length U ≡ length T → Visitable q n ahead behind T part places
-    → Visitable q n ahead behind U part places
+pub visitable-at : {q : Asked} {n : ℕ} {ahead behind T part places : List ℕ} (U : List ℕ) → length U ≡ length T → RanksVisitable q n ahead behind T part places
+    → RanksVisitable q n ahead behind U part places
 visitable-at U e v =
     record { readable = readable-at U e (v .readable); low = v .low; ranked = omega (arith, v .ranked); placed = v .placed; within = v .within }
 
@@ -93,25 +93,25 @@ module _ (q : Asked) (ahead behind part places steps : List ℕ) (S : List Seque
   visit-keeps : (T : List ℕ) (c : ℕ) → c < n → drop none (visitedRanks q ahead behind part places T c) ≡ drop none T
   visit-keeps T c lt = drop-set-lt none T c (visitedRank q ahead behind part places T c) (omega arith)
 
-  reached-kept : {before after : List ℕ} → passes.Reached (visitedRanks q ahead behind part places) n before after → drop none before ≡ steps
+  reached-kept : {before after : List ℕ} → settling.Reached (visitedRanks q ahead behind part places) n before after → drop none before ≡ steps
       → drop none after ≡ steps
-  reached-kept passes.here kept = kept
-  reached-kept (passes.next {table = T} c lt r) kept = visit-keeps T c lt ∙ reached-kept r kept
+  reached-kept settling.here kept = kept
+  reached-kept (settling.next {table = T} c lt r) kept = visit-keeps T c lt ∙ reached-kept r kept
 
-  reached-visits : {before after : List ℕ} → passes.Reached (visitedRanks q ahead behind part places) n before after → drop none before ≡ steps
-      → passes.Reached (visited S look none) n (take none before) (take none after)
-  reached-visits passes.here kept = passes.here
-  reached-visits {before} (passes.next {table = T} c lt r) kept =
-      subst (passes.Reached (visited S look none) n (take none before)) (sym (visit-same T c lt (reached-kept r kept))) (passes.next c lt (reached-visits r kept))
+  reached-visits : {before after : List ℕ} → settling.Reached (visitedRanks q ahead behind part places) n before after → drop none before ≡ steps
+      → settling.Reached (visited S look none) n (take none before) (take none after)
+  reached-visits settling.here kept = settling.here
+  reached-visits {before} (settling.next {table = T} c lt r) kept =
+      subst (settling.Reached (visited S look none) n (take none before)) (sym (visit-same T c lt (reached-kept r kept))) (settling.next c lt (reached-visits r kept))
 
-  module _ {before after : List ℕ} (kept : drop none before ≡ steps) (p : passes.Settles (visitedRanks q ahead behind part places) n before after) where
+  module _ {before after : List ℕ} (kept : drop none before ≡ steps) (p : settling.Settles (visitedRanks q ahead behind part places) n before after) where
     pub settled-kept : drop none after ≡ steps
     settled-kept = reached-kept (p .reached) kept
 
     pub settled-visits : Visits S look none (take none before) (take none after)
-    settled-visits = subst (λ (m : ℕ). passes.Reached (visited S look none) m (take none before) (take none after)) count (reached-visits (p .reached) kept)
+    settled-visits = subst (λ (m : ℕ). settling.Reached (visited S look none) m (take none before) (take none after)) count (reached-visits (p .reached) kept)
 
-    pub settled-all : Settled S look none (take none after)
+    pub settled-all : RanksSettled S look none (take none after)
     settled-all c lt =
         let below : c < n = omega arith in
         sym (visit-same after c below settled-kept) ∙ ap (take none) (p .settled c below)

@@ -13,13 +13,13 @@ use Rattle.image.specs.Word.{kind, payload, isKind, isEntry}
 use Rattle.library.specs.Library.{step, item, call}
 use Rattle.library.specs.Walk.{entryOf}
 use Rattle.image.proofs.Entries.{entry-kinds}
-use Rattle.rank.specs.Tables.{slotOf, rankIn, Within, markOf, stepMark, stepRank, Stepped, Steppable}
+use Rattle.rank.specs.Tables.{slotOf, rankIn, RankWithin, markOf, stepMark, stepRank, Stepped, Steppable}
 use Rattle.question.specs.declared.asked.Asked.{Asked}
 use Rattle.general.proofs.Scan.{getD-inside}
 
 -- ---- the word of an entry
 
-module _ (none w : ℕ) (T : List ℕ) (e : isEntry w ≡ true) (within : Within none T w) where
+module _ (none w : ℕ) (T : List ℕ) (e : isEntry w ≡ true) (within : RankWithin none T w) where
   pub slot-inside : slotOf none w < length T
   slot-inside = go (isKind 8 w) refl
     where
@@ -58,19 +58,19 @@ side-mark q masks a side e = ap (λ (n : ℕ). markOf (q .fact) (getD masks (3 *
     go true = let same : 3 * a + 0 ≡ 3 * a = omega arith in ap (λ (n : ℕ). markOf (q .fact) (getD masks n 0) (getD masks (n + 1) 0)) same
     go false = let next : 3 * a + 1 + 1 ≡ 3 * a + 2 = omega arith in ap (λ (n : ℕ). markOf (q .fact) (getD masks (3 * a + 1) 0) (getD masks n 0)) next
 
-module _ (any : Bool) (q : Asked) (masks before : List ℕ) where
+module _ (all : Bool) (q : Asked) (masks before : List ℕ) where
   -- at the head: the ranks of the steps below a are written
   pub record Stepping (T : List ℕ) (a : ℕ) : Type 0 where
     pub long : length T ≡ length before
     pub low : q .none + a ≤ length before
     pub stays : (d : ℕ) → d < q .none → getD T d (q .none) ≡ getD before d (q .none)
-    pub ranked : (j : ℕ) → j < a → getD T (q .none + j) 0 ≡ stepRank any q masks j
+    pub ranked : (j : ℕ) → j < a → getD T (q .none + j) 0 ≡ stepRank all q masks j
 
   pub stepping-start : Steppable q masks before → Stepping before 0
   stepping-start s = record { long = refl; low = omega (arith, s .sequences); stays = λ d l. refl; ranked = λ j l. absurd (omega arith) }
 
   module _ (T : List ℕ) (a : ℕ) (here : Stepping T a) where
-    pub stepping-turn : q .none + a < length before → (r : ℕ) → r ≡ stepRank any q masks a → Stepping (set T (q .none + a) r) (a + 1)
+    pub stepping-turn : q .none + a < length before → (r : ℕ) → r ≡ stepRank all q masks a → Stepping (set T (q .none + a) r) (a + 1)
     stepping-turn l r rank =
         record {
           long = length-set T (q .none + a) r ∙ here .long;
@@ -80,10 +80,10 @@ module _ (any : Bool) (q : Asked) (masks before : List ℕ) where
               elim (ℕ-discrete j a) [
                 | yes e ↦
                     ap (λ (i : ℕ). getD (set T (q .none + a) r) (q .none + i) 0) e
-                    ∙ getD-set-same T (q .none + a) r 0 (omega (arith, here .long)) ∙ rank ∙ ap (stepRank any q masks) (sym e)
+                    ∙ getD-set-same T (q .none + a) r 0 (omega (arith, here .long)) ∙ rank ∙ ap (stepRank all q masks) (sym e)
                 | no e ↦ getD-set-other T (q .none + a) (q .none + j) r 0 (λ x. e (omega arith)) ∙ here .ranked j (omega arith)
               ];
         }
 
-    pub stepping-end : length before ≤ q .none + a → Stepped any q masks before T
+    pub stepping-end : length before ≤ q .none + a → Stepped all q masks before T
     stepping-end le = record { long = here .long; stays = here .stays; ranked = λ j l. here .ranked j (omega arith) }

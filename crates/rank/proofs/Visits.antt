@@ -10,14 +10,14 @@ use lib.Seq.{getD-set-same, getD-set-other}
 use Rattle.general.specs.Scan.{total}
 use Rattle.general.proofs.Scan.{total-set}
 use Rattle.library.specs.Library.{Library, Sequence}
-use Rattle.settling.specs.Passes.{here, next}
+use Rattle.settling.specs.Settling.{here, next}
 use Rattle.runs.specs.Run.{alternativesOf, alternativeOf}
 use Rattle.runs.specs.Touch.{untouched, Question}
 use Rattle.runs.proofs.Possible.{alternative-below}
 use Rattle.settling.proofs.Visits.{Lowers, reached-length}
-use Rattle.chains.specs.Ranks.{Ranks, Look, lowered, Closed, Reached, Linked, Passing, unranked, hasMark, untouchedLook, touchLook}
+use Rattle.chains.specs.Ranks.{Ranks, Look, lowered, Unlowered, Attained, Linked, Passing, unranked, hasMark, untouchedLook, touchLook}
 use Rattle.chains.specs.Answer.{touchAnswer, untouchedAnswer, ranksIn, answer}
-use Rattle.rank.specs.Visits.{visited, Visits, Settled}
+use Rattle.rank.specs.Visits.{visited, Visits, RanksSettled}
 use Rattle.chains.proofs.Ranks.{lowered-le, lowered-look, lowered-reached, start-unranked, start-reached}
 use Rattle.chains.proofs.Depth.{depth-reached}
 use Rattle.chains.proofs.Links.{links-reached}
@@ -37,7 +37,7 @@ module _ (S : List Sequence) (look : Look) (none : ℕ) where
       }
 
   -- a table that no visit lowers is closed
-  pub visits-closed : (T : List ℕ) → ((c : ℕ) → c < length S → inList T c ≤ lowered S look (inList T) c) → Closed S look (inList T)
+  pub visits-closed : (T : List ℕ) → ((c : ℕ) → c < length S → inList T c ≤ lowered S look (inList T) c) → Unlowered S look (inList T)
   visits-closed T same c i lt =
       let h = same c (alternative-below S c i lt) in
       let h′ = lowered-look S look (inList T) c i lt in
@@ -53,9 +53,9 @@ module _ (S : List Sequence) (look : Look) (none : ℕ) where
 
   -- what one look at an alternative preserves holds of the ranks after a visit
   module _ (P : ℕ → ℕ → Type 0)
-      (keeps : (T : Ranks) → Reached P none T → (c i : ℕ) → i < length (alternativesOf S c) → suc (look T (alternativeOf S c i)) < none
+      (keeps : (T : Ranks) → Attained P none T → (c i : ℕ) → i < length (alternativesOf S c) → suc (look T (alternativeOf S c i)) < none
       → P c (suc (look T (alternativeOf S c i)))) where
-    pub visited-reached : (T : List ℕ) (c : ℕ) → c < length T → Reached P none (inList T) → Reached P none (inList (visited S look none T c))
+    pub visited-reached : (T : List ℕ) (c : ℕ) → c < length T → Attained P none (inList T) → Attained P none (inList (visited S look none T c))
     visited-reached T c below reached d = go (ℕ-discrete d c)
       where
         go : Dec (d ≡ c) → inList (visited S look none T c) d < none → P d (inList (visited S look none T c) d)
@@ -68,7 +68,7 @@ module _ (S : List Sequence) (look : Look) (none : ℕ) where
   visits-length = reached-length (visited-lower S look none (length S))
 
   -- no visit changes the table: no look lowers a rank
-  settled-closed : (T : List ℕ) → length S ≤ length T → Settled S look none T → Closed S look (λ d. getD T d none)
+  settled-closed : (T : List ℕ) → length S ≤ length T → RanksSettled S look none T → Unlowered S look (λ d. getD T d none)
   settled-closed T long settled =
       visits-closed S look none T
       (λ c lt.
@@ -84,9 +84,9 @@ module _ (S : List Sequence) (look : Look) (none : ℕ) where
         visited-capped S look none T c (omega arith) (visits-capped start v)
 
     visits-reached : (P : ℕ → ℕ → Type 0)
-        → ((T : Ranks) → Reached P none T → (c i : ℕ) → i < length (alternativesOf S c) → suc (look T (alternativeOf S c i)) < none
+        → ((T : Ranks) → Attained P none T → (c i : ℕ) → i < length (alternativesOf S c) → suc (look T (alternativeOf S c i)) < none
         → P c (suc (look T (alternativeOf S c i))))
-        → Reached P none (λ d. getD before d none) → {T : List ℕ} → Visits S look none before T → Reached P none (λ d. getD T d none)
+        → Attained P none (λ d. getD before d none) → {T : List ℕ} → Visits S look none before T → Attained P none (λ d. getD T d none)
     visits-reached P keeps start here = start
     visits-reached P keeps start (next {table = T} c lt v) =
         let e = visits-length v in
@@ -94,16 +94,16 @@ module _ (S : List Sequence) (look : Look) (none : ℕ) where
 
 -- ranks that are reached, that no look lowers, and none of which is above "no rank"
 pub record Good (P : ℕ → ℕ → Type 0) (L : Library) (look : Look) (T : List ℕ) : Type 0 where
-  pub reached : Reached P (unranked L) (ranksIn L T)
-  pub closed : Closed (L .sequences) look (ranksIn L T)
+  pub reached : Attained P (unranked L) (ranksIn L T)
+  pub closed : Unlowered (L .sequences) look (ranksIn L T)
   pub capped : (c : ℕ) → ranksIn L T c ≤ unranked L
 
 -- visits from a table of n words without a rank, until none changes it
 module _ (L : Library) (q : Question) (f n : ℕ) (T : List ℕ) (long : length (L .sequences) ≤ n) where
   pub settled-good : (P : ℕ → ℕ → Type 0) (look : Look)
-      → ((T : Ranks) → Reached P (unranked L) T → (c i : ℕ) → i < length (alternativesOf (L .sequences) c)
+      → ((T : Ranks) → Attained P (unranked L) T → (c i : ℕ) → i < length (alternativesOf (L .sequences) c)
       → suc (look T (alternativeOf (L .sequences) c i)) < unranked L → P c (suc (look T (alternativeOf (L .sequences) c i))))
-      → Visits (L .sequences) look (unranked L) (replicate n (unranked L)) T → Settled (L .sequences) look (unranked L) T → Good P L look T
+      → Visits (L .sequences) look (unranked L) (replicate n (unranked L)) T → RanksSettled (L .sequences) look (unranked L) T → Good P L look T
   settled-good P look keeps visits settled =
       let count = length-replicate n (unranked L) in
       let same = visits-length (L .sequences) look (unranked L) visits in
@@ -119,7 +119,7 @@ module _ (L : Library) (q : Question) (f n : ℕ) (T : List ℕ) (long : length 
 
   -- for a question that asks for a touch
   pub touch-good : q .mark ≢ untouched → Visits (L .sequences) (touchLook L q f) (unranked L) (replicate n (unranked L)) T
-      → Settled (L .sequences) (touchLook L q f) (unranked L) T → Good (Linked L q f) L (touchLook L q f) T
+      → RanksSettled (L .sequences) (touchLook L q f) (unranked L) T → Good (Linked L q f) L (touchLook L q f) T
   touch-good touch = settled-good (Linked L q f) (touchLook L q f) (links-reached L q f (unranked L) touch)
 
   pub settled-touch : q .mark ≢ untouched → Good (Linked L q f) L (touchLook L q f) T → (c : ℕ) → touchAnswer L q f (ranksIn L T) c ≡ answer L q c f
@@ -127,7 +127,7 @@ module _ (L : Library) (q : Question) (f n : ℕ) (T : List ℕ) (long : length 
 
   -- and for one that asks for none
   pub settled-untouched : q .mark ≡ untouched → Visits (L .sequences) (untouchedLook L q f) (unranked L) (replicate n (unranked L)) T
-      → Settled (L .sequences) (untouchedLook L q f) (unranked L) T → (c : ℕ) → untouchedAnswer L q f (ranksIn L T) c ≡ answer L q c f
+      → RanksSettled (L .sequences) (untouchedLook L q f) (unranked L) T → (c : ℕ) → untouchedAnswer L q f (ranksIn L T) c ≡ answer L q c f
   settled-untouched leaves visits settled =
       let good =
       settled-good (Passing (L .sequences) (hasMark L q f)) (untouchedLook L q f) (depth-reached (L .sequences) (unranked L) (hasMark L q f)) visits settled in

@@ -11,7 +11,7 @@ use Rattle.column.specs.Sets.{inColumn}
 use Rattle.image.specs.Word.{kind, payload, isKind}
 use Rattle.library.specs.Library.{Alternative, Entry, step, item, call, entriesFrom}
 use Rattle.library.specs.Walk.{entriesEnd, alternativesAt}
-use Rattle.settling.specs.Passes.{Settles}
+use Rattle.settling.specs.Settling.{Settles}
 use Rattle.general.specs.Scan.{every}
 use Rattle.chains.specs.Ranks.{Ranks}
 use Rattle.rank.specs.Walk.{loweredFrom, depthFrom, fewestFrom}
@@ -64,16 +64,16 @@ lookIn q ahead behind ranks es =
     (cond (eqb (q .mark) 3) (everyIn (q .none) ranks es) (fewestIn (q .none) ahead behind ranks es))
 
 -- an entry has a word in a table
-pub record Within (none : ℕ) (T : List ℕ) (w : ℕ) : Type 0 where
+pub record RankWithin (none : ℕ) (T : List ℕ) (w : ℕ) : Type 0 where
   pub step : kind w ≡ 8 → none + payload w < length T
   pub sequence : kind w ≡ 9 → (payload w < none) × (payload w < length T)
 
 -- each entry among the words has one
 pub record Rankable (none : ℕ) (T part : List ℕ) : Type 0 where
-  pub within : (i : ℕ) → i < length part → Within none T (getD part i 0)
+  pub within : (i : ℕ) → i < length part → RankWithin none T (getD part i 0)
 
 -- what is asked of the tables
-pub record Readable (none : ℕ) (ahead behind ranks part : List ℕ) : Type 0 where
+pub record RanksReadable (none : ℕ) (ahead behind ranks part : List ℕ) : Type 0 where
   pub by-ahead : Rankable none ahead part
   pub by-behind : Rankable none behind part
   pub by-ranks : Rankable none ranks part
@@ -92,16 +92,16 @@ stepMark q masks a =
 
 -- the step has the mark asked for, or any will do
 abbrev pub markIn : Bool → Asked → List ℕ → ℕ → Bool
-markIn any q masks a = any || eqb (stepMark q masks a) (q .mark)
+markIn all q masks a = all || eqb (stepMark q masks a) (q .mark)
 
 abbrev pub stepRank : Bool → Asked → List ℕ → ℕ → ℕ
-stepRank any q masks a = cond (markIn any q masks a) 0 (q .none)
+stepRank all q masks a = cond (markIn all q masks a) 0 (q .none)
 
 -- the words of the steps are their ranks, and those of the sequences stay
-pub record Stepped (any : Bool) (q : Asked) (masks before after : List ℕ) : Type 0 where
+pub record Stepped (all : Bool) (q : Asked) (masks before after : List ℕ) : Type 0 where
   pub long : length after ≡ length before
   pub stays : (d : ℕ) → d < q .none → getD after d (q .none) ≡ getD before d (q .none)
-  pub ranked : (a : ℕ) → q .none + a < length before → getD after (q .none + a) 0 ≡ stepRank any q masks a
+  pub ranked : (a : ℕ) → q .none + a < length before → getD after (q .none + a) 0 ≡ stepRank all q masks a
 
 -- what that asks: a word for each sequence, and three masks for each step that has a word
 pub record Steppable (q : Asked) (masks ranks : List ℕ) : Type 0 where
@@ -112,13 +112,13 @@ pub record Steppable (q : Asked) (masks ranks : List ℕ) : Type 0 where
 -- ---- the alternatives of a sequence
 
 -- what a reader of an alternative promises, whose entries stand from an index on: what it comes to, and where its entries end
-pub record AlternativeRead (worth : Alternative → ℕ) (part : List ℕ) (at : ℕ) (r : Read) : Type 0 where
+pub record AlternativeRanked (worth : Alternative → ℕ) (part : List ℕ) (at : ℕ) (r : Read) : Type 0 where
   pub value : r .value ≡ worth (entriesFrom (drop at part))
   pub next : r .next ≡ entriesEnd part at
 
 -- what a visit of the sequences below n asks of the areas
-pub record Visitable (q : Asked) (n : ℕ) (ahead behind ranks part places : List ℕ) : Type 0 where
-  pub readable : Readable (q .none) ahead behind ranks part
+pub record RanksVisitable (q : Asked) (n : ℕ) (ahead behind ranks part places : List ℕ) : Type 0 where
+  pub readable : RanksReadable (q .none) ahead behind ranks part
   pub low : n ≤ q .none
   pub ranked : n ≤ length ranks
   pub placed : n ≤ length places
@@ -135,7 +135,7 @@ module _ (q : Asked) (ahead behind part places : List ℕ) where
 
 -- a table of ranks that is made from one without a rank: those of the steps are written by the question p, then those of the sequences below
 -- n lowered by the question q until no visit changes them
-pub record Ranked (any : Bool) (p q : Asked) (n : ℕ) (masks ahead behind part places before after : List ℕ) : Type 0 where
+pub record Ranked (all : Bool) (p q : Asked) (n : ℕ) (masks ahead behind part places before after : List ℕ) : Type 0 where
   pub start : List ℕ
-  pub steps : Stepped any p masks before start
+  pub steps : Stepped all p masks before start
   pub settled : Settles (visitedRanks q ahead behind part places) n start after

@@ -4,7 +4,7 @@ use Prim.Native.Nat.{ℕ}
 use mathlib.Core.List.{List}
 use lib.ListN.{length, getD, set}
 use Rattle.library.specs.Library.{Sequence}
-use Rattle.settling.specs.Passes as passes
+use Rattle.settling.specs.Settling as settling
 use Rattle.chains.specs.Ranks.{Look, lowered}
 
 module _ (S : List Sequence) (look : Look) (none : ℕ) where
@@ -14,8 +14,8 @@ module _ (S : List Sequence) (look : Look) (none : ℕ) where
 
   -- tables that visits lead to, in any order
   abbrev pub Visits : List ℕ → List ℕ → Type 0
-  Visits before after = passes.Reached visited (length S) before after
+  Visits before after = settling.Reached visited (length S) before after
 
   -- no visit changes the table
-  abbrev pub Settled : List ℕ → Type 0
-  Settled T = passes.Settled visited (length S) T
+  abbrev pub RanksSettled : List ℕ → Type 0
+  RanksSettled T = settling.Settled visited (length S) T

@@ -1,15 +1,21 @@
 // What the tables say of an entry, for the question that is asked.
 use column::sets::holds;
+use image::word::KIND_STEP_ENTRY;
 use image::word::is_kind;
 use image::word::payload_of;
+use library::tables::MASK_WORDS;
+use question::asked::ABSENT_MARK;
 use question::asked::Asked;
+use question::asked::PRESENT_MARK;
+use question::asked::UNTOUCHED_MARK;
 ghost use mathlib.Core.Path.{_≡_};
 ghost use mathlib.Core.Bool.{true, cond};
 ghost use Prim.Native.Nat.{ℕ, _+_, _*_, _≤_, _<_};
 ghost use lib.ListN.{length};
-ghost use Rattle.image.specs.Word.{isEntry};
+ghost use Rattle.library.specs.Tables.{maskWords};
+ghost use Rattle.image.specs.Word.{isEntry, mostFacts};
 ghost use Rattle.library.specs.Walk.{entryOf};
-ghost use Rattle.rank.specs.Tables.{markOf, stepMark, stepRank, Steppable, Stepped, slotOf, rankIn, passIn, traitsIn, Within};
+ghost use Rattle.rank.specs.Tables.{markOf, stepMark, stepRank, Steppable, Stepped, slotOf, rankIn, passIn, traitsIn, RankWithin};
 
 // An entry's rank, and whether it passes as one ahead of the position and as one behind it.
 pub struct Traits {
@@ -19,7 +25,7 @@ pub struct Traits {
 }
 
 // The number where the test holds, otherwise the other one.
-pub fn kept(test: bool, x: u32, other: u32) -> u32
+pub fn choose(test: bool, x: u32, other: u32) -> u32
     ensures { λ r. ⌜ r ≡ cond test x other ⌝ }
 {
     if test {
@@ -30,38 +36,42 @@ pub fn kept(test: bool, x: u32, other: u32) -> u32
 
 // The mark that two columns give the fact.
 fn mark_of(f: u32, one: u64, other: u64) -> u32
-    requires { ⌜ f < 64 ⌝ }
+    requires { ⌜ f < mostFacts ⌝ }
     ensures { λ r. ⌜ r ≡ markOf f one other ⌝ }
 {
-    kept(holds(one, f), 0, kept(holds(other, f), 1, 2))
+    choose(
+        holds(one, f),
+        PRESENT_MARK,
+        choose(holds(other, f), ABSENT_MARK, UNTOUCHED_MARK),
+    )
 }
 
 // The mark of step `a` on the question's side.
 fn step_mark(q: Asked, masks: &[u64], a: usize) -> u32
-    requires { ⌜ (q .fact < 64) × (3 * a + 3 ≤ length (now masks)) ⌝ }
+    requires { ⌜ (q .fact < mostFacts) × (maskWords * a + maskWords ≤ length (now masks)) ⌝ }
     ensures { λ r. ⌜ r ≡ stepMark q (now (masks .entry)) a ⌝ }
 {
-    let at = 3 * a + kept(q.first, 0, 1) as usize;
+    let at = MASK_WORDS * a + choose(q.first, 0, 1) as usize;
     mark_of(q.fact, masks[at], masks[at + 1])
 }
 
 // The rank of step `a`: 0 where it has the mark asked for, or where any will do.
-fn step_rank(any: bool, q: Asked, masks: &[u64], a: usize) -> u32
-    requires { ⌜ (q .fact < 64) × (3 * a + 3 ≤ length (now masks)) ⌝ }
-    ensures { λ r. ⌜ r ≡ stepRank any q (now (masks .entry)) a ⌝ }
+fn step_rank(all: bool, q: Asked, masks: &[u64], a: usize) -> u32
+    requires { ⌜ (q .fact < mostFacts) × (maskWords * a + maskWords ≤ length (now masks)) ⌝ }
+    ensures { λ r. ⌜ r ≡ stepRank all q (now (masks .entry)) a ⌝ }
 {
-    kept(any | (step_mark(q, masks, a) == q.mark), 0, q.none)
+    choose(all | (step_mark(q, masks, a) == q.mark), 0, q.none)
 }
 
 // Writes the ranks of the steps into a table: they stand from word `none` on.
-pub fn write_step_ranks(any: bool, q: Asked, masks: &[u64], ranks: &mut [u32])
+pub fn write_step_ranks(all: bool, q: Asked, masks: &[u64], ranks: &mut [u32])
     requires { ⌜ Steppable q (now masks) (now ranks) ⌝ }
-    ensures { λ _. ⌜ Stepped any q (now (masks .entry)) (now (ranks .entry)) (now (ranks .exit)) ⌝ }
+    ensures { λ _. ⌜ Stepped all q (now (masks .entry)) (now (ranks .entry)) (now (ranks .exit)) ⌝ }
 {
     let base = q.none as usize;
     let mut a = 0;
     while base + a < ranks.len() {
-        ranks[base + a] = step_rank(any, q, masks, a);
+        ranks[base + a] = step_rank(all, q, masks, a);
         a += 1;
     }
 }
@@ -71,12 +81,12 @@ pub fn write_step_ranks(any: bool, q: Asked, masks: &[u64], ranks: &mut [u32])
 fn slot_of(none: u32, w: u32) -> usize
     ensures { λ r. ⌜ r ≡ slotOf none w ⌝ }
 {
-    payload_of(w) as usize + kept(is_kind(8, w), none, 0) as usize
+    payload_of(w) as usize + choose(is_kind(KIND_STEP_ENTRY, w), none, 0) as usize
 }
 
 // The rank of an entry.
 pub fn rank_of(none: u32, ranks: &[u32], w: u32) -> u32
-    requires { ⌜ Within none (now ranks) w × (isEntry w ≡ true) ⌝ }
+    requires { ⌜ RankWithin none (now ranks) w × (isEntry w ≡ true) ⌝ }
     ensures { λ r. ⌜ ((past : ℕ) → r ≡ rankIn none past (now (ranks .entry)) (entryOf w)) ⌝ }
 {
     ranks[slot_of(none, w)]
@@ -84,7 +94,7 @@ pub fn rank_of(none: u32, ranks: &[u32], w: u32) -> u32
 
 // Whether an entry has a rank.
 pub fn passes(none: u32, ranks: &[u32], w: u32) -> bool
-    requires { ⌜ Within none (now ranks) w × (isEntry w ≡ true) ⌝ }
+    requires { ⌜ RankWithin none (now ranks) w × (isEntry w ≡ true) ⌝ }
     ensures { λ r. ⌜ r ≡ passIn none (now (ranks .entry)) (entryOf w) ⌝ }
 {
     rank_of(none, ranks, w) < none
@@ -92,7 +102,7 @@ pub fn passes(none: u32, ranks: &[u32], w: u32) -> bool
 
 // The traits of an entry.
 pub fn traits_of(none: u32, ahead: &[u32], behind: &[u32], ranks: &[u32], w: u32) -> Traits
-    requires { ⌜ Within none (now ahead) w × Within none (now behind) w × Within none (now ranks) w × (isEntry w ≡ true) ⌝ }
+    requires { ⌜ RankWithin none (now ahead) w × RankWithin none (now behind) w × RankWithin none (now ranks) w × (isEntry w ≡ true) ⌝ }
     ensures { λ r. ⌜ r ≡ traitsIn none (now (ahead .entry)) (now (behind .entry)) (now (ranks .entry)) (entryOf w) ⌝ }
 {
     Traits {

@@ -1,19 +1,22 @@
 // What an alternative comes to by the ranks as they stand, and the rank of a sequence lowered by its alternatives.
-use crate::entry::kept;
+use crate::entry::choose;
 use crate::entry::passes;
 use crate::entry::rank_of;
 use crate::entry::traits_of;
+use image::word::KIND_ALTERNATIVE;
 use image::word::is_entry;
 use image::word::is_kind;
 use library::walk::entries_end;
 use library::walk::word_at;
 use question::asked::Asked;
+use question::asked::RUN_MARK;
+use question::asked::UNTOUCHED_MARK;
 ghost use mathlib.Core.Path.{_≡_};
 ghost use Prim.Native.Nat.{_+_, _≤_, min, max};
 ghost use lib.ListN.{length, drop};
 ghost use Rattle.library.specs.Library.{alternativesFrom};
 ghost use Rattle.rank.specs.Walk.{loweredFrom};
-ghost use Rattle.rank.specs.Tables.{depthIn, everyIn, fewestIn, lookIn, Readable, Rankable, AlternativeRead};
+ghost use Rattle.rank.specs.Tables.{depthIn, everyIn, fewestIn, lookIn, RanksReadable, Rankable, AlternativeRanked};
 
 // What an alternative comes to, and the index of the word after its entries.
 pub struct Read {
@@ -42,7 +45,7 @@ fn greatest(a: u32, b: u32) -> u32
 // The greatest depth among the entries that stand from index `at` on.
 pub fn greatest_depth(none: u32, ranks: &[u32], part: &[u32], at: usize) -> Read
     requires { ⌜ Rankable none (now ranks) (now part) × (at ≤ length (now part)) ⌝ }
-    ensures { λ r. ⌜ AlternativeRead (depthIn none (now (ranks .entry))) (now (part .entry)) at r ⌝ }
+    ensures { λ r. ⌜ AlternativeRanked (depthIn none (now (ranks .entry))) (now (part .entry)) at r ⌝ }
 {
     let mut depth = 0;
     let mut i = at;
@@ -69,8 +72,8 @@ fn fewest_links(
     part: &[u32],
     at: usize,
 ) -> Read
-    requires { ⌜ Readable none (now ahead) (now behind) (now ranks) (now part) × (at ≤ length (now part)) ⌝ }
-    ensures { λ r. ⌜ AlternativeRead (fewestIn none (now (ahead .entry)) (now (behind .entry)) (now (ranks .entry))) (now (part .entry)) at r ⌝ }
+    requires { ⌜ RanksReadable none (now ahead) (now behind) (now ranks) (now part) × (at ≤ length (now part)) ⌝ }
+    ensures { λ r. ⌜ AlternativeRanked (fewestIn none (now (ahead .entry)) (now (behind .entry)) (now (ranks .entry))) (now (part .entry)) at r ⌝ }
 {
     let mut ok = true;
     let mut best = none;
@@ -84,7 +87,7 @@ fn fewest_links(
             };
         }
         let t = traits_of(none, ahead, behind, ranks, w);
-        best = least(kept(t.behind, best, none), kept(ok, t.rank, none));
+        best = least(choose(t.behind, best, none), choose(ok, t.rank, none));
         ok = ok & t.ahead;
         i += 1;
     }
@@ -93,7 +96,7 @@ fn fewest_links(
 // Whether all entries that stand from index `at` on have a rank: 0 where they do. After the first without one the others are passed over.
 fn all_ranked(none: u32, ranks: &[u32], part: &[u32], at: usize) -> Read
     requires { ⌜ Rankable none (now ranks) (now part) × (at ≤ length (now part)) ⌝ }
-    ensures { λ r. ⌜ AlternativeRead (everyIn none (now (ranks .entry))) (now (part .entry)) at r ⌝ }
+    ensures { λ r. ⌜ AlternativeRanked (everyIn none (now (ranks .entry))) (now (part .entry)) at r ⌝ }
 {
     let mut i = at;
     loop {
@@ -120,13 +123,13 @@ pub fn read_alternative(
     part: &[u32],
     at: usize,
 ) -> Read
-    requires { ⌜ Readable (q .none) (now ahead) (now behind) (now ranks) (now part) × (at ≤ length (now part)) ⌝ }
-    ensures { λ r. ⌜ AlternativeRead (lookIn q (now (ahead .entry)) (now (behind .entry)) (now (ranks .entry))) (now (part .entry)) at r ⌝ }
+    requires { ⌜ RanksReadable (q .none) (now ahead) (now behind) (now ranks) (now part) × (at ≤ length (now part)) ⌝ }
+    ensures { λ r. ⌜ AlternativeRanked (lookIn q (now (ahead .entry)) (now (behind .entry)) (now (ranks .entry))) (now (part .entry)) at r ⌝ }
 {
-    if q.mark == 2 {
+    if q.mark == UNTOUCHED_MARK {
         return greatest_depth(q.none, ranks, part, at);
     }
-    if q.mark == 3 {
+    if q.mark == RUN_MARK {
         return all_ranked(q.none, ranks, part, at);
     }
     fewest_links(q.none, ahead, behind, ranks, part, at)
@@ -152,7 +155,7 @@ pub fn lowered_rank(
     at: usize,
     rank: u32,
 ) -> u32
-    requires { ⌜ Readable (q .none) (now ahead) (now behind) (now ranks) (now part) × (at ≤ length (now part)) ⌝ }
+    requires { ⌜ RanksReadable (q .none) (now ahead) (now behind) (now ranks) (now part) × (at ≤ length (now part)) ⌝ }
     ensures { λ r. ⌜ r ≡ loweredFrom (lookIn q (now (ahead .entry)) (now (behind .entry)) (now (ranks .entry))) rank (alternativesFrom (drop at (now (part .entry)))) ⌝ }
 {
     let mut r = rank;
@@ -160,7 +163,7 @@ pub fn lowered_rank(
     while 1 < r {
         let w = word_at(part, i);
         i += 1;
-        if is_kind(7, w) {
+        if is_kind(KIND_ALTERNATIVE, w) {
             let found = read_alternative(q, ahead, behind, ranks, part, i);
             r = lower(r, found.value);
             i = found.next;

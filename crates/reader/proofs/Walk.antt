@@ -1,4 +1,4 @@
--- Laws of the walk: one word, the way out at a fault, the end; and that the walk is the scan of document 01.
+-- Laws of the walk: one word, the way out at a fault, the end.
 -- Assumes nothing.
 use Prim.Native.Nat.{ℕ, suc, _+_, _≤_, _<_}
 use native.Mathlib.Nat.{add-zero}
@@ -13,8 +13,9 @@ use lib.Seq.{drop-cons, drop-length}
 use Rattle.image.specs.Word.{isKind}
 use Rattle.rules.specs.Rules.{opened, lastOf, earlier, faultAt}
 use Rattle.rules.specs.Quick.{bodyRight, insideRight, factAbove, after, withLast, inAlternative}
-use Rattle.reader.specs.Checked.{atWord, scan}
-use Rattle.reader.specs.Walk.{ended, walk, BodyRead, FourRight}
+use Rattle.rules.specs.Checked.{atWord, scan}
+use Rattle.rules.specs.Walk.{ended, walk}
+use Rattle.reader.specs.Readers.{BodyRead, FourRight}
 use Rattle.image.specs.declared.answer.Head.{Head}
 use Rattle.image.specs.declared.answer.Refusal.{Refusal}
 use Rattle.image.specs.declared.answer.Checked.{Checked}
@@ -151,29 +152,3 @@ reading-body h e₀ p₀ part e i r here read =
       sequences = omega (arith, here .sequences, read .low);
       same = sym (read .same p₀) ∙ here .same;
     }
-
--- ---- the walk is the scan
-
-pub opened-snoc : (k w : ℕ) (ws : List ℕ) → opened k (ws ++ (w ∷ [])) ≡ opened k ws + boolByte (isKind k w)
-unfolding opened
-opened-snoc k w [] = omega arith
-opened-snoc k w (v ∷ ws) = omega (arith, opened-snoc k w ws)
-
-last-snoc : (w : ℕ) (ws : List ℕ) → lastOf (ws ++ (w ∷ [])) ≡ w
-unfolding lastOf
-last-snoc w [] = refl
-last-snoc w (v ∷ []) = refl
-last-snoc w (v ∷ u ∷ ws) = last-snoc w (u ∷ ws)
-
-earlier-snoc : (w : ℕ) (ws : List ℕ) → earlier (ws ++ (w ∷ [])) ≡ after (earlier ws) w
-earlier-snoc w ws i = record { steps = opened-snoc 5 w ws i; sequences = opened-snoc 6 w ws i; last = last-snoc w ws i }
-
-length-snoc : (w : ℕ) (ws : List ℕ) → length (ws ++ (w ∷ [])) ≡ suc (length ws)
-length-snoc w ws = length-append ws (w ∷ []) ∙ add-one (length ws)
-
-pub scan-walk : (h : Head) (before ws : List ℕ) → scan h before ws ≡ walk h (earlier before) (length before) ws
-unfolding scan walk
-scan-walk h before [] = refl
-scan-walk h before (w ∷ ws) =
-    ap (atWord (faultAt h (earlier before) (length before) w))
-    (scan-walk h (before ++ (w ∷ [])) ws ∙ ap₂ (λ (e : Earlier) (p : ℕ). walk h e p ws) (earlier-snoc w before) (length-snoc w before))

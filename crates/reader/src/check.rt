@@ -2,6 +2,8 @@
 use image::answer::Checked;
 use image::answer::Head;
 use image::answer::Refusal;
+use image::word::AT_ONCE;
+use image::word::FEWEST_WORDS;
 use image::word::KIND_SEQUENCE;
 use image::word::KIND_STEP;
 use image::word::MOST_WORDS;
@@ -21,10 +23,11 @@ ghost use mathlib.Core.Path.{_≡_};
 ghost use mathlib.Core.Bool.{true};
 ghost use Prim.Native.Nat.{_+_, _≤_, _<_};
 ghost use lib.ListN.{length};
-ghost use Rattle.reader.specs.Checked.{checked};
+ghost use Rattle.rules.specs.Checked.{checked};
 ghost use Rattle.rules.specs.Quick.{Counts, withLast, inAlternative};
-ghost use Rattle.reader.specs.Walk.{walk, ended, opening, StepsRead, BodyRead, FactsRead, FoursRead, FourRight};
-ghost use Rattle.image.specs.Word.{headOf};
+ghost use Rattle.rules.specs.Walk.{walk, ended, opening};
+ghost use Rattle.reader.specs.Readers.{StepsRead, BodyRead, FactsRead, FoursRead, FourRight};
+ghost use Rattle.image.specs.Word.{headOf, mostWords};
 
 // Where the reader of the steps' part stopped: at a refusal, or at the part's word with this index, the first sequence or the part's
 // end, with what the rules ask of the words before it.
@@ -85,7 +88,7 @@ fn read_facts(h: Head, last: u32, part: &[u32], at: usize) -> Body
 
 // Reads the steps' part: the words of `part` up to the first sequence. The part begins at position 1, after the head.
 fn read_steps(h: Head, first: u32, part: &[u32]) -> Steps
-    requires { ⌜ length (now part) < 8192 ⌝ }
+    requires { ⌜ length (now part) < mostWords ⌝ }
     ensures { λ r. ⌜ StepsRead h first (now (part .entry)) r ⌝ }
 {
     let mut e = Earlier {
@@ -131,12 +134,12 @@ fn read_fours(h: Head, last: u32, part: &[u32], at: usize) -> Body
 {
     let mut l = last;
     let mut i = at;
-    while 4 <= part.len() - i {
+    while AT_ONCE <= part.len() - i {
         if !four_right(h, part, i) {
             return Body { last: l, next: i };
         }
         l = part[i + 3];
-        i += 4;
+        i += AT_ONCE;
     }
     Body { last: l, next: i }
 }
@@ -165,7 +168,7 @@ fn read_body(h: Head, e: Earlier, part: &[u32], at: usize) -> Body
 
 // Reads the sequences' part, which begins at position `at`, to its end.
 fn read_sequences(h: Head, before: Earlier, at: usize, part: &[u32]) -> Checked
-    requires { ⌜ (at + length (now part) < 8192) × (before .steps ≤ at) × (before .sequences ≤ at) × Counts h ⌝ }
+    requires { ⌜ (at + length (now part) < mostWords) × (before .steps ≤ at) × (before .sequences ≤ at) × Counts h ⌝ }
     ensures { λ r. ⌜ r ≡ walk h before at (now (part .entry)) ⌝ }
 {
     let mut e = before;
@@ -200,7 +203,7 @@ pub fn check(image: &[u32]) -> Checked
     ensures { λ r. ⌜ r ≡ checked (now (image .entry)) ⌝ }
 {
     let n = image.len();
-    if n < 2 {
+    if n < FEWEST_WORDS {
         return Checked::Refused(Refusal::Length);
     }
     if MOST_WORDS < n {

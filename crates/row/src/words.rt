@@ -4,6 +4,7 @@ use image::word::MOST_FACTS;
 ghost use mathlib.Core.Path.{_≡_};
 ghost use Prim.Native.Nat.{_+_, _-_, _*_, _≤_};
 ghost use lib.ListN.{length};
+ghost use Rattle.image.specs.Word.{mostFacts};
 ghost use Rattle.row.specs.Words.{rowWords, allFacts, noRow, startRow, stepMarks, stepRow, laterMarks, joinRows, orMarks, orRows, liveMarks, liveRow, sameMarks, sameRows, rowIn, withRow};
 
 // The words of a row in a table, in their order.
@@ -46,7 +47,7 @@ pub struct Row {
 
 // The column of all facts below `facts`.
 pub fn all_facts(facts: u32) -> u64
-    requires { ⌜ (1 ≤ facts) × (facts ≤ 64) ⌝ }
+    requires { ⌜ (1 ≤ facts) × (facts ≤ mostFacts) ⌝ }
     ensures { λ r. ⌜ r ≡ allFacts facts ⌝ }
 {
     ALL_BITS >> (MOST_FACTS - facts)

@@ -1,2 +1,4 @@
-pub mod Rules
+pub mod Checked
 pub mod Quick
+pub mod Rules
+pub mod Walk

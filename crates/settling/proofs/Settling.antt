@@ -12,13 +12,14 @@ use Rattle.general.proofs.Bools.{and-parts}
 use mathlib.Core.List.{List}
 use lib.ListN.{length, getD}
 use Rattle.general.proofs.Scan.{countPassing, count-all, count-more}
-use Rattle.settling.specs.Passes.{Reached, Visit, Settles, Complete, placeOf}
-use Rattle.settling.specs.Stale.{Fresh, isStale, isCaller, calls, Removed, United, Scheduled}
-use Rattle.settling.specs.Turns.{numberAt, toVisit, Passed, StalePlace, TurnAt, NextTurn, StaleAfter}
+use Rattle.general.specs.Numbers.{Complete}
+use Rattle.callers.specs.Callers.{inSet, isCaller, calls, Removed, United}
+use Rattle.callers.proofs.CallerSets.{united-out}
+use Rattle.settling.specs.Settling.{Reached, Visit, Settles, Fresh, Scheduled}
+use Rattle.settling.specs.Turns.{placeOf, numberAt, toVisit, Passed, StalePlace, TurnAt, NextTurn, StaleAfter}
 use Rattle.settling.specs.declared.turns.Turn.{Turn}
 use Rattle.settling.proofs.Visits.{place-back, reached-visit}
 use Rattle.settling.proofs.Stale.{Local, fresh-turn}
-use Rattle.settling.proofs.CallerSets.{united-out}
 
 -- ---- the next turn
 
@@ -35,7 +36,7 @@ passed-more n order stale forward at i fresh p j from to within =
 pub turn-found : (n : ℕ) (order stale : List ℕ) (forward : Bool) (at r : ℕ) (turn : Turn) → StalePlace n order stale forward at r → r < length order
     → TurnAt order forward r turn → NextTurn n stale turn
 turn-found n order stale forward at r turn p l is =
-    let (below, chosen) = and-parts (ltb (numberAt order forward r) n) (isStale stale (numberAt order forward r)) (p .found l) in
+    let (below, chosen) = and-parts (ltb (numberAt order forward r) n) (inSet stale (numberAt order forward r)) (p .found l) in
     let low = ltb-true (numberAt order forward r) n below in
     record { chosen = λ under. rw is chosen; none = λ high. absurd (omega arith) }
 
@@ -51,7 +52,7 @@ turn-none n order stale forward r turn complete p high is =
           let within = there .0 in
           let number : numberAt order forward (placeOf forward (length order) (named .place)) ≡ c =
           ap (λ (i : ℕ). getD order i 0) (there .1) ∙ named .number in
-          ap (λ (b : Bool). b && isStale stale c) (sym (lt-ltb c n low))
+          ap (λ (b : Bool). b && inSet stale c) (sym (lt-ltb c n low))
           ∙ subst (λ (d : ℕ). toVisit n stale d ≡ false) number (p .passed _ (omega arith) (omega arith) within);
     }
 
@@ -74,13 +75,13 @@ after-changed callers c s s′ s″ out words =
 -- what holds at the head of the loop: visits lead to the table, those that are not stale would not change it, and the turn is the next one
 pub record Settling (visit : List ℕ → ℕ → List ℕ) (n : ℕ) (t₀ t stale : List ℕ) (turn : Turn) : Type 0 where
   pub reached : Reached visit n t₀ t
-  pub fresh : Fresh visit n (isStale stale) t
+  pub fresh : Fresh visit n (inSet stale) t
   pub four : length stale ≡ 4
   pub next : NextTurn n stale turn
 
 -- what falls with each turn: the weight of the table, and while that stays the number of stale sequences
 abbrev pub load : (List ℕ → ℕ) → List ℕ → List ℕ → ℕ
-load weight t stale = 257 * weight t + countPassing (isStale stale) 256
+load weight t stale = 257 * weight t + countPassing (inSet stale) 256
 
 -- no number is stale
 pub settling-end : {visit : List ℕ → ℕ → List ℕ} {n : ℕ} (t₀ t stale : List ℕ) (turn : Turn) → n ≤ turn .number → Settling visit n t₀ t stale turn → Settles visit n t₀ t
@@ -97,14 +98,14 @@ module _ {visit : List ℕ → ℕ → List ℕ} {weight : List ℕ → ℕ} {n 
   pub settling-less : (t₀ t stale : List ℕ) (turn : Turn) (callers t′ stale′ : List ℕ) (changed : Bool) → n ≤ 256 → turn .number < n
       → Settling visit n t₀ t stale turn → Visit visit weight t (turn .number) t′ changed → StaleAfter callers (turn .number) stale stale′ changed
       → load weight t′ stale′ < load weight t stale
-  settling-less t₀ t stale turn callers t′ stale′ true few low p v after = omega (arith, v .falls refl, count-all (isStale stale′) 256)
+  settling-less t₀ t stale turn callers t′ stale′ true few low p v after = omega (arith, v .falls refl, count-all (inSet stale′) 256)
   settling-less t₀ t stale turn callers t′ stale′ false few low p v after =
       let c = turn .number in
       let out = after .unchanged refl in
-      let fewer : countPassing (isStale stale′) 256 < countPassing (isStale stale) 256 =
-      count-more (isStale stale′) (isStale stale)
+      let fewer : countPassing (inSet stale′) 256 < countPassing (inSet stale) 256 =
+      count-more (inSet stale′) (inSet stale)
       (λ d e. elim (ℕ-discrete d c) [
-        | yes same ↦ absurd (false≢true (sym (out .out) ∙ subst (λ (k : ℕ). isStale stale′ k ≡ true) same e))
+        | yes same ↦ absurd (false≢true (sym (out .out) ∙ subst (λ (k : ℕ). inSet stale′ k ≡ true) same e))
         | no other ↦ sym (out .others d other) ∙ e
       ])
       256 c (omega arith) (out .out) (p .next .chosen low) in
@@ -122,7 +123,7 @@ module _ {visit : List ℕ → ℕ → List ℕ} {weight : List ℕ → ℕ} {n 
         record {
           reached = reached-visit t c t′ changed low (p .reached) v;
           fresh =
-              fresh-turn local t c t′ changed (isStale stale) (isStale stale′) long low (p .fresh) v
+              fresh-turn local t c t′ changed (inSet stale) (inSet stale′) long low (p .fresh) v
               (λ d l e. (
                 after .others d (omega arith) e,
                 λ q. sym (caller-is by d c l low) ∙ after .called q d (omega arith) e,

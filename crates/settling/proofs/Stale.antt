@@ -1,13 +1,15 @@
 -- Visits of stale numbers only, for any table: a visit leaves fresh what does not call the number visited.
 -- Assumes nothing.
 use Prim.Native.Nat.{ℕ, _≤_, _<_}
+use native.Mathlib.Omega.{arith}
 use native.Mathlib.Decide.{ℕ-discrete}
 use mathlib.Core.Path.{_≡_, refl, sym, _∙_, subst}
-use mathlib.Core.Bool.{Bool, true, false}
-use mathlib.Core.List.{List}
+use mathlib.Core.Bool.{Bool, true, false, false≢true}
+use mathlib.Core.List.{List, [], _∷_}
 use lib.ListN.{length}
-use Rattle.settling.specs.Passes.{Visit}
-use Rattle.settling.specs.Stale.{Fresh}
+use Rattle.callers.specs.Callers.{inSet}
+use Rattle.callers.proofs.CallerSets.{all-in}
+use Rattle.settling.specs.Settling.{Visit, Fresh}
 
 -- what the laws ask of a visit: one that changes nothing still changes nothing after a visit of a number that it does not call, and neither
 -- does a second visit of a number that does not call itself
@@ -33,3 +35,8 @@ module _ {visit : List ℕ → ℕ → List ℕ} {weight : List ℕ → ℕ} {n 
         | yes here ↦ subst (λ (k : ℕ). visit t k ≡ t) (sym here) (sym (v .done) ∙ same)
         | no other ↦ fresh d l (after d l e .0 other)
       ])
+
+-- at first every sequence is stale
+pub fresh-start : (visit : List ℕ → ℕ → List ℕ) (n : ℕ) (t : List ℕ) → n ≤ 256
+    → Fresh visit n (inSet (18446744073709551615 ∷ 18446744073709551615 ∷ 18446744073709551615 ∷ 18446744073709551615 ∷ [])) t
+fresh-start visit n t few c l e = absurd (false≢true (sym e ∙ all-in c (omega arith)))

@@ -1,3 +1,2 @@
-pub mod Passes
-pub mod Stale
+pub mod Settling
 pub mod Turns

@@ -1,13 +1,14 @@
 // Turns: which stale number is visited next, in an order and against it in turn, and what is stale after its visit.
-use crate::callers::is_stale;
-use crate::callers::remove;
-use crate::callers::unite;
-use crate::named::place_of;
+use callers::sets::contains;
+use callers::sets::remove;
+use callers::sets::unite;
 ghost use Prim.Native.Nat.{_+_, _*_, _≤_, _<_};
 ghost use mathlib.Core.Path.{_≡_};
 ghost use lib.ListN.{length};
-ghost use Rattle.settling.specs.Passes.{Complete};
-ghost use Rattle.settling.specs.Turns.{toVisit, StalePlace, TurnAt, NextTurn, StaleAfter};
+ghost use Rattle.image.specs.Word.{mostSequences};
+ghost use Rattle.general.specs.Numbers.{Complete};
+ghost use Rattle.callers.specs.Callers.{setWords};
+ghost use Rattle.settling.specs.Turns.{placeOf, toVisit, StalePlace, TurnAt, NextTurn, StaleAfter};
 
 // Four such words are the set of all sequences.
 pub const ALL_STALE: u64 = 0xffffffffffffffff;
@@ -19,20 +20,31 @@ pub struct Turn {
     pub forward: bool,
 }
 
+// The place in an order of `len` numbers that comes at turn `i`: first to last, or last to first.
+fn place_of(forward: bool, len: usize, i: usize) -> usize
+    requires { ⌜ i < len ⌝ }
+    ensures { λ r. ⌜ (r ≡ placeOf forward len i) × (r < len) ⌝ }
+{
+    if forward {
+        return i;
+    }
+    len - 1 - i
+}
+
 // Whether a number below `n` is stale.
 fn to_visit(stale: &[u64], n: usize, c: usize) -> bool
-    requires { ⌜ (length (now stale) ≡ 4) × (n ≤ 256) ⌝ }
+    requires { ⌜ (length (now stale) ≡ setWords) × (n ≤ mostSequences) ⌝ }
     ensures { λ r. ⌜ r ≡ toVisit n (now (stale .entry)) c ⌝ }
 {
     if c < n {
-        return is_stale(stale, c);
+        return contains(stale, c);
     }
     false
 }
 
 // The first place from `at` on whose number is stale, in this direction; one past the last place where there is none.
 fn stale_place(order: &[usize], stale: &[u64], n: usize, forward: bool, at: usize) -> usize
-    requires { ⌜ (length (now stale) ≡ 4) × (n ≤ 256) ⌝ }
+    requires { ⌜ (length (now stale) ≡ setWords) × (n ≤ mostSequences) ⌝ }
     ensures { λ r. ⌜ StalePlace n (now (order .entry)) (now (stale .entry)) forward at r ⌝ }
 {
     let mut i = at;
@@ -60,7 +72,7 @@ fn turn_at(order: &[usize], forward: bool, i: usize) -> Turn
 // The next turn: the first stale number from the turn's place on, or else the first one against its direction. Where no number below `n` is
 // stale, its number is `n`.
 pub fn next(order: &[usize], stale: &[u64], n: usize, turn: Turn) -> Turn
-    requires { ⌜ (length (now stale) ≡ 4) × (n ≤ 256) × Complete (now order) n ⌝ }
+    requires { ⌜ (length (now stale) ≡ setWords) × (n ≤ mostSequences) × Complete (now order) n ⌝ }
     ensures { λ r. ⌜ NextTurn n (now (stale .entry)) r ⌝ }
 {
     let here = stale_place(order, stale, n, turn.forward, turn.place);
@@ -80,7 +92,7 @@ pub fn next(order: &[usize], stale: &[u64], n: usize, turn: Turn) -> Turn
 
 // The first turn.
 pub fn first(order: &[usize], stale: &[u64], n: usize) -> Turn
-    requires { ⌜ (length (now stale) ≡ 4) × (n ≤ 256) × Complete (now order) n ⌝ }
+    requires { ⌜ (length (now stale) ≡ setWords) × (n ≤ mostSequences) × Complete (now order) n ⌝ }
     ensures { λ r. ⌜ NextTurn n (now (stale .entry)) r ⌝ }
 {
     let start = Turn {
@@ -93,7 +105,7 @@ pub fn first(order: &[usize], stale: &[u64], n: usize) -> Turn
 
 // After a visit of number `c` it is no longer stale, and its callers are where the visit changed something.
 pub fn after_visit(stale: &mut [u64], callers: &[u64], c: usize, changed: bool)
-    requires { ⌜ (length (now stale) ≡ 4) × (c < 256) × (4 * c + 4 ≤ length (now callers)) ⌝ }
+    requires { ⌜ (length (now stale) ≡ setWords) × (c < mostSequences) × (setWords * c + setWords ≤ length (now callers)) ⌝ }
     ensures { λ _. ⌜ StaleAfter (now (callers .entry)) c (now (stale .entry)) (now (stale .exit)) changed ⌝ }
 {
     remove(stale, c);

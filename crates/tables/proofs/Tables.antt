@@ -12,15 +12,16 @@ use lib.Dec.{leb}
 use borrow.Author.Tests.{leb-true}
 use Rattle.general.proofs.Bools.{and-parts}
 use Rattle.image.specs.declared.answer.Head.{Head}
-use Rattle.reader.specs.Checked.{accepts}
+use Rattle.rules.specs.Checked.{accepts}
 use Rattle.rules.specs.Rules.{opened}
 use Rattle.library.specs.Library.{Library, Step, stepsFrom, sequencesFrom, stepsPart, sequencesPart, libraryOf}
 use Rattle.library.specs.Tables.{StepsAsked, SequencesAsked, maskOf, masks, placesFrom}
 use Rattle.library.proofs.Accepted.{faultless, parts, library-is}
 use Rattle.library.proofs.Lookup.{noFacts, words-at, Placed, place-at, places-length}
-use Rattle.settling.specs.Passes.{Blank, Complete}
-use Rattle.settling.specs.Stale.{CallersAsked, CallersWritten, Scheduled}
-use Rattle.settling.proofs.Visits.{blank-zeros}
+use Rattle.general.specs.Numbers.{Zeros, Complete}
+use Rattle.callers.specs.Callers.{CallersAsked, CallersWritten}
+use Rattle.settling.specs.Settling.{Scheduled}
+use Rattle.general.proofs.Numbers.{zeros}
 use Rattle.tables.specs.Tables.{smallSteps, smallSequences, isSmall, TablesAsked, Prepared}
 
 -- ---- the size of an image
@@ -50,7 +51,7 @@ module _ (image : List ℕ) (h : Head) (accepted : accepts image h) where
         masks-room = omega (arith, length-replicate {A = ℕ} (3 * steps) 0);
         places-room = omega (arith, length-replicate {A = ℕ} sequences 0);
         callers-room = omega (arith, length-replicate {A = ℕ} (4 * sequences) 0);
-        callers-blank = blank-zeros (4 * sequences);
+        callers-blank = zeros (4 * sequences);
         order-room = omega (arith, length-replicate {A = ℕ} sequences 0);
       }
 
@@ -96,7 +97,7 @@ module _ {h : Head} {image ms₀ ps₀ callers₀ order₀ : List ℕ} (asked : 
         few = few-sequences image h (asked .accepted);
         placed = omega (arith, asked .places-room);
         within = λ c l. place-in image h (asked .accepted) e (drop (h .sequences) ps₀) placed c l .within;
-        blank = asked .callers-blank;
+        zeros = asked .callers-blank;
       }
 
   pub prepared : {first part ms ps callers order : List ℕ} → first ≡ stepsPart image → part ≡ sequencesPart image
@@ -113,17 +114,17 @@ module _ {h : Head} {image ms₀ ps₀ callers₀ order₀ : List ℕ} (asked : 
 -- ---- the tables, where they are looked up
 
 -- a table in an area that was blank, at any index
-past-blank : (xs rest : List ℕ) → Blank rest → (k : ℕ) → getD (xs ++ rest) k 0 ≡ getD xs k 0
+past-blank : (xs rest : List ℕ) → Zeros rest → (k : ℕ) → getD (xs ++ rest) k 0 ≡ getD xs k 0
 past-blank [] rest blank k = blank k
 past-blank (x ∷ xs) rest blank zero = refl
 past-blank (x ∷ xs) rest blank (suc k) = past-blank xs rest blank k
 
-blank-drop : (n : ℕ) (zeros : List ℕ) → Blank zeros → Blank (drop n zeros)
-blank-drop n zeros blank k = getD-drop n zeros k 0 ∙ blank (n + k)
+blank-drop : (n : ℕ) (area : List ℕ) → Zeros area → Zeros (drop n area)
+blank-drop n area blank k = getD-drop n area k 0 ∙ blank (n + k)
 
 module _ {h : Head} {image ms₀ ps₀ ms ps callers order : List ℕ} (accepted : accepts image h) (made : Prepared h image ms₀ ps₀ ms ps callers order) where
   -- the masks of step a, by a blank area; past the steps, those of one that names no fact
-  pub step-masks : Blank ms₀ → (a : ℕ)
+  pub step-masks : Zeros ms₀ → (a : ℕ)
       → (getD ms (3 * a) 0 ≡ maskOf (getD (libraryOf image .steps) a noFacts .needs))
       × (getD ms (3 * a + 1) 0 ≡ maskOf (getD (libraryOf image .steps) a noFacts .sets))
       × (getD ms (3 * a + 2) 0 ≡ maskOf (getD (libraryOf image .steps) a noFacts .clears))
@@ -147,7 +148,7 @@ module _ {h : Head} {image ms₀ ps₀ ms ps callers order : List ℕ} (accepted
     place-is = place-in image h accepted sequences (drop (h .sequences) ps₀) places-are
 
     -- by a blank area no place is past the part, whatever its index
-    pub place-within : Blank ps₀ → 0 < h .sequences → (c : ℕ) → getD ps c 0 < length part
+    pub place-within : Zeros ps₀ → 0 < h .sequences → (c : ℕ) → getD ps c 0 < length part
     place-within blank some c =
         elim (decLt c (h .sequences)) [
           | yes l ↦ place-is c l .within

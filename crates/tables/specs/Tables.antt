@@ -5,11 +5,11 @@ use mathlib.Core.Bool.{Bool, _&&_}
 use mathlib.Core.List.{List, _++_}
 use lib.ListN.{length, take, drop}
 use lib.Dec.{leb}
-use Rattle.reader.specs.Checked.{accepts}
+use Rattle.rules.specs.Checked.{accepts}
 use Rattle.library.specs.Library.{libraryOf, sequencesPart}
 use Rattle.library.specs.Tables.{masks, placesFrom}
-use Rattle.settling.specs.Passes.{Blank, Complete}
-use Rattle.settling.specs.Stale.{CallersWritten}
+use Rattle.general.specs.Numbers.{Zeros, Complete}
+use Rattle.callers.specs.Callers.{CallersWritten}
 use Rattle.image.specs.declared.answer.Head.{Head}
 
 -- the steps and the sequences that small areas have room for
@@ -30,7 +30,7 @@ pub record TablesAsked (h : Head) (image ms ps callers order : List ℕ) : Type 
   pub masks-room : 3 * h .steps ≤ length ms
   pub places-room : h .sequences ≤ length ps
   pub callers-room : 4 * h .sequences ≤ length callers
-  pub callers-blank : Blank callers
+  pub callers-blank : Zeros callers
   pub order-room : h .sequences ≤ length order
 
 -- what is written, from the areas before on: the masks are those of the library's steps and the places those of its sequences, and words past

@@ -1,11 +1,11 @@
 // The tables of an accepted image, in lent areas.
+use callers::write::write_callers;
 use image::answer::Head;
 use library::parts::sequences_part;
 use library::parts::steps_part;
 use library::tables::write_masks;
 use library::tables::write_places;
-use settling::callers::write_callers;
-use settling::order::visiting_order;
+use order::finishing::visiting_order;
 ghost use Rattle.tables.specs.Tables.{TablesAsked, Prepared};
 
 // Writes the steps' masks, the sequences' places, their callers and an order of visits.

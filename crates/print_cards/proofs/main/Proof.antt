@@ -4,7 +4,7 @@ use borrow.Author.Needs.{needs}
 use mathlib.Core.Path.{sym, subst}
 use lib.ListN.{length}
 use lib.Seq.{length-take-le}
-use Rattle.print_cards.specs.Input.{Within}
+use Rattle.print_cards.specs.Input.{InputWithin}
 use Rattle.print_cards.specs.declared.Input.{Input}
 use Rattle.print_cards.proofs.main.Statement.{statement}
 use Rattle.print_cards.proofs.main.Tie as tie
@@ -26,13 +26,13 @@ enum-known-n c = search needs
 array-share-prefix-input : tie.Need-array-share-prefix-input
 array-share-prefix-input c =
     let read = c .before .before .before .before in
-    subst (λ (r : Input). Within r (length (read .read-input .last .0))) (c .before .n .given .1) (read .read-input .ensures)
+    subst (λ (r : Input). InputWithin r (length (read .read-input .last .0))) (c .before .n .given .1) (read .read-input .ensures)
 
 slice-aggregate-print : tie.Need-slice-aggregate-print
 slice-aggregate-print c =
     let read = c .before .before .before .before .before in
     sym (length-take-le _ (read .read-input .last .0)
-    (subst (λ (r : Input). Within r (length (read .read-input .last .0))) (c .before .before .n .given .1) (read .read-input .ensures)))
+    (subst (λ (r : Input). InputWithin r (length (read .read-input .last .0))) (c .before .before .n .given .1) (read .read-input .ensures)))
 
 print-requires : tie.Need-print-requires
 print-requires c κs = search needs

@@ -5,7 +5,7 @@ use Prim.Native.Nat.{ℕ, _/_}
 use mathlib.Core.Path.{refl, sym, ap, _∙_, subst}
 use mathlib.Core.List.{List}
 use lib.ListN.{length}
-use Rattle.reader.specs.Checked.{checked}
+use Rattle.rules.specs.Checked.{checked}
 use Rattle.card_text.specs.Text.{InFront}
 use Rattle.card_text.specs.Print.{imageText}
 use Rattle.card_text.proofs.Printed.{length-words, words-part}

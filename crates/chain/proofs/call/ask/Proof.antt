@@ -10,7 +10,7 @@ use Rattle.chain.proofs.call.ask.Tie as tie
 use Rattle.chain.proofs.call.ask.Reads as reads
 use Rattle.chain.proofs.call.ask.Lts as lts
 use Rattle.chain.proofs.call.find.Reads as find-reads
-use Rattle.question.proofs.answer.told_of.Reads as told-of-reads
+use Rattle.question.proofs.answer.answer_by_rank.Reads as answer-by-rank-reads
 use Rattle.question.proofs.asked.in_range.Reads as in-range-reads
 use Rattle.question.proofs.asked.out_of_range.Reads as out-of-range-reads
 use Rattle.question.proofs.asked.read_question.Reads as read-question-reads
@@ -39,8 +39,8 @@ find-requires c κs =
     let a = start .args in
     find-asked (a .image .now) (a .h) (a .sequence) (a .question) (a .fact) (a .area .now) (start .pre) (sym (test .before .in-range .ensures) ∙ test .if1 .taken) (read .read-question .result) (read .read-question .ensures)
 
-told-of-requires : tie.Need-told-of-requires
-told-of-requires c κs = search needs
+answer-by-rank-requires : tie.Need-answer-by-rank-requires
+answer-by-rank-requires c κs = search needs
 
 same-length : tie.Need-same-length
 same-length c = search needs
@@ -53,7 +53,7 @@ returns c =
     let start = test .before .before .before .before in
     let a = start .args in
     call-told (a .image .now) (a .h) (a .sequence) (a .question) (a .fact) (a .area .now) (start .pre) (sym (test .before .in-range .ensures) ∙ test .if1 .taken) (read .read-question .result) (read .read-question .ensures)
-    (found .find .result) _ _ (c .told-of .ensures) (found .find .ensures)
+    (found .find .result) _ _ (c .answer-by-rank .ensures) (found .find .ensures)
 
 out-of-range-requires : tie.Need-out-of-range-requires
 out-of-range-requires c κs = search needs
@@ -73,7 +73,7 @@ ask-spec =
     read-question-requires
     cast-find
     find-requires
-    told-of-requires
+    answer-by-rank-requires
     same-length
     returns
     out-of-range-requires

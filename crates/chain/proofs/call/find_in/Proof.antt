@@ -7,7 +7,7 @@ use lib.ListN.{length}
 use lib.Seq.{length-take-le}
 use Rattle.question.specs.Answer as words
 use Rattle.link.proofs.Writing.{answered-same}
-use Rattle.settling.proofs.Visits.{blank-zeros}
+use Rattle.general.proofs.Numbers.{zeros}
 use Rattle.tables.proofs.Tables.{image-long, few-sequences}
 use Rattle.chain.proofs.Finding.{ranks-long, ranks-unranked, tables-asked, masks-made, places-made, tables-findable, found-done}
 use Rattle.chain.proofs.call.find_in.Statement.{statement}
@@ -79,7 +79,7 @@ find-by-requires c κs =
     let asked = start .pre .0 in
     let areas = start .pre .1 in (
       tables-findable (asked .accepted) (made .prepare .ensures) (part .sequences-part .ensures) asked (ranks-unranked (areas .ahead-asked)) (ranks-unranked (areas .behind-asked))
-          (ranks-unranked (areas .links-asked)) (blank-zeros 256) (omega (arith, made .prepare .kept, areas .masks-room))
+          (ranks-unranked (areas .links-asked)) (zeros 256) (omega (arith, made .prepare .kept, areas .masks-room))
           (omega (arith, made .prepare .kept, few-sequences (start .args .image .now) (start .args .h) (asked .accepted)))
           (omega (arith, made .prepare .kept, areas .callers-room)),
       asked .sequence,
@@ -113,7 +113,7 @@ returns c =
     let asked = start .pre .0 in
     let areas = start .pre .1 in
     let by = found .find-by .ensures in
-    answered-same {found = words.told (a .q) (found .find-by .result) (length (a .area .now))}
+    answered-same {found = words.byRank (a .q) (found .find-by .result) (length (a .area .now))}
     (found-done (a .image .now) (a .h) (asked .accepted) _ _ _ (masks-made (asked .accepted) (made .prepare .ensures) (part .sequences-part .ensures) (areas .masks-blank))
     (places-made (asked .accepted) (made .prepare .ensures) (part .sequences-part .ensures)) (a .q) (a .c) asked _ _ _ _ (ranks-unranked (areas .links-asked)) (by .ranked) _ _
     (ranks-unranked (areas .ahead-asked)) (ranks-unranked (areas .behind-asked)) (by .marked))

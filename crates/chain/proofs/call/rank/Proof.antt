@@ -8,7 +8,7 @@ use Rattle.chain.proofs.call.rank.Tie as tie
 use Rattle.chain.proofs.call.rank.Reads as reads
 use Rattle.chain.proofs.call.rank.Lts as lts
 use Rattle.rank.proofs.entry.write_step_ranks.Reads as write-step-ranks-reads
-use Rattle.rank.proofs.pass.settle.Reads as settle-reads
+use Rattle.rank.proofs.settle.settle.Reads as settle-reads
 
 write-step-ranks-requires : tie.Need-write-step-ranks-requires
 write-step-ranks-requires c κs = search needs

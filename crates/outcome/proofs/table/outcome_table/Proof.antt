@@ -15,7 +15,7 @@ use Rattle.outcome.proofs.table.outcome_table.Tie as tie
 use Rattle.outcome.proofs.table.outcome_table.Reads as reads
 use Rattle.outcome.proofs.table.outcome_table.Lts as lts
 use Rattle.library.proofs.parts.sequences_part.Reads as sequences-part-reads
-use Rattle.outcome.proofs.pass.settle.Reads as settle-reads
+use Rattle.outcome.proofs.settle.settle.Reads as settle-reads
 use Rattle.outcome.proofs.steps.write_step_rows.Reads as write-step-rows-reads
 use Rattle.row.proofs.words.all_facts.Reads as all-facts-reads
 use Rattle.tables.proofs.prepare.prepare.Reads as prepare-reads

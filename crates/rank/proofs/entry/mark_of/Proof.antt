@@ -5,7 +5,7 @@ use Rattle.rank.proofs.entry.mark_of.Statement.{statement}
 use Rattle.rank.proofs.entry.mark_of.Tie as tie
 use Rattle.rank.proofs.entry.mark_of.Reads as reads
 use Rattle.rank.proofs.entry.mark_of.Lts as lts
-use Rattle.rank.proofs.entry.kept.Reads as kept-reads
+use Rattle.rank.proofs.entry.choose.Reads as choose-reads
 use Rattle.column.proofs.sets.holds.Reads as holds-reads
 
 holds-requires : tie.Need-holds-requires
@@ -14,15 +14,15 @@ holds-requires c κs = search needs
 holds-requires-2 : tie.Need-holds-requires-2
 holds-requires-2 c κs = search needs
 
-kept-requires : tie.Need-kept-requires
-kept-requires c κs = search needs
+choose-requires : tie.Need-choose-requires
+choose-requires c κs = search needs
 
-kept-requires-2 : tie.Need-kept-requires-2
-kept-requires-2 c κs = search needs
+choose-requires-2 : tie.Need-choose-requires-2
+choose-requires-2 c κs = search needs
 
 returns : tie.Need-returns
-returns c = simp (c .kept2 .ensures, c .before .kept .ensures, c .before .before .holds2 .ensures, c .before .before .before .holds .ensures)
+returns c = simp (c .choose2 .ensures, c .before .choose .ensures, c .before .before .holds2 .ensures, c .before .before .before .holds .ensures)
 
 pub mark-of-spec : {M : Type 1} → statement M
 mark-of-spec =
-    tie.close (tie.spec holds-requires holds-requires-2 kept-requires kept-requires-2 returns)
+    tie.close (tie.spec holds-requires holds-requires-2 choose-requires choose-requires-2 returns)

@@ -5,7 +5,7 @@ use Rattle.rank.proofs.entry.slot_of.Statement.{statement}
 use Rattle.rank.proofs.entry.slot_of.Tie as tie
 use Rattle.rank.proofs.entry.slot_of.Reads as reads
 use Rattle.rank.proofs.entry.slot_of.Lts as lts
-use Rattle.rank.proofs.entry.kept.Reads as kept-reads
+use Rattle.rank.proofs.entry.choose.Reads as choose-reads
 use Rattle.image.proofs.word.is_kind.Reads as is-kind-reads
 use Rattle.image.proofs.word.payload_of.Reads as payload-of-reads
 
@@ -18,8 +18,8 @@ cast-result c = search needs
 is-kind-requires : tie.Need-is-kind-requires
 is-kind-requires c κs = search needs
 
-kept-requires : tie.Need-kept-requires
-kept-requires c κs = search needs
+choose-requires : tie.Need-choose-requires
+choose-requires c κs = search needs
 
 cast-result-2 : tie.Need-cast-result-2
 cast-result-2 c = search needs
@@ -28,7 +28,7 @@ add-result : tie.Need-add-result
 add-result c = search needs
 
 returns : tie.Need-returns
-returns c = simp (c .kept .ensures, c .before .is-kind .ensures, c .before .before .payload-of .ensures)
+returns c = simp (c .choose .ensures, c .before .is-kind .ensures, c .before .before .payload-of .ensures)
 
 pub slot-of-spec : {M : Type 1} → statement M
 slot-of-spec =
@@ -37,7 +37,7 @@ slot-of-spec =
     payload-of-requires
     cast-result
     is-kind-requires
-    kept-requires
+    choose-requires
     cast-result-2
     add-result
     returns)

@@ -8,14 +8,14 @@ use Rattle.rank.proofs.entry.step_mark.Statement.{statement}
 use Rattle.rank.proofs.entry.step_mark.Tie as tie
 use Rattle.rank.proofs.entry.step_mark.Reads as reads
 use Rattle.rank.proofs.entry.step_mark.Lts as lts
-use Rattle.rank.proofs.entry.kept.Reads as kept-reads
+use Rattle.rank.proofs.entry.choose.Reads as choose-reads
 use Rattle.rank.proofs.entry.mark_of.Reads as mark-of-reads
 
 mul-at : tie.Need-mul-at
 mul-at c = search needs
 
-kept-requires : tie.Need-kept-requires
-kept-requires c κs = search needs
+choose-requires : tie.Need-choose-requires
+choose-requires c κs = search needs
 
 cast-at : tie.Need-cast-at
 cast-at c = search needs
@@ -29,7 +29,7 @@ mul-mark-of c = search needs
 shared-slice-read-mark-of : tie.Need-shared-slice-read-mark-of
 shared-slice-read-mark-of c =
     let a = c .before .before .before .args in
-    omega (arith, c .before .kept .ensures, side-low (a .q .first), c .before .before .before .pre .1)
+    omega (arith, c .before .choose .ensures, side-low (a .q .first), c .before .before .before .pre .1)
 
 add-mark-of : tie.Need-add-mark-of
 add-mark-of c = search needs
@@ -40,7 +40,7 @@ mul-mark-of-2 c = search needs
 shared-slice-read-mark-of-2 : tie.Need-shared-slice-read-mark-of-2
 shared-slice-read-mark-of-2 c =
     let a = c .before .before .before .before .args in
-    omega (arith, c .before .before .kept .ensures, side-low (a .q .first), c .before .before .before .before .pre .1)
+    omega (arith, c .before .before .choose .ensures, side-low (a .q .first), c .before .before .before .before .pre .1)
 
 mark-of-requires : tie.Need-mark-of-requires
 mark-of-requires c κs = search needs
@@ -49,14 +49,14 @@ returns : tie.Need-returns
 returns c =
     let side = c .before .before .before in
     let a = side .before .before .args in
-    c .mark-of .ensures ∙ side-mark (a .q) (a .masks .now) (a .a) (side .kept .result) (side .kept .ensures)
+    c .mark-of .ensures ∙ side-mark (a .q) (a .masks .now) (a .a) (side .choose .result) (side .choose .ensures)
 
 pub step-mark-spec : {M : Type 1} → statement M
 step-mark-spec =
     tie.close
     (tie.spec
     mul-at
-    kept-requires
+    choose-requires
     cast-at
     add-at
     mul-mark-of

@@ -12,10 +12,10 @@ use Rattle.rank.proofs.entry.write_step_ranks.Lts as lts
 use Rattle.rank.proofs.entry.step_rank.Reads as step-rank-reads
 
 abbrev Inv-loop : tie.InvT-loop
-Inv-loop any q masks ranks₀ base a₀ ranks a = Stepping any q masks ranks₀ ranks a
+Inv-loop all q masks ranks₀ base a₀ ranks a = Stepping all q masks ranks₀ ranks a
 
 abbrev μ-loop : tie.MeasureT-loop
-μ-loop any q masks ranks₀ base a₀ ranks a = length ranks₀ - (q .none + a)
+μ-loop all q masks ranks₀ base a₀ ranks a = length ranks₀ - (q .none + a)
 
 cast-base : tie.Need-cast-base Inv-loop μ-loop
 cast-base c = search needs
@@ -24,7 +24,7 @@ loop-holds : tie.Need-loop-holds Inv-loop μ-loop
 loop-holds c =
     let start = c .before .before .before in
     let a = start .args in
-    stepping-start (a .any) (a .q) (a .masks .now) (a .ranks .now) (start .pre)
+    stepping-start (a .all) (a .q) (a .masks .now) (a .ranks .now) (start .pre)
 
 add-loop : tie.Need-add-loop Inv-loop μ-loop
 add-loop c = omega (arith, c .loop .inv .low, c .before .before .before .before .good)
@@ -55,7 +55,7 @@ loop-again c =
     let turn = c .before in
     let at-loop = turn .before in
     let a = at-loop .before .before .before .before .args in
-    stepping-turn (a .any) (a .q) (a .masks .now) (a .ranks .now) (at-loop .loop .ranks) (at-loop .loop .a) (at-loop .loop .inv)
+    stepping-turn (a .all) (a .q) (a .masks .now) (a .ranks .now) (at-loop .loop .ranks) (at-loop .loop .a) (at-loop .loop .inv)
     (omega (arith, turn .loop-test .taken, at-loop .loop .inv .long)) _ (c .step-rank .ensures)
 
 same-length : tie.Need-same-length Inv-loop μ-loop
@@ -65,7 +65,7 @@ returns : tie.Need-returns Inv-loop μ-loop
 returns c =
     let at-loop = c .before in
     let a = at-loop .before .before .before .before .args in
-    stepping-end (a .any) (a .q) (a .masks .now) (a .ranks .now) (at-loop .loop .ranks) (at-loop .loop .a) (at-loop .loop .inv)
+    stepping-end (a .all) (a .q) (a .masks .now) (a .ranks .now) (at-loop .loop .ranks) (at-loop .loop .a) (at-loop .loop .inv)
     (omega (arith, c .loop-test .left, at-loop .loop .inv .long))
 
 pub write-step-ranks-spec : {M : Type 1} → statement M

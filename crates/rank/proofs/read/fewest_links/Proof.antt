@@ -52,11 +52,11 @@ traits-of-requires c κs =
     let inside = folding-inside (at-loop .loop .inv) (entry c) in
     rw (c .before .before .word-at .ensures) (readable .by-ahead .within i inside, readable .by-behind .within i inside, readable .by-ranks .within i inside, entry c)
 
-kept-requires : tie.Need-kept-requires Inv-loop μ-loop
-kept-requires c κs = search needs
+choose-requires : tie.Need-choose-requires Inv-loop μ-loop
+choose-requires c κs = search needs
 
-kept-requires-2 : tie.Need-kept-requires-2 Inv-loop μ-loop
-kept-requires-2 c κs = search needs
+choose-requires-2 : tie.Need-choose-requires-2 Inv-loop μ-loop
+choose-requires-2 c κs = search needs
 
 least-requires : tie.Need-least-requires Inv-loop μ-loop
 least-requires c κs = search needs
@@ -76,7 +76,7 @@ loop-again c =
     let least = c .before in
     let traits = least .before .before .before in
     let word = traits .before .before .before in
-    rw (least .least .ensures, least .before .kept2 .ensures, least .before .before .kept .ensures, traits .traits-of .ensures, word .word-at .ensures)
+    rw (least .least .ensures, least .before .choose2 .ensures, least .before .before .choose .ensures, traits .traits-of .ensures, word .word-at .ensures)
     (folding-turn (word .before .loop .inv) (entry (traits .before)) refl)
 
 pub fewest-links-spec : {M : Type 1} → statement M
@@ -90,8 +90,8 @@ fewest-links-spec =
     is-entry-requires
     returns
     traits-of-requires
-    kept-requires
-    kept-requires-2
+    choose-requires
+    choose-requires-2
     least-requires
     add-i
     loop-less

@@ -8,9 +8,9 @@ use Prim.Native.Nat.{ℕ, _-_}
 use lib.ListN.{length, take, drop}
 use lib.Seq.{length-take-le}
 use Rattle.image.specs.Word.{headOf}
-use Rattle.reader.specs.Checked.{firstWord}
-use Rattle.reader.specs.Walk.{walk, opening}
-use Rattle.reader.proofs.Read.{refused-short, refused-long, refused-sum, refused-head, checked-walk}
+use Rattle.rules.specs.Checked.{firstWord}
+use Rattle.rules.specs.Walk.{walk, opening}
+use Rattle.rules.proofs.Checked.{refused-short, refused-long, refused-sum, refused-head, checked-walk}
 use Rattle.reader.proofs.check.check.Statement.{statement}
 use Rattle.reader.proofs.check.check.Tie as tie
 use Rattle.reader.proofs.check.check.Reads as reads

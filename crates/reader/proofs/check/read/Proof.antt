@@ -6,9 +6,10 @@ use mathlib.Core.Path.{sym, ap, _∙_, subst}
 use Prim.Native.Nat.{_+_, _≤_}
 use lib.ListN.{length, length-drop}
 use Rattle.rules.specs.Quick.{Counts}
-use Rattle.reader.specs.Walk.{walk, opening}
+use Rattle.rules.specs.Walk.{walk, opening}
 use Rattle.image.specs.declared.answer.Head.{Head}
-use Rattle.reader.proofs.Read.{whole-rest, head-counts, stopped-refused, stopped-end, stopped-within}
+use Rattle.general.proofs.Numbers.{whole-rest}
+use Rattle.reader.proofs.Read.{head-counts, stopped-refused, stopped-end, stopped-within}
 use Rattle.reader.proofs.check.read.Statement.{statement}
 use Rattle.reader.proofs.check.read.Tie as tie
 use Rattle.reader.proofs.check.read.Reads as reads

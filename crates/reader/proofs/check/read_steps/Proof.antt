@@ -6,7 +6,7 @@ use Prim.Native.Nat.{_+_, _-_}
 use mathlib.Core.Path.{sym, _∙_}
 use lib.ListN.{length, getD}
 use Rattle.rules.specs.Quick.{after}
-use Rattle.reader.specs.Walk.{opening}
+use Rattle.rules.specs.Walk.{opening}
 use Rattle.reader.proofs.Walk.{Reading, reading-turn, reading-refused, reading-body}
 use Rattle.reader.proofs.check.read_steps.Statement.{statement}
 use Rattle.reader.proofs.check.read_steps.Tie as tie

@@ -8,8 +8,8 @@ use Rattle.settling.proofs.turns.after_visit.Statement.{statement}
 use Rattle.settling.proofs.turns.after_visit.Tie as tie
 use Rattle.settling.proofs.turns.after_visit.Reads as reads
 use Rattle.settling.proofs.turns.after_visit.Lts as lts
-use Rattle.settling.proofs.callers.remove.Reads as remove-reads
-use Rattle.settling.proofs.callers.unite.Reads as unite-reads
+use Rattle.callers.proofs.sets.remove.Reads as remove-reads
+use Rattle.callers.proofs.sets.unite.Reads as unite-reads
 
 remove-requires : tie.Need-remove-requires
 remove-requires c κs = search needs

@@ -7,14 +7,14 @@ use mathlib.Core.Path.{_≡_, sym, ap, _∙_}
 use mathlib.Core.Bool.{Bool}
 use lib.ListN.{length, getD}
 use mathlib.Core.List.{List}
-use Rattle.settling.specs.Passes.{placeOf}
+use Rattle.settling.specs.Turns.{placeOf}
 use Rattle.settling.specs.Turns.{numberAt, toVisit, Passed}
 use Rattle.settling.proofs.Settling.{passed-none, passed-more}
 use Rattle.settling.proofs.turns.stale_place.Statement.{statement}
 use Rattle.settling.proofs.turns.stale_place.Tie as tie
 use Rattle.settling.proofs.turns.stale_place.Reads as reads
 use Rattle.settling.proofs.turns.stale_place.Lts as lts
-use Rattle.settling.proofs.named.place_of.Reads as place-of-reads
+use Rattle.settling.proofs.turns.place_of.Reads as place-of-reads
 use Rattle.settling.proofs.turns.to_visit.Reads as to-visit-reads
 
 -- the test of the number at a place

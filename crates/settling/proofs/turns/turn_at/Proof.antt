@@ -8,7 +8,7 @@ use Rattle.settling.proofs.turns.turn_at.Statement.{statement}
 use Rattle.settling.proofs.turns.turn_at.Tie as tie
 use Rattle.settling.proofs.turns.turn_at.Reads as reads
 use Rattle.settling.proofs.turns.turn_at.Lts as lts
-use Rattle.settling.proofs.named.place_of.Reads as place-of-reads
+use Rattle.settling.proofs.turns.place_of.Reads as place-of-reads
 
 place-of-requires : tie.Need-place-of-requires
 place-of-requires c κs = search needs

@@ -13,8 +13,8 @@ use Rattle.library.proofs.parts.sequences_part.Reads as sequences-part-reads
 use Rattle.library.proofs.parts.steps_part.Reads as steps-part-reads
 use Rattle.library.proofs.tables.write_masks.Reads as write-masks-reads
 use Rattle.library.proofs.tables.write_places.Reads as write-places-reads
-use Rattle.settling.proofs.callers.write_callers.Reads as write-callers-reads
-use Rattle.settling.proofs.order.visiting_order.Reads as visiting-order-reads
+use Rattle.callers.proofs.write.write_callers.Reads as write-callers-reads
+use Rattle.order.proofs.finishing.visiting_order.Reads as visiting-order-reads
 
 cast-n : tie.Need-cast-n
 cast-n c = search needs

@@ -1,0 +1,19 @@
+-- Lists of numbers: one that names every number below a bound, one of zeros.
+use Prim.Native.Nat.{ℕ, _<_}
+use mathlib.Core.Path.{_≡_}
+use mathlib.Core.List.{List}
+use lib.ListN.{length, getD}
+
+-- the list names number c
+pub record Named (order : List ℕ) (c : ℕ) : Type 0 where
+  pub place : ℕ
+  pub within : place < length order
+  pub number : getD order place 0 ≡ c
+
+-- each number below n
+abbrev pub Complete : List ℕ → ℕ → Type 0
+Complete order n = (c : ℕ) → c < n → Named order c
+
+-- every word is 0
+abbrev pub Zeros : List ℕ → Type 0
+Zeros area = (k : ℕ) → getD area k 0 ≡ 0

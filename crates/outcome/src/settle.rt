@@ -1,0 +1,59 @@
+// The outcome table settled: a visit unites the row of a sequence with what its alternatives give, and sequences are visited until no visit
+// changes a row.
+use crate::read::read_sequence;
+use callers::sets::SET_WORDS;
+use row::words::put_row;
+use row::words::row_at;
+use row::words::same;
+use row::words::united;
+use settling::turns::ALL_STALE;
+use settling::turns::after_visit;
+use settling::turns::first;
+use settling::turns::next;
+ghost use Prim.Native.Nat.{_<_};
+ghost use Rattle.settling.specs.Settling.{Scheduled, Visit, Settles};
+ghost use Rattle.outcome.specs.Visited.{lacking, RowsVisitable, visited};
+
+// Unites the row of sequence `c` with what its alternatives give. Answers whether that changed it.
+fn visit(
+    all: u64,
+    steps: &[u64],
+    part: &[u32],
+    places: &[u32],
+    table: &mut [u64],
+    n: usize,
+    c: usize,
+) -> bool
+    requires { ⌜ RowsVisitable n (now steps) (now part) (now places) (now table) × (c < n) ⌝ }
+    ensures { λ r. ⌜ Visit (visited all (now (steps .entry)) (now (part .entry)) (now (places .entry))) lacking (now (table .entry)) c (now (table .exit)) r ⌝ }
+{
+    let old = row_at(table, c);
+    let at = places[c] as usize + 1;
+    let new = united(old, read_sequence(all, steps, table, part, at));
+    put_row(table, c, new);
+    !same(old, new)
+}
+
+// Visits stale sequences, in the order and against it in turn, until none is stale. At first every sequence is.
+pub fn settle(
+    all: u64,
+    steps: &[u64],
+    part: &[u32],
+    places: &[u32],
+    callers: &[u64],
+    order: &[usize],
+    table: &mut [u64],
+    n: usize,
+)
+    requires { ⌜ RowsVisitable n (now steps) (now part) (now places) (now table) × Scheduled n (now part) (now places) (now callers) (now order) ⌝ }
+    ensures { λ _. ⌜ Settles (visited all (now (steps .entry)) (now (part .entry)) (now (places .entry))) n (now (table .entry)) (now (table .exit)) ⌝ }
+{
+    let mut stale = [ALL_STALE; SET_WORDS];
+    let mut turn = first(order, &stale, n);
+    while turn.number < n {
+        let c = turn.number;
+        let changed = visit(all, steps, part, places, table, n, c);
+        after_visit(&mut stale, callers, c, changed);
+        turn = next(order, &stale, n, turn);
+    }
+}
