@@ -60,13 +60,13 @@ module _ (image : List ℕ) (h : Head) (c q f : ℕ) (area : List ℕ) (accepted
   -- 9, 10 and 11, in this order
   pub call-out : (r : Refusal) → inRange h c q f ≡ false → r ≡ outOfRange h c q → ChainCalled image c q f area (Chained.Refused r) area
   unfolding chained
-  call-out r out byRank =
+  call-out r out told =
       let reply = inArea (length area) (answer (libraryOf image) (questionOf q) c f) in
       let same : chained image c q f (length area) ≡ refused (outOfRange h c q) =
       ap (λ (k : Checked). afterCheck k image c q f (length area)) accepted
       ∙ by-tests (ltb c (h .sequences)) (leb q 5) (ltb f (h .facts)) reply out in
       record {
-        answer = ap Chained.Refused byRank ∙ ap chainedAs (sym same);
+        answer = ap Chained.Refused told ∙ ap chainedAs (sym same);
         area = ap (λ (k : Reply). areaAfter k area) (sym same);
       }
 

@@ -29,7 +29,7 @@ use Rattle.chains.specs.Ranks.{Ranks, Attained, Linked, Unlowered, unranked, en
 use Rattle.chains.specs.Answer.{Answer, none, shown, chosenAlternative, followed, linksFrom, touchAnswer, untouchedAnswer}
 use Rattle.rank.specs.Walk.{linkFrom, alternativeFrom, depthFrom, fewestFrom}
 use Rattle.rank.specs.Tables.{entryNumber, inRanks, rankIn, passIn, depthIn, everyIn, fewestIn, lookIn, stepMark, markIn, stepRank, Stepped}
-use Rattle.link.specs.Choice.{linkIn, linkEntry, linkAt, linksIn, quietLink, answerIn}
+use Rattle.link.specs.Choice.{linkIn, linkEntry, linkAt, linksIn, untouchedIn, answerIn}
 use Rattle.chain.specs.Described.{isFirst, markNumber, Asks, Masked, Placed, StepsBy, Described}
 use Rattle.question.specs.declared.asked.Asked.{Asked}
 use Rattle.chains.proofs.Depth.{step-rank, step-passes}
@@ -191,8 +191,8 @@ module _ (L : Library) (q : Asked) (Q : Question) (asks : Asks L q Q) where
         ap₂ (λ (n : ℕ) (b : Bool). lookBy T n b (eqb (q .mark) 3)) (asks .none) (two-is false (touch-number (Q .mark) touch))
         ∙ ap (lookBy T n false) (three-is (Q .mark) refl)
         ∙ fun-ext (λ es.
-        ap (λ (r : Entry → ℕ). fewestFrom n r (passIn n ahead) (passIn n behind) true n es) (rank-is n n (hasMark L Q (q .fact)) T steps)
-        ∙ ap₂ (λ (a b : Entry → Bool). fewestFrom n (entryRank n (hasMark L Q (q .fact)) (inRanks n T)) a b true n es) (fun-ext (described .by-ahead)) (fun-ext (described .by-behind))
+        ap (λ (r : Entry → ℕ). fewestFrom n r (passIn n ahead) (passIn n behind) 0 n es) (rank-is n n (hasMark L Q (q .fact)) T steps)
+        ∙ ap₂ (λ (a b : Entry → Bool). fewestFrom n (entryRank n (hasMark L Q (q .fact)) (inRanks n T)) a b 0 n es) (fun-ext (described .by-ahead)) (fun-ext (described .by-behind))
         ∙ sym (fewest-from n (hasMark L Q (q .fact)) (aheadOf L Q (q .fact) (Q .side)) (behindOf L Q (q .fact) (Q .side)) (inRanks n T) es))
 
     -- ---- the answer by the ranks
@@ -210,7 +210,7 @@ module _ (L : Library) (q : Asked) (Q : Question) (asks : Asks L q Q) where
       -- a question that asks for no touch
       pub quiet-answer : Q .mark ≡ untouched → StepsBy (unranked L) 0 (hasMark L Q f) ranks → (c : ℕ) → c < length (L .sequences)
           → answerIn q ahead behind ranks part places c ≡ untouchedAnswer L Q f T c
-      unfolding answerIn quietLink untouchedAnswer
+      unfolding answerIn untouchedIn untouchedAnswer
       quiet-answer quiet steps c lt =
           let chosen = chosenAlternative (L .sequences) (untouchedLook L Q f) T (pred (T c)) c in
           let alternative : alternativeFrom (depthIn (q .none) ranks) (pred (getD ranks c (q .none))) 0 (alternativesAt part places c) ≡ chosen =
@@ -218,7 +218,7 @@ module _ (L : Library) (q : Asked) (Q : Question) (asks : Asks L q Q) where
           ∙ ap (λ (v : Alternative → ℕ). alternativeFrom v (pred (T c)) 0 (alternativesOf (L .sequences) c))
           (ap (λ (n : ℕ). depthIn n ranks) (asks .none) ∙ depth-is (hasMark L Q f) ranks steps)
           ∙ sym (alternative-from (L .sequences) (untouchedLook L Q f) T (pred (T c)) c) in
-          ap (λ (b : Bool). cond (ltb (getD ranks c (q .none)) (q .none)) (shown (cond b (quietLink (q .none) ranks part places c ∷ []) (linksIn (q .none) ahead behind ranks part places (getD ranks c (q .none)) c))) none)
+          ap (λ (b : Bool). cond (ltb (getD ranks c (q .none)) (q .none)) (shown (cond b (untouchedIn (q .none) ranks part places c ∷ []) (linksIn (q .none) ahead behind ranks part places (getD ranks c (q .none)) c))) none)
           (two-is true (quiet-number (Q .mark) quiet))
           ∙ ap₂ (λ (r i : ℕ). cond (ltb r (q .none)) (shown (untouchedLink c i ∷ [])) none) (own c lt) alternative
           ∙ ap (λ (n : ℕ). cond (ltb (T c) n) (shown (untouchedLink c chosen ∷ [])) none) (asks .none)
@@ -266,7 +266,7 @@ module _ (L : Library) (q : Asked) (Q : Question) (asks : Asks L q Q) where
         pub touch-answer : (c : ℕ) → c < length (L .sequences) → answerIn q ahead behind ranks part places c ≡ touchAnswer L Q f T c
         unfolding answerIn touchAnswer
         touch-answer c lt =
-            ap (λ (b : Bool). cond (ltb (getD ranks c (q .none)) (q .none)) (shown (cond b (quietLink (q .none) ranks part places c ∷ []) (linksIn (q .none) ahead behind ranks part places (getD ranks c (q .none)) c))) none)
+            ap (λ (b : Bool). cond (ltb (getD ranks c (q .none)) (q .none)) (shown (cond b (untouchedIn (q .none) ranks part places c ∷ []) (linksIn (q .none) ahead behind ranks part places (getD ranks c (q .none)) c))) none)
             (two-is false (touch-number (Q .mark) touch))
             ∙ ap₂ (λ (r n : ℕ). cond (ltb r n) (shown (linksIn (q .none) ahead behind ranks part places r c)) none) (own c lt) (asks .none)
             ∙ go (ltb (T c) (unranked L)) refl

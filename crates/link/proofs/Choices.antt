@@ -31,7 +31,7 @@ use Rattle.rank.proofs.Walk.{tail-from}
 pub tail-cons : (test : Entry → Bool) (i start : ℕ) (e : Entry) (es : List Entry) (b : Bool) → test e ≡ b
     → tailFrom test i start (e ∷ es) ≡ tailFrom test (i + 1) (cond b start (i + 1)) es
 unfolding tailFrom
-tail-cons test i start e es b byRank = rw (add-one i) (ap (λ (x : Bool). tailFrom test (suc i) (cond x start (suc i)) es) byRank)
+tail-cons test i start e es b traits = rw (add-one i) (ap (λ (x : Bool). tailFrom test (suc i) (cond x start (suc i)) es) traits)
 
 -- ---- the first position of an alternative
 
@@ -72,10 +72,10 @@ module _ (none : ℕ) (ahead behind ranks part : List ℕ) (k : ℕ) where
         let z : s - s ≡ 0 = omega arith in
         folding-start l (rw z (ap (λ (n : ℕ). (position true 0 entries, n)) (omega arith)))
 
-    -- an entry, with its traits, where `quiet` is the index from which on all entries pass as those behind
-    module _ (quiet : ℕ) (quieted : quiet ≡ tailFrom (passIn none behind) s s entries) (ok : Bool) (i : ℕ) (here : Placing ok i)
+    -- an entry, with its traits, where `tail` is the index from which on all entries pass as those behind
+    module _ (tail : ℕ) (tailed : tail ≡ tailFrom (passIn none behind) s s entries) (ok : Bool) (i : ℕ) (here : Placing ok i)
         (e : isEntry (getD part i 0) ≡ true) (t : Traits)
-        (byRank : t ≡ traitsIn none ahead behind ranks (entryOf (getD part i 0))) where
+        (traits : t ≡ traitsIn none ahead behind ranks (entryOf (getD part i 0))) where
       abbrev entry : Entry
       entry = entryOf (getD part i 0)
 
@@ -87,26 +87,26 @@ module _ (none : ℕ) (ahead behind ranks part : List ℕ) (k : ℕ) where
       opened = folding-read here e
 
       -- the entries behind the position pass
-      behind-passes : leb quiet (i + 1) ≡ every (passIn none behind) later
+      behind-passes : leb tail (i + 1) ≡ every (passIn none behind) later
       behind-passes =
           let n : s + (i + 1 - s) ≡ i + 1 = omega (arith, here .low) in
           let h = tail-from (passIn none behind) s s (i + 1 - s) entries (omega arith) in
-          ap (λ (x : ℕ). leb x (i + 1)) quieted ∙ ap (leb (tailFrom (passIn none behind) s s entries)) (sym n) ∙ h
+          ap (λ (x : ℕ). leb x (i + 1)) tailed ∙ ap (leb (tailFrom (passIn none behind) s s entries)) (sym n) ∙ h
           ∙ ap (every (passIn none behind)) (opened .passed)
 
       -- whether this position is chosen
       abbrev pub Taken : Bool
-      Taken = (ok && leb quiet (i + 1)) && leb (t .rank) k
+      Taken = (ok && leb tail (i + 1)) && leb (t .rank) k
 
       position-here : (b : Bool) → Taken ≡ b → position ok (i - s) (entry ∷ later) ≡ cond b (i - s) (position (ok && t .ahead) (suc (i - s)) later)
       unfolding positionFrom
       position-here b taken =
           let test : ((ok && every (passIn none behind) later) && leb (rank entry) k) ≡ b =
           ap (λ (x : Bool). (ok && x) && leb (rank entry) k) (sym behind-passes)
-          ∙ ap (λ (x : Traits). (ok && leb quiet (i + 1)) && leb (x .rank) k) (sym byRank)
+          ∙ ap (λ (x : Traits). (ok && leb tail (i + 1)) && leb (x .rank) k) (sym traits)
           ∙ taken in
           ap (λ (x : Bool). cond x (i - s) (position (ok && passIn none ahead entry) (suc (i - s)) later)) test
-          ∙ ap (λ (x : Traits). cond b (i - s) (position (ok && x .ahead) (suc (i - s)) later)) (sym byRank)
+          ∙ ap (λ (x : Traits). cond b (i - s) (position (ok && x .ahead) (suc (i - s)) later)) (sym traits)
 
       pub placing-turn : Taken ≡ false → Placing (ok && t .ahead) (i + 1)
       placing-turn taken =
@@ -211,18 +211,18 @@ module _ (none : ℕ) (ahead behind ranks part : List ℕ) (k : ℕ) where
           }
 
       -- an alternative with such a position
-      pub choosing-found : isKind 7 (getD part i 0) ≡ true → (quiet : ℕ)
-          → quiet ≡ tailFrom (passIn none behind) (i + 1) (i + 1) (entriesFrom (drop (i + 1) part)) → (ok : Bool) (j : ℕ)
+      pub choosing-found : isKind 7 (getD part i 0) ≡ true → (tail : ℕ)
+          → tail ≡ tailFrom (passIn none behind) (i + 1) (i + 1) (entriesFrom (drop (i + 1) part)) → (ok : Bool) (j : ℕ)
           → Placing (i + 1) ok j → isEntry (getD part j 0) ≡ true → (t : Traits)
-          → t ≡ traitsIn none ahead behind ranks (entryOf (getD part j 0)) → (ok && leb quiet (j + 1)) && leb (t .rank) k ≡ true
+          → t ≡ traitsIn none ahead behind ranks (entryOf (getD part j 0)) → (ok && leb tail (j + 1)) && leb (t .rank) k ≡ true
           → Chosen none ahead behind ranks part at k (record { alternative = alternative; position = j - (i + 1); entry = payload (getD part j 0) })
       unfolding linkIn
-      choosing-found e quiet quieted ok j placed e′ t byRank taken =
+      choosing-found e tail tailed ok j placed e′ t traits taken =
           let es = entriesFrom (drop (i + 1) part) in
           let more = alternativesFrom (drop (i + 1) part) in
           let l = walking-opener-inside (here .walk 0) e in
           let l′ = folding-inside placed e′ in
-          let found = placing-found (i + 1) quiet quieted ok j placed e′ t byRank taken in
+          let found = placing-found (i + 1) tail tailed ok j placed e′ t traits taken in
           let opened : (c : ℕ) → left (here .read) c (es ∷ more) ≡ all c = λ c. walking-here (here .walk c) e in
           record {
             link = λ c.
@@ -262,8 +262,8 @@ module _ (value : Alternative → ℕ) (part : List ℕ) (k at : ℕ) where
       one : (b : Bool) → leb (r .value) k ≡ b → (alts : List Alternative)
           → after alternative (entriesFrom (drop (i + 1) part) ∷ alts) ≡ cond b alternative (after (suc alternative) alts)
       unfolding alternativeFrom
-      one b byRank alts =
-          ap (λ (x : Bool). cond x alternative (after (suc alternative) alts)) (ap (λ (x : ℕ). leb x k) (sym (read .value)) ∙ byRank)
+      one b traits alts =
+          ap (λ (x : Bool). cond x alternative (after (suc alternative) alts)) (ap (λ (x : ℕ). leb x k) (sym (read .value)) ∙ traits)
 
       pub picking-turn : k < r .value → Picking (alternative + 1) (r .next)
       picking-turn lt =

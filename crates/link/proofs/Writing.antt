@@ -19,7 +19,7 @@ use Rattle.chains.specs.Link.{Link, touchLink, choiceWord, linkWords, chainWord
 use Rattle.chains.specs.Stands.{entryAt}
 use Rattle.rank.specs.Tables.{entryNumber, depthIn}
 use Rattle.rank.specs.Walk.{alternativeFrom}
-use Rattle.link.specs.Choice.{linkIn, Chosen, linkEntry, linkAt, linksIn, quietLink, quietWords, answerIn}
+use Rattle.link.specs.Choice.{linkIn, Chosen, linkEntry, linkAt, linksIn, untouchedIn, untouchedWords, answerIn}
 use Rattle.link.specs.declared.link.Choice.{Choice}
 use Rattle.chains.specs.Answer.{Answer, none, shown}
 use Rattle.question.specs.Reply.{Answered}
@@ -141,20 +141,20 @@ links-count m ahead behind ranks part places (suc k) c =
     ap suc (links-count m ahead behind ranks part places k (linkEntry (alternativesAt part places c) (linkAt m ahead behind ranks part places k c)))
 
 -- the one link by what the functions promise that choose its alternative and write its words
-pub quiet-written : (m : ℕ) (ranks part places : List ℕ) (c k from i count : ℕ) (area after : List ℕ) → c < length ranks → k ≡ pred (getD ranks c 0)
+pub untouched-written : (m : ℕ) (ranks part places : List ℕ) (c k from i count : ℕ) (area after : List ℕ) → c < length ranks → k ≡ pred (getD ranks c 0)
     → from ≡ getD places c 0 + 1 → i ≡ alternativeFrom (depthIn m ranks) k 0 (alternativesFrom (drop from part)) → 0 < count → linkLength * count ≤ length area
-    → after ≡ set (set area 0 (choiceWord c i)) (0 + 1) (12 * 2 ^ 28) → after ≡ quietWords m ranks part places count c area
-unfolding quietLink chainWords
-quiet-written m ranks part places c k from i count area after listed before opener choice some room put =
+    → after ≡ set (set area 0 (choiceWord c i)) (0 + 1) (12 * 2 ^ 28) → after ≡ untouchedWords m ranks part places count c area
+unfolding untouchedIn chainWords
+untouched-written m ranks part places c k from i count area after listed before opener choice some room put =
     let least : k ≡ pred (getD ranks c m) = before ∙ ap pred (getD-inside ranks c 0 m listed) in
     put ∙ put-first area (choiceWord c i) (12 * 2 ^ 28) (omega arith)
     ∙ ap (λ (j : ℕ). (choiceWord c j ∷ 12 * 2 ^ 28 ∷ []) ++ drop 2 area)
     (choice ∙ ap₂ (λ (p n : ℕ). alternativeFrom (depthIn m ranks) p 0 (alternativesFrom (drop n part))) least opener)
-    ∙ ap (λ (b : Bool). cond b (chainWords (quietLink m ranks part places c ∷ []) ++ drop 2 area) area) (sym (lt-ltb 0 count some))
+    ∙ ap (λ (b : Bool). cond b (chainWords (untouchedIn m ranks part places c ∷ []) ++ drop 2 area) area) (sym (lt-ltb 0 count some))
 
-pub quiet-unwritten : (m : ℕ) (ranks part places : List ℕ) (c count : ℕ) (area : List ℕ) → count ≤ 0 → area ≡ quietWords m ranks part places count c area
-quiet-unwritten m ranks part places c count area le =
-    ap (λ (b : Bool). cond b (chainWords (quietLink m ranks part places c ∷ []) ++ drop 2 area) area) (sym (le-ltb 0 count le))
+pub untouched-unwritten : (m : ℕ) (ranks part places : List ℕ) (c count : ℕ) (area : List ℕ) → count ≤ 0 → area ≡ untouchedWords m ranks part places count c area
+untouched-unwritten m ranks part places c count area le =
+    ap (λ (b : Bool). cond b (chainWords (untouchedIn m ranks part places c ∷ []) ++ drop 2 area) area) (sym (le-ltb 0 count le))
 
 -- the links that are written have room
 pub shown-room : (q : Asked) (rank room : ℕ) → linkLength * shownLinks q rank room ≤ room
@@ -195,7 +195,7 @@ module _ (q : Asked) (ahead behind ranks part places : List ℕ) (c rank count :
   abbrev known : ℕ → Bool → Answer
   known r b =
       cond (ltb r (q .none))
-      (shown (cond b (quietLink (q .none) ranks part places c ∷ []) (linksIn (q .none) ahead behind ranks part places r c))) none
+      (shown (cond b (untouchedIn (q .none) ranks part places c ∷ []) (linksIn (q .none) ahead behind ranks part places r c))) none
 
   abbrev found : Bool → Chained
   found b =
@@ -212,16 +212,16 @@ module _ (q : Asked) (ahead behind ranks part places : List ℕ) (c rank count :
   count-by : (b : Bool) → eqb (q .mark) 2 ≡ b → count ≡ cond (ltb rank (q .none) && leb (linkLength * cond b 1 rank) (length before)) (cond b 1 rank) 0
   count-by b mark = counted ∙ ap (λ (x : Bool). cond (ltb rank (q .none) && leb (linkLength * cond x 1 rank) (length before)) (cond x 1 rank) 0) mark
 
-  pub answered-quiet : q .mark ≡ 2 → after ≡ quietWords (q .none) ranks part places count c before
+  pub answered-untouched : q .mark ≡ 2 → after ≡ untouchedWords (q .none) ranks part places count c before
       → Answered (answerIn q ahead behind ranks part places c) before (byRank q rank (length before)) after
-  answered-quiet two words =
+  answered-untouched two words =
       let mark = eq-eqb (q .mark) 2 two in
       by-mark true mark
-      (by-rank (quietLink (q .none) ranks part places c ∷ []) before after 1 (ltb rank (q .none)) (leb 2 (length before)) refl refl
-      (words ∙ ap (λ (n : ℕ). quietWords (q .none) ranks part places n c before) (count-by true mark) ∙ go (ltb rank (q .none) && leb 2 (length before))))
+      (by-rank (untouchedIn (q .none) ranks part places c ∷ []) before after 1 (ltb rank (q .none)) (leb 2 (length before)) refl refl
+      (words ∙ ap (λ (n : ℕ). untouchedWords (q .none) ranks part places n c before) (count-by true mark) ∙ go (ltb rank (q .none) && leb 2 (length before))))
     where
-      go : (b : Bool) → quietWords (q .none) ranks part places (cond b 1 0) c before
-          ≡ cond b (chainWords (quietLink (q .none) ranks part places c ∷ []) ++ drop 2 before) before
+      go : (b : Bool) → untouchedWords (q .none) ranks part places (cond b 1 0) c before
+          ≡ cond b (chainWords (untouchedIn (q .none) ranks part places c ∷ []) ++ drop 2 before) before
       go true = refl
       go false = refl
 

@@ -56,18 +56,18 @@ module _ (none : ℕ) (ahead behind ranks part places : List ℕ) where
 
 module _ (none : ℕ) (ranks part places : List ℕ) where
   -- the one link of a question that asks for no touch
-  unfoldable pub quietLink : ℕ → Link
+  unfoldable pub untouchedIn : ℕ → Link
   unfolding alternativeFrom
-  quietLink c = untouchedLink c (alternativeFrom (depthIn none ranks) (pred (getD ranks c none)) 0 (alternativesAt part places c))
+  untouchedIn c = untouchedLink c (alternativeFrom (depthIn none ranks) (pred (getD ranks c none)) 0 (alternativesAt part places c))
 
   -- its words in an area, where there is one to write
-  abbrev pub quietWords : ℕ → ℕ → List ℕ → List ℕ
-  quietWords count c area = cond (ltb 0 count) (chainWords (quietLink c ∷ []) ++ drop 2 area) area
+  abbrev pub untouchedWords : ℕ → ℕ → List ℕ → List ℕ
+  untouchedWords count c area = cond (ltb 0 count) (chainWords (untouchedIn c ∷ []) ++ drop 2 area) area
 
 -- the answer of sequence c by its rank
 unfoldable pub answerIn : Asked → List ℕ → List ℕ → List ℕ → List ℕ → List ℕ → ℕ → Answer
-unfolding linksIn quietLink
+unfolding linksIn untouchedIn
 answerIn q ahead behind ranks part places c =
     cond (ltb (getD ranks c (q .none)) (q .none))
-    (shown (cond (eqb (q .mark) 2) (quietLink (q .none) ranks part places c ∷ []) (linksIn (q .none) ahead behind ranks part places (getD ranks c (q .none)) c)))
+    (shown (cond (eqb (q .mark) 2) (untouchedIn (q .none) ranks part places c ∷ []) (linksIn (q .none) ahead behind ranks part places (getD ranks c (q .none)) c)))
     known.none

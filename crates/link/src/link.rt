@@ -35,7 +35,7 @@ fn selected_index(test: bool, x: usize, other: usize) -> usize
 }
 
 // The index from which on all entries pass as those behind a position, for the entries that stand from index `at` on.
-fn quiet_from(none: u32, behind: &[u32], part: &[u32], at: usize) -> usize
+fn tail_from(none: u32, behind: &[u32], part: &[u32], at: usize) -> usize
     requires { ⌜ Rankable none (now behind) (now part) × (at ≤ length (now part)) ⌝ }
     ensures { λ r. ⌜ r ≡ tailFrom (passIn none (now (behind .entry))) at at (entriesFrom (drop at (now (part .entry)))) ⌝ }
 {
@@ -71,7 +71,7 @@ pub fn chosen_link(
         i += 1;
         if is_kind(KIND_ALTERNATIVE, w) {
             let start = i;
-            let quiet = quiet_from(none, behind, part, start);
+            let tail = tail_from(none, behind, part, start);
             let mut ok = true;
             loop {
                 let e = word_at(part, i);
@@ -80,7 +80,7 @@ pub fn chosen_link(
                 }
                 let t = traits_of(none, ahead, behind, ranks, e);
                 let next = i + 1;
-                if ok & (quiet <= next) & (t.rank <= k) {
+                if ok & (tail <= next) & (t.rank <= k) {
                     break 'found Choice {
                         alternative: alternative,
                         position: (i - start) as u32,

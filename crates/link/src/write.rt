@@ -15,7 +15,7 @@ ghost use lib.ListN.{length, getD, drop};
 ghost use Rattle.chains.specs.Link.{chainWords};
 ghost use Rattle.question.specs.Answer.{linkLength, byRank};
 ghost use Rattle.rank.specs.Tables.{Rankable};
-ghost use Rattle.link.specs.Choice.{Opened, Choosable, linksIn, quietWords, answerIn};
+ghost use Rattle.link.specs.Choice.{Opened, Choosable, linksIn, untouchedWords, answerIn};
 ghost use Rattle.question.specs.Reply.{Answered};
 
 // The index of the word after the opener of sequence `c`.
@@ -66,7 +66,7 @@ fn before(rank: u32) -> u32
 }
 
 // Writes the one link of a question that asks for no touch, where there is one to write.
-fn write_quiet(
+fn write_untouched(
     none: u32,
     ranks: &[u32],
     part: &[u32],
@@ -76,7 +76,7 @@ fn write_quiet(
     c: u32,
 )
     requires { ⌜ Rankable none (now ranks) (now part) × Opened (now part) (now places) × (linkLength * count ≤ length (now area)) × (c < 2 ^ 28) × (c < length (now ranks)) ⌝ }
-    ensures { λ _. ⌜ now (area .exit) ≡ quietWords none (now (ranks .entry)) (now (part .entry)) (now (places .entry)) count c (now (area .entry)) ⌝ }
+    ensures { λ _. ⌜ now (area .exit) ≡ untouchedWords none (now (ranks .entry)) (now (part .entry)) (now (places .entry)) count c (now (area .entry)) ⌝ }
 {
     if 0 < count {
         let k = before(ranks[c as usize]);
@@ -102,7 +102,7 @@ pub fn write_chain(
     let rank = ranks[c as usize];
     let count = shown_links(q, rank, area.len());
     if q.mark == UNTOUCHED_MARK {
-        write_quiet(q.none, ranks, part, places, area, count, c);
+        write_untouched(q.none, ranks, part, places, area, count, c);
     } else {
         write_links(q.none, ahead, behind, ranks, part, places, area, count, c);
     }

@@ -32,13 +32,13 @@ unfolding every
 every-same p q [] a = refl
 every-same p q (e ∷ es) a = ap₂ (λ (x y : Bool). x && y) (a .0) (every-same p q es (a .1))
 
-fewest-same : (none : ℕ) (f g : Entry → ℕ) (ahead behind : Entry → Bool) (ok : Bool) (best : ℕ) (es : List Entry) → All (λ e. f e ≡ g e) es
-    → fewestFrom none f ahead behind ok best es ≡ fewestFrom none g ahead behind ok best es
+fewest-same : (none : ℕ) (f g : Entry → ℕ) (ahead behind : Entry → Bool) (floor best : ℕ) (es : List Entry) → All (λ e. f e ≡ g e) es
+    → fewestFrom none f ahead behind floor best es ≡ fewestFrom none g ahead behind floor best es
 unfolding fewestFrom
-fewest-same none f g ahead behind ok best [] a = refl
-fewest-same none f g ahead behind ok best (e ∷ es) a =
-    ap (λ (r : ℕ). fewestFrom none f ahead behind (ok && ahead e) (min (cond (behind e) best none) (cond ok r none)) es) (a .0)
-    ∙ fewest-same none f g ahead behind (ok && ahead e) (min (cond (behind e) best none) (cond ok (g e) none)) es (a .1)
+fewest-same none f g ahead behind floor best [] a = refl
+fewest-same none f g ahead behind floor best (e ∷ es) a =
+    ap (λ (r : ℕ). fewestFrom none f ahead behind (cond (ahead e) floor none) (min (cond (behind e) best none) (max r floor)) es) (a .0)
+    ∙ fewest-same none f g ahead behind (cond (ahead e) floor none) (min (cond (behind e) best none) (max (g e) floor)) es (a .1)
 
 lowered-same : (v w : Alternative → ℕ) (r : ℕ) (alts : List Alternative) → All (λ es. v es ≡ w es) alts → loweredFrom v r alts ≡ loweredFrom w r alts
 unfolding loweredFrom
@@ -86,7 +86,7 @@ module _ (q : Asked) (ahead behind T U : List ℕ) where
       let none = q .none in
       ap₂ (λ (x y : ℕ). cond (eqb (q .mark) 2) x y) (depth-same (rankIn none 0 T) (rankIn none 0 U) 0 es (ranks-same 0 es a))
       (ap₂ (λ (x y : ℕ). cond (eqb (q .mark) 3) x y) (ap (λ (b : Bool). cond b 0 none) (every-same (passIn none T) (passIn none U) es (pass-same es a)))
-      (fewest-same none (rankIn none none T) (rankIn none none U) (passIn none ahead) (passIn none behind) true none es (ranks-same none es a)))
+      (fewest-same none (rankIn none none T) (rankIn none none U) (passIn none ahead) (passIn none behind) 0 none es (ranks-same none es a)))
 
   looks-local : (alts : List Alternative) → All (All Same) alts → All (λ es. lookIn q ahead behind T es ≡ lookIn q ahead behind U es) alts
   looks-local [] a = tt

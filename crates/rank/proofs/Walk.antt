@@ -134,6 +134,17 @@ cond-cond : (ok a : Bool) (x none : ℕ) → cond ok (cond a x none) none ≡ co
 cond-cond true a x none = refl
 cond-cond false a x none = refl
 
+-- the floor, by whether all so far pass
+floor-and : (ok a : Bool) (none : ℕ) → cond a (cond ok 0 none) none ≡ cond (ok && a) 0 none
+floor-and true true none = refl
+floor-and true false none = refl
+floor-and false true none = refl
+floor-and false false none = refl
+
+floor-min : (ok : Bool) (x r none : ℕ) → x ≤ none → min x (max r (cond ok 0 none)) ≡ min x (cond ok r none)
+floor-min true x r none h = omega arith
+floor-min false x r none h = omega arith
+
 module _ (none : ℕ) (test : Item → Bool) (ahead behind : Entry → Bool) (T : Ranks) where
   abbrev value : List Entry → ℕ → ℕ
   value es = candidate none test ahead behind T es
@@ -158,20 +169,26 @@ module _ (none : ℕ) (test : Item → Bool) (ahead behind : Entry → Bool) (T 
   look-none es = least-start (value es) none (length es)
 
   -- from left to right
-  look-min : (ok : Bool) (best : ℕ) (es : List Entry) → best ≤ none → fewestFrom none rank ahead behind ok best es
+  look-min : (ok : Bool) (best : ℕ) (es : List Entry) → best ≤ none → fewestFrom none rank ahead behind (cond ok 0 none) best es
       ≡ min (cond (every behind es) best none) (cond ok (linkLook none test ahead behind T es) none)
   unfolding fewestFrom every
   look-min ok best [] le = unfold linkLook leastBelow in (let h = cond-same ok none in omega arith)
   look-min ok best (e ∷ es) le =
       let h = look-min (ok && ahead e) (min (cond (behind e) best none) (cond ok (rank e) none)) es (new-le (behind e)) in
-      h ∙ (arranged ok (ahead e) (behind e) (every behind es) best (rank e) (linkLook none test ahead behind T es) none le (look-none es)
+      ap₂ (λ (floor b : ℕ). fewestFrom none rank ahead behind floor b es) (floor-and ok (ahead e) none)
+      (floor-min ok (cond (behind e) best none) (rank e) none (best-le (behind e)))
+      ∙ h ∙ (arranged ok (ahead e) (behind e) (every behind es) best (rank e) (linkLook none test ahead behind T es) none le (look-none es)
       ∙ ap (λ x. min (cond (behind e && every behind es) best none) (cond ok x none)) (sym (look-cons e es)))
     where
+      best-le : (b : Bool) → cond b best none ≤ none
+      best-le true = le
+      best-le false = omega arith
+
       new-le : (b : Bool) → min (cond b best none) (cond ok (rank e) none) ≤ none
       new-le true = omega arith
       new-le false = omega arith
 
-  pub fewest-from : (es : List Entry) → linkLook none test ahead behind T es ≡ fewestFrom none rank ahead behind true none es
+  pub fewest-from : (es : List Entry) → linkLook none test ahead behind T es ≡ fewestFrom none rank ahead behind 0 none es
   fewest-from es =
       let h = look-min true none es (omega arith) in
       let h′ = look-none es in

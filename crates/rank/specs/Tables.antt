@@ -56,7 +56,7 @@ abbrev pub everyIn : ℕ → List ℕ → Alternative → ℕ
 everyIn none ranks es = cond (every (passIn none ranks) es) 0 none
 
 abbrev pub fewestIn : ℕ → List ℕ → List ℕ → List ℕ → Alternative → ℕ
-fewestIn none ahead behind ranks es = fewestFrom none (rankIn none none ranks) (passIn none ahead) (passIn none behind) true none es
+fewestIn none ahead behind ranks es = fewestFrom none (rankIn none none ranks) (passIn none ahead) (passIn none behind) 0 none es
 
 abbrev pub lookIn : Asked → List ℕ → List ℕ → List ℕ → Alternative → ℕ
 lookIn q ahead behind ranks es =

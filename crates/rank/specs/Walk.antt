@@ -28,11 +28,11 @@ depthFrom rank d (e ∷ es) = depthFrom rank (max d (rank e)) es
 -- what a link asks of the entries of an alternative: `none` stands for no rank, an entry has a rank, and those ahead of the position and
 -- those behind it pass tests
 module _ (none : ℕ) (rank : Entry → ℕ) (ahead behind : Entry → Bool) where
-  -- the fewest links so far, where `ok` says that all entries so far pass as those ahead of a position: an entry that fails as one behind
-  -- rules out the positions so far
-  unfoldable pub fewestFrom : Bool → ℕ → List Entry → ℕ
-  fewestFrom ok best [] = best
-  fewestFrom ok best (e ∷ es) = fewestFrom (ok && ahead e) (min (cond (behind e) best none) (cond ok (rank e) none)) es
+  -- the fewest links so far. `floor` is 0 as long as all entries pass as those ahead of a position, and `none` from the first that does not;
+  -- an entry that fails as one behind rules out the positions so far
+  unfoldable pub fewestFrom : ℕ → ℕ → List Entry → ℕ
+  fewestFrom floor best [] = best
+  fewestFrom floor best (e ∷ es) = fewestFrom (cond (ahead e) floor none) (min (cond (behind e) best none) (max (rank e) floor)) es
 
   -- the first position from here on, of which the first is i, that comes to no more than k; otherwise the position after the last
   unfoldable pub positionFrom : ℕ → Bool → ℕ → List Entry → ℕ

@@ -63,7 +63,8 @@ pub fn greatest_depth(none: u32, ranks: &[u32], part: &[u32], at: usize) -> Read
 }
 
 // The fewest links after this one, among the positions of the entries that stand from index `at` on: an entry that fails as one behind rules
-// out the positions so far.
+// out the positions so far. `floor` is 0 until an entry fails as one ahead, and then `none`: a number in place of a test, since processors
+// would guess it badly.
 fn fewest_links(
     none: u32,
     ahead: &[u32],
@@ -75,7 +76,7 @@ fn fewest_links(
     requires { ⌜ RanksReadable none (now ahead) (now behind) (now ranks) (now part) × (at ≤ length (now part)) ⌝ }
     ensures { λ r. ⌜ AlternativeRanked (fewestIn none (now (ahead .entry)) (now (behind .entry)) (now (ranks .entry))) (now (part .entry)) at r ⌝ }
 {
-    let mut ok = true;
+    let mut floor = 0;
     let mut best = none;
     let mut i = at;
     loop {
@@ -87,8 +88,8 @@ fn fewest_links(
             };
         }
         let t = traits_of(none, ahead, behind, ranks, w);
-        best = least(choose(t.behind, best, none), choose(ok, t.rank, none));
-        ok = ok & t.ahead;
+        best = least(choose(t.behind, best, none), greatest(t.rank, floor));
+        floor = choose(t.ahead, floor, none);
         i += 1;
     }
 }

@@ -21,15 +21,15 @@ enum-known-h c = search needs
 
 ask-requires : tie.Need-ask-requires
 ask-requires c κs =
-    let byRank = c .before .before in
-    sym (byRank .before .before .check .ensures) ∙ byRank .h .given .1
+    let told = c .before .before in
+    sym (told .before .before .check .ensures) ∙ told .h .given .1
 
 returns : tie.Need-returns
 returns c =
-    let byRank = c .before in
-    let start = byRank .before .before .before .before .before in
+    let told = c .before in
+    let start = told .before .before .before .before .before in
     let a = start .args in
-    call-refused (a .image .now) _ (a .sequence) (a .question) (a .fact) (a .area .now) (sym (byRank .before .before .check .ensures) ∙ byRank .r .given .1)
+    call-refused (a .image .now) _ (a .sequence) (a .question) (a .fact) (a .area .now) (sym (told .before .before .check .ensures) ∙ told .r .given .1)
 
 same-length : tie.Need-same-length
 same-length c = search needs

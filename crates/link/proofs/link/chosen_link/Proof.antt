@@ -15,10 +15,10 @@ use Rattle.link.proofs.link.chosen_link.Statement.{statement}
 use Rattle.link.proofs.link.chosen_link.Tie as tie
 
 abbrev Inv-loop : tie.InvT-loop
-Inv-loop none ahead behind ranks part at k alternative i₀ w start quiet ok₀ i ok = Placing none ahead behind ranks part k start ok i
+Inv-loop none ahead behind ranks part at k alternative i₀ w start tail ok₀ i ok = Placing none ahead behind ranks part k start ok i
 
 abbrev μ-loop : tie.MeasureT-loop
-μ-loop none ahead behind ranks part at k alternative i₀ w start quiet ok₀ i ok = length part - i
+μ-loop none ahead behind ranks part at k alternative i₀ w start tail ok₀ i ok = length part - i
 
 abbrev Inv-found : tie.InvT-found
 Inv-found none ahead behind ranks part at k alternative₀ i₀ alternative i = Choosing none ahead behind ranks part k at alternative i
@@ -52,8 +52,8 @@ add-i c = let at-found = c .before in omega (arith, at-found .found .inv .walk 0
 is-kind-requires : tie.Need-is-kind-requires Inv-loop μ-loop Inv-found μ-found
 is-kind-requires c κs = search needs
 
-quiet-from-requires : tie.Need-quiet-from-requires Inv-loop μ-loop Inv-found μ-found
-quiet-from-requires c κs =
+tail-from-requires : tie.Need-tail-from-requires Inv-loop μ-loop Inv-found μ-found
+tail-from-requires c κs =
     let at-found = c .before .before .before in
     (at-found .before .before .before .before .before .pre .0 .by-behind, omega (arith, walking-opener-inside (at-found .found .inv .walk 0) (opener c)))
 
@@ -103,8 +103,8 @@ loop-again : tie.Need-loop-again Inv-loop μ-loop Inv-found μ-found
 loop-again c =
     let traits = c .before .before .before in
     let own = traits .before .before .before in
-    let quiet = own .before .before in
-    placing-turn _ _ _ _ _ _ _ _ (quiet .quiet-from .ensures) _ _ (own .before .loop .inv) (entry (traits .before)) (traits .traits-of .result)
+    let tail = own .before .before in
+    placing-turn _ _ _ _ _ _ _ _ (tail .tail-from .ensures) _ _ (own .before .loop .inv) (entry (traits .before)) (traits .traits-of .result)
     (rw (sym (own .word-at2 .ensures)) (traits .traits-of .ensures)) (c .before .if3 .left)
 
 add-alternative : tie.Need-add-alternative Inv-loop μ-loop Inv-found μ-found
@@ -143,10 +143,10 @@ returns : tie.Need-returns Inv-loop μ-loop Inv-found μ-found
 returns c =
     let traits = c .before .before .before in
     let own = traits .before .before .before in
-    let quiet = own .before .before in
-    let test = quiet .before in
+    let tail = own .before .before in
+    let test = tail .before in
     rw (c .payload-of .ensures, own .word-at2 .ensures)
-    (choosing-found _ _ _ _ _ _ _ _ _ (test .before .before .before .found .inv) (opener test) _ (quiet .quiet-from .ensures) _ _ (own .before .loop .inv)
+    (choosing-found _ _ _ _ _ _ _ _ _ (test .before .before .before .found .inv) (opener test) _ (tail .tail-from .ensures) _ _ (own .before .loop .inv)
     (entry (traits .before)) (traits .traits-of .result) (rw (sym (own .word-at2 .ensures)) (traits .traits-of .ensures)) (c .before .if3 .taken))
 
 returns-2 : tie.Need-returns-2 Inv-loop μ-loop Inv-found μ-found
@@ -167,7 +167,7 @@ chosen-link-spec =
     word-at-requires
     add-i
     is-kind-requires
-    quiet-from-requires
+    tail-from-requires
     loop-holds
     word-at-requires-2
     is-entry-requires

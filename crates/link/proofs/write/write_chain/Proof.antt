@@ -4,14 +4,14 @@ use borrow.Author.Needs.{needs}
 use native.Mathlib.Omega.{arith}
 use mathlib.Core.Path.{refl}
 use lib.ListN.{length, getD}
-use Rattle.link.proofs.Writing.{shown-room, answered-quiet, answered-links}
+use Rattle.link.proofs.Writing.{shown-room, answered-untouched, answered-links}
 use Rattle.link.proofs.write.write_chain.Statement.{statement}
 use Rattle.link.proofs.write.write_chain.Tie as tie
 use Rattle.link.proofs.write.write_chain.Reads as reads
 use Rattle.link.proofs.write.write_chain.Lts as lts
 use Rattle.question.proofs.answer.shown_links.Reads as shown-links-reads
 use Rattle.link.proofs.write.write_links.Reads as write-links-reads
-use Rattle.link.proofs.write.write_quiet.Reads as write-quiet-reads
+use Rattle.link.proofs.write.write_untouched.Reads as write-untouched-reads
 
 mul-rank : tie.Need-mul-rank
 mul-rank c = search needs
@@ -22,8 +22,8 @@ shared-slice-read-rank c = search needs
 shown-links-requires : tie.Need-shown-links-requires
 shown-links-requires c κs = search needs
 
-write-quiet-requires : tie.Need-write-quiet-requires
-write-quiet-requires c κs =
+write-untouched-requires : tie.Need-write-untouched-requires
+write-untouched-requires c κs =
     let counted = c .before .before .before in
     let start = counted .before .before .before .before .before .before .before .before in
     let a = start .args in
@@ -47,7 +47,7 @@ returns c =
     let counted = test .before .before in
     let start = counted .before .before .before .before .before .before .before .before in
     let a = start .args in
-    answered-quiet (a .q) (a .ahead .now) (a .behind .now) (a .ranks .now) (a .part .now) (a .places .now) (a .c) _ _ (a .area .now) _ (start .pre .2) refl (counted .shown-links .ensures) (test .if1 .taken) (written .write-quiet .ensures)
+    answered-untouched (a .q) (a .ahead .now) (a .behind .now) (a .ranks .now) (a .part .now) (a .places .now) (a .c) _ _ (a .area .now) _ (start .pre .2) refl (counted .shown-links .ensures) (test .if1 .taken) (written .write-untouched .ensures)
 
 same-length-2 : tie.Need-same-length-2
 same-length-2 c = search needs
@@ -68,7 +68,7 @@ write-chain-spec =
     mul-rank
     shared-slice-read-rank
     shown-links-requires
-    write-quiet-requires
+    write-untouched-requires
     write-links-requires
     same-length
     returns

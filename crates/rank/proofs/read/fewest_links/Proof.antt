@@ -16,12 +16,12 @@ use Rattle.rank.proofs.read.fewest_links.Statement.{statement}
 use Rattle.rank.proofs.read.fewest_links.Tie as tie
 
 abbrev Inv-loop : tie.InvT-loop
-Inv-loop none ahead behind ranks part at ok₀ best₀ i₀ ok best i =
+Inv-loop none ahead behind ranks part at floor₀ best₀ i₀ floor best i =
     Folding part (fewestIn none ahead behind ranks (entriesFrom (drop at part))) at
-    (fewestFrom none (rankIn none none ranks) (passIn none ahead) (passIn none behind) ok best) i
+    (fewestFrom none (rankIn none none ranks) (passIn none ahead) (passIn none behind) floor best) i
 
 abbrev μ-loop : tie.MeasureT-loop
-μ-loop none ahead behind ranks part at ok₀ best₀ i₀ ok best i = length part - i
+μ-loop none ahead behind ranks part at floor₀ best₀ i₀ floor best i = length part - i
 
 -- an entry stands there
 entry : (c : tie.Else1 Inv-loop μ-loop)
@@ -55,11 +55,14 @@ traits-of-requires c κs =
 choose-requires : tie.Need-choose-requires Inv-loop μ-loop
 choose-requires c κs = search needs
 
-choose-requires-2 : tie.Need-choose-requires-2 Inv-loop μ-loop
-choose-requires-2 c κs = search needs
+greatest-requires : tie.Need-greatest-requires Inv-loop μ-loop
+greatest-requires c κs = search needs
 
 least-requires : tie.Need-least-requires Inv-loop μ-loop
 least-requires c κs = search needs
+
+choose-requires-2 : tie.Need-choose-requires-2 Inv-loop μ-loop
+choose-requires-2 c κs = search needs
 
 add-i : tie.Need-add-i Inv-loop μ-loop
 add-i c =
@@ -76,7 +79,7 @@ loop-again c =
     let least = c .before in
     let traits = least .before .before .before in
     let word = traits .before .before .before in
-    rw (least .least .ensures, least .before .choose2 .ensures, least .before .before .choose .ensures, traits .traits-of .ensures, word .word-at .ensures)
+    rw (c .choose2 .ensures, least .least .ensures, least .before .greatest .ensures, least .before .before .choose .ensures, traits .traits-of .ensures, word .word-at .ensures)
     (folding-turn (word .before .loop .inv) (entry (traits .before)) refl)
 
 pub fewest-links-spec : {M : Type 1} → statement M
@@ -91,8 +94,9 @@ fewest-links-spec =
     returns
     traits-of-requires
     choose-requires
-    choose-requires-2
+    greatest-requires
     least-requires
+    choose-requires-2
     add-i
     loop-less
     loop-again)

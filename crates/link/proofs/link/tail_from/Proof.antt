@@ -1,4 +1,4 @@
--- `link::link::quiet_from` meets its contract: the walk over the entries that are left gives the index that the whole walk gives.
+-- `link::link::tail_from` meets its contract: the walk over the entries that are left gives the index that the whole walk gives.
 -- Assumes nothing.
 use borrow.Author.Needs.{needs}
 use borrow.Author.Tests.{not-true, not-false}
@@ -14,8 +14,8 @@ use Rattle.library.proofs.Walking.{tested, Folding, folding-start, folding-insi
 use Rattle.rank.specs.Walk.{tailFrom}
 use Rattle.rank.specs.Tables.{passIn}
 use Rattle.link.proofs.Choices.{tail-cons}
-use Rattle.link.proofs.link.quiet_from.Statement.{statement}
-use Rattle.link.proofs.link.quiet_from.Tie as tie
+use Rattle.link.proofs.link.tail_from.Statement.{statement}
+use Rattle.link.proofs.link.tail_from.Tie as tie
 
 abbrev Inv-loop : tie.InvT-loop
 Inv-loop none behind part at start₀ i₀ start i =
@@ -68,8 +68,8 @@ loop-again c =
     (folding-turn (word .before .loop .inv) (entry (passed .before))
     (tail-cons _ _ _ _ _ _ (tested pass (word .word-at .ensures) (passed .passes .ensures) refl)))
 
-pub quiet-from-spec : {M : Type 1} → statement M
-quiet-from-spec =
+pub tail-from-spec : {M : Type 1} → statement M
+tail-from-spec =
     tie.close
     (tie.spec
     Inv-loop

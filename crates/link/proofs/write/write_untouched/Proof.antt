@@ -1,12 +1,12 @@
--- `link::write::write_quiet` meets its contract: the two words of one link, or none.
+-- `link::write::write_untouched` meets its contract: the two words of one link, or none.
 -- Assumes nothing.
 use borrow.Author.Needs.{needs}
 use native.Mathlib.Omega.{arith}
-use Rattle.link.proofs.Writing.{quiet-written, quiet-unwritten}
-use Rattle.link.proofs.write.write_quiet.Statement.{statement}
-use Rattle.link.proofs.write.write_quiet.Tie as tie
-use Rattle.link.proofs.write.write_quiet.Reads as reads
-use Rattle.link.proofs.write.write_quiet.Lts as lts
+use Rattle.link.proofs.Writing.{untouched-written, untouched-unwritten}
+use Rattle.link.proofs.write.write_untouched.Statement.{statement}
+use Rattle.link.proofs.write.write_untouched.Tie as tie
+use Rattle.link.proofs.write.write_untouched.Reads as reads
+use Rattle.link.proofs.write.write_untouched.Lts as lts
 use Rattle.question.proofs.words.put_link.Reads as put-link-reads
 use Rattle.link.proofs.link.chosen_alternative.Reads as chosen-alternative-reads
 use Rattle.link.proofs.write.after_opener.Reads as after-opener-reads
@@ -44,17 +44,17 @@ returns c =
     let test = opener .before .before .before in
     let start = test .before .before .before .before .before in
     let a = start .args in
-    quiet-written (a .none) (a .ranks .now) (a .part .now) (a .places .now) (a .c) _ _ _ (a .count) (a .area .now) _ (start .pre .4) (opener .before .before2 .ensures)
+    untouched-written (a .none) (a .ranks .now) (a .part .now) (a .places .now) (a .c) _ _ _ (a .count) (a .area .now) _ (start .pre .4) (opener .before .before2 .ensures)
     (opener .after-opener .ensures) (choice .chosen-alternative .ensures .0) (omega (arith, test .if1 .taken)) (start .pre .2) (put .put-link .ensures)
 
 returns-2 : tie.Need-returns-2
 returns-2 c =
     let start = c .before .before .before .before .before in
     let a = start .args in
-    quiet-unwritten (a .none) (a .ranks .now) (a .part .now) (a .places .now) (a .c) (a .count) (a .area .now) (omega (arith, c .if1 .left))
+    untouched-unwritten (a .none) (a .ranks .now) (a .part .now) (a .places .now) (a .c) (a .count) (a .area .now) (omega (arith, c .if1 .left))
 
-pub write-quiet-spec : {M : Type 1} → statement M
-write-quiet-spec =
+pub write-untouched-spec : {M : Type 1} → statement M
+write-untouched-spec =
     tie.close
     (tie.spec
     mul-before
