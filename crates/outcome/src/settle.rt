@@ -11,7 +11,7 @@ use settling::turns::after_visit;
 use settling::turns::first;
 use settling::turns::next;
 ghost use Prim.Native.Nat.{_<_};
-ghost use Rattle.settling.specs.Settling.{Scheduled, Visit, Settles};
+ghost use Rattle.settling.specs.Settling.{Scheduled, Visit, Swept, Settles};
 ghost use Rattle.outcome.specs.Visited.{lacking, RowsVisitable, visited};
 
 // Unites the row of sequence `c` with what its alternatives give. Answers whether that changed it.
@@ -34,7 +34,33 @@ fn visit(
     !same(old, new)
 }
 
-// Visits stale sequences, in the order and against it in turn, until none is stale. At first every sequence is.
+// Visits each sequence that the order names once. At first every sequence is stale, and afterwards those that a visit may still change.
+fn sweep(
+    all: u64,
+    steps: &[u64],
+    part: &[u32],
+    places: &[u32],
+    callers: &[u64],
+    order: &[usize],
+    table: &mut [u64],
+    stale: &mut [u64],
+    n: usize,
+)
+    requires { ⌜ RowsVisitable n (now steps) (now part) (now places) (now table) × Scheduled n (now part) (now places) (now callers) (now order) × Swept (visited all (now steps) (now part) (now places)) n (now table) (now table) (now stale) ⌝ }
+    ensures { λ _. ⌜ Swept (visited all (now (steps .entry)) (now (part .entry)) (now (places .entry))) n (now (table .entry)) (now (table .exit)) (now (stale .exit)) ⌝ }
+{
+    let mut i = 0;
+    while i < order.len() {
+        let c = order[i];
+        i += 1;
+        if c < n {
+            let changed = visit(all, steps, part, places, table, n, c);
+            after_visit(stale, callers, c, changed);
+        }
+    }
+}
+
+// Visits all sequences in the order, and then those that are stale, against the order and in it in turn, until none is.
 pub fn settle(
     all: u64,
     steps: &[u64],
@@ -49,6 +75,17 @@ pub fn settle(
     ensures { λ _. ⌜ Settles (visited all (now (steps .entry)) (now (part .entry)) (now (places .entry))) n (now (table .entry)) (now (table .exit)) ⌝ }
 {
     let mut stale = [ALL_STALE; SET_WORDS];
+    sweep(
+        all,
+        steps,
+        part,
+        places,
+        callers,
+        order,
+        table,
+        &mut stale,
+        n,
+    );
     let mut turn = first(order, &stale, n);
     while turn.number < n {
         let c = turn.number;

@@ -7,7 +7,7 @@ use settling::turns::after_visit;
 use settling::turns::first;
 use settling::turns::next;
 ghost use Prim.Native.Nat.{_<_};
-ghost use Rattle.settling.specs.Settling.{Visit, Settles, Scheduled};
+ghost use Rattle.settling.specs.Settling.{Scheduled, Visit, Swept, Settles};
 ghost use Rattle.general.specs.Scan.{total};
 ghost use Rattle.rank.specs.Tables.{RanksVisitable, visitedRanks};
 
@@ -32,7 +32,34 @@ fn visit(
     new < old
 }
 
-// Visits stale sequences, in the order and against it in turn, until none is stale. At first every sequence is.
+// Visits each sequence that the order names once. At first every sequence is stale, and afterwards those that a visit may still change.
+fn sweep(
+    q: Asked,
+    ahead: &[u32],
+    behind: &[u32],
+    part: &[u32],
+    places: &[u32],
+    callers: &[u64],
+    order: &[usize],
+    ranks: &mut [u32],
+    stale: &mut [u64],
+    n: usize,
+)
+    requires { ⌜ RanksVisitable q n (now ahead) (now behind) (now ranks) (now part) (now places) × Scheduled n (now part) (now places) (now callers) (now order) × Swept (visitedRanks q (now ahead) (now behind) (now part) (now places)) n (now ranks) (now ranks) (now stale) ⌝ }
+    ensures { λ _. ⌜ Swept (visitedRanks q (now (ahead .entry)) (now (behind .entry)) (now (part .entry)) (now (places .entry))) n (now (ranks .entry)) (now (ranks .exit)) (now (stale .exit)) ⌝ }
+{
+    let mut i = 0;
+    while i < order.len() {
+        let c = order[i];
+        i += 1;
+        if c < n {
+            let fell = visit(q, ahead, behind, part, places, ranks, n, c);
+            after_visit(stale, callers, c, fell);
+        }
+    }
+}
+
+// Visits all sequences in the order, and then those that are stale, against the order and in it in turn, until none is.
 pub fn settle(
     q: Asked,
     ahead: &[u32],
@@ -48,6 +75,18 @@ pub fn settle(
     ensures { λ _. ⌜ Settles (visitedRanks q (now (ahead .entry)) (now (behind .entry)) (now (part .entry)) (now (places .entry))) n (now (ranks .entry)) (now (ranks .exit)) ⌝ }
 {
     let mut stale = [ALL_STALE; SET_WORDS];
+    sweep(
+        q,
+        ahead,
+        behind,
+        part,
+        places,
+        callers,
+        order,
+        ranks,
+        &mut stale,
+        n,
+    );
     let mut turn = first(order, &stale, n);
     while turn.number < n {
         let c = turn.number;

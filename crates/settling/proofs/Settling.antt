@@ -9,17 +9,17 @@ use mathlib.Core.Bool.{Bool, true, false, _&&_, false≢true, true≢false}
 use lib.Dec.{ltb}
 use borrow.Author.Tests.{ltb-true, lt-ltb}
 use Rattle.general.proofs.Bools.{and-parts}
-use mathlib.Core.List.{List}
+use mathlib.Core.List.{List, [], _∷_}
 use lib.ListN.{length, getD}
 use Rattle.general.proofs.Scan.{countPassing, count-all, count-more}
 use Rattle.general.specs.Numbers.{Complete}
 use Rattle.callers.specs.Callers.{inSet, isCaller, calls, Removed, United}
 use Rattle.callers.proofs.CallerSets.{united-out}
-use Rattle.settling.specs.Settling.{Reached, Visit, Settles, Fresh, Scheduled}
+use Rattle.settling.specs.Settling.{here, Visit, Settles, Swept, Scheduled}
 use Rattle.settling.specs.Turns.{placeOf, numberAt, toVisit, Passed, StalePlace, TurnAt, NextTurn, StaleAfter}
 use Rattle.settling.specs.declared.turns.Turn.{Turn}
-use Rattle.settling.proofs.Visits.{place-back, reached-visit}
-use Rattle.settling.proofs.Stale.{Local, fresh-turn}
+use Rattle.settling.proofs.Visits.{Lowers, place-back, reached-then, reached-visit, reached-length}
+use Rattle.settling.proofs.Stale.{Local, fresh-start, fresh-turn}
 
 -- ---- the next turn
 
@@ -72,11 +72,26 @@ after-changed callers c s s′ s″ out words =
 
 -- ---- turn by turn
 
+-- at first every number is stale
+pub swept-start : (visit : List ℕ → ℕ → List ℕ) (n : ℕ) (t : List ℕ) → n ≤ 256
+    → Swept visit n t t (18446744073709551615 ∷ 18446744073709551615 ∷ 18446744073709551615 ∷ 18446744073709551615 ∷ [])
+swept-start visit n t few = record { reached = here; fresh = fresh-start visit n t few; four = refl }
+
+-- from where a sweep led to
+pub swept-on : {visit : List ℕ → ℕ → List ℕ} {n : ℕ} {t₀ t stale : List ℕ} → Swept visit n t₀ t stale → Swept visit n t t stale
+swept-on p = record { reached = here; fresh = p .fresh; four = p .four }
+
+-- the table keeps its length
+pub swept-twice : {visit : List ℕ → ℕ → List ℕ} {weight : List ℕ → ℕ} {n room : ℕ} → Lowers visit weight n room → {t₀ t u stale stale′ : List ℕ}
+    → Swept visit n t₀ t stale → Swept visit n t u stale′ → length u ≡ length t₀
+swept-twice laws p q = reached-length laws (q .reached) ∙ reached-length laws (p .reached)
+
+pub settles-after : {visit : List ℕ → ℕ → List ℕ} {n : ℕ} {t₀ t stale u : List ℕ} → Swept visit n t₀ t stale → Settles visit n t u → Settles visit n t₀ u
+settles-after p q = record { reached = reached-then (p .reached) (q .reached); settled = q .settled }
+
 -- what holds at the head of the loop: visits lead to the table, those that are not stale would not change it, and the turn is the next one
 pub record Settling (visit : List ℕ → ℕ → List ℕ) (n : ℕ) (t₀ t stale : List ℕ) (turn : Turn) : Type 0 where
-  pub reached : Reached visit n t₀ t
-  pub fresh : Fresh visit n (inSet stale) t
-  pub four : length stale ≡ 4
+  pub swept : Swept visit n t₀ t stale
   pub next : NextTurn n stale turn
 
 -- what falls with each turn: the weight of the table, and while that stays the number of stale sequences
@@ -85,7 +100,7 @@ load weight t stale = 257 * weight t + countPassing (inSet stale) 256
 
 -- no number is stale
 pub settling-end : {visit : List ℕ → ℕ → List ℕ} {n : ℕ} (t₀ t stale : List ℕ) (turn : Turn) → n ≤ turn .number → Settling visit n t₀ t stale turn → Settles visit n t₀ t
-settling-end t₀ t stale turn high p = record { reached = p .reached; settled = λ c l. p .fresh c l (p .next .none high c l) }
+settling-end t₀ t stale turn high p = record { reached = p .swept .reached; settled = λ c l. p .swept .fresh c l (p .next .none high c l) }
 
 -- the sets of callers say which sequences below n call which
 caller-is : {n : ℕ} {part places callers order : List ℕ} → Scheduled n part places callers order → (c d : ℕ) → c < n → d < n
@@ -113,12 +128,9 @@ module _ {visit : List ℕ → ℕ → List ℕ} {weight : List ℕ → ℕ} {n 
 
   -- a visit of a sequence looks at those that it calls
   module _ {room : ℕ} {part places callers order : List ℕ} (local : Local visit (calls part places) n room) (by : Scheduled n part places callers order) where
-    pub settling-turn : (t₀ t stale : List ℕ) (turn : Turn) (t′ stale′ : List ℕ) (changed : Bool) (turn′ : Turn) → room ≤ length t
-        → turn .number < n → Settling visit n t₀ t stale turn → Visit visit weight t (turn .number) t′ changed
-        → StaleAfter callers (turn .number) stale stale′ changed → length stale′ ≡ length stale → NextTurn n stale′ turn′
-        → Settling visit n t₀ t′ stale′ turn′
-    settling-turn t₀ t stale turn t′ stale′ changed turn′ long low p v after same next =
-        let c = turn .number in
+    pub swept-turn : (t₀ t stale : List ℕ) (c : ℕ) (t′ stale′ : List ℕ) (changed : Bool) → room ≤ length t → c < n → Swept visit n t₀ t stale
+        → Visit visit weight t c t′ changed → StaleAfter callers c stale stale′ changed → length stale′ ≡ length stale → Swept visit n t₀ t′ stale′
+    swept-turn t₀ t stale c t′ stale′ changed long low p v after same =
         let few = by .few in
         record {
           reached = reached-visit t c t′ changed low (p .reached) v;
@@ -129,5 +141,11 @@ module _ {visit : List ℕ → ℕ → List ℕ} {weight : List ℕ → ℕ} {n 
                 λ q. sym (caller-is by d c l low) ∙ after .called q d (omega arith) e,
               ));
           four = same ∙ p .four;
-          next = next;
         }
+
+    pub settling-turn : (t₀ t stale : List ℕ) (turn : Turn) (t′ stale′ : List ℕ) (changed : Bool) (turn′ : Turn) → room ≤ length t
+        → turn .number < n → Settling visit n t₀ t stale turn → Visit visit weight t (turn .number) t′ changed
+        → StaleAfter callers (turn .number) stale stale′ changed → length stale′ ≡ length stale → NextTurn n stale′ turn′
+        → Settling visit n t₀ t′ stale′ turn′
+    settling-turn t₀ t stale turn t′ stale′ changed turn′ long low p v after same next =
+        record { swept = swept-turn t₀ t stale (turn .number) t′ stale′ changed long low (p .swept) v after same; next = next }

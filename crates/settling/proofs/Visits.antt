@@ -21,6 +21,11 @@ reached-same visit visit′ n same here = here
 reached-same visit visit′ n same {t} (next {table = s} c l r) =
     subst (Reached visit′ n t) (sym (same s c l)) (next c l (reached-same visit visit′ n same r))
 
+-- visits after visits
+pub reached-then : {visit : List ℕ → ℕ → List ℕ} {n : ℕ} {t s u : List ℕ} → Reached visit n t s → Reached visit n s u → Reached visit n t u
+reached-then first here = first
+reached-then first (next c l r) = next c l (reached-then first r)
+
 -- the place that comes at a turn, and the turn at which a place comes
 pub place-back : (forward : Bool) (len i : ℕ) → i < len → (placeOf forward len i < len) × (placeOf forward len (placeOf forward len i) ≡ i)
 place-back true len i l = (l, refl)

@@ -7,7 +7,7 @@ use mathlib.Core.List.{List}
 use lib.ListN.{length}
 use Rattle.image.specs.Word.{mostSequences}
 use Rattle.general.specs.Numbers.{Complete}
-use Rattle.callers.specs.Callers.{setWords, CallersWritten}
+use Rattle.callers.specs.Callers.{setWords, inSet, CallersWritten}
 
 -- `visit` gives the table after a visit of number c
 module _ (visit : List ℕ → ℕ → List ℕ) where
@@ -36,6 +36,12 @@ module _ (visit : List ℕ → ℕ → List ℕ) where
 -- no visit of a number below n that is not stale changes the table
 abbrev pub Fresh : (List ℕ → ℕ → List ℕ) → ℕ → (ℕ → Bool) → List ℕ → Type 0
 Fresh visit n stale table = (c : ℕ) → c < n → stale c ≡ false → visit table c ≡ table
+
+-- a table that visits lead to, and the set of the numbers that are stale in it
+pub record Swept (visit : List ℕ → ℕ → List ℕ) (n : ℕ) (before after stale : List ℕ) : Type 0 where
+  pub reached : Reached visit n before after
+  pub fresh : Fresh visit n (inSet stale) after
+  pub four : length stale ≡ setWords
 
 -- what settling a table of the sequences below n goes by: an order that names each of them, and the sets of their callers
 pub record Scheduled (n : ℕ) (part places callers order : List ℕ) : Type 0 where

@@ -90,7 +90,7 @@ pub fn next(order: &[usize], stale: &[u64], n: usize, turn: Turn) -> Turn
     }
 }
 
-// The first turn.
+// The first turn after all numbers were visited in the order: against it.
 pub fn first(order: &[usize], stale: &[u64], n: usize) -> Turn
     requires { ⌜ (length (now stale) ≡ setWords) × (n ≤ mostSequences) × Complete (now order) n ⌝ }
     ensures { λ r. ⌜ NextTurn n (now (stale .entry)) r ⌝ }
@@ -98,7 +98,7 @@ pub fn first(order: &[usize], stale: &[u64], n: usize) -> Turn
     let start = Turn {
         number: n,
         place: 0,
-        forward: true,
+        forward: false,
     };
     next(order, stale, n, start)
 }
