@@ -51,7 +51,7 @@
  * calls when this was tried, 46 of them: all are reported but three. What shows
  * in no answer and no area is not: bits from F upward in the outcome table
  * (row/bits_above), an order of visits that is never asked for
- * (settling/one_number). Nor is the order of refusals 10 and 11
+ * (order/one_number). Nor is the order of refusals 10 and 11
  * (question/eleven_before_ten), since all questions here are in range;
  * chain_test has it.
  *

@@ -1,4 +1,6 @@
 -- No engine that is wrong in one of the ways of specs/Wrong meets the demand that names it.
+-- It has: the samples that decide, by computation; the wrong ways by the demand that they fail; and for each an engine that goes that way (the
+-- names that end in `-goes`).
 -- Assumes nothing.
 use Prim.Native.Nat.{ℕ, zero, suc, _+_, _*_, _^_, _<_}
 use native.Mathlib.Omega.{arith}

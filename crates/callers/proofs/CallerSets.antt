@@ -1,5 +1,7 @@
 -- Sets of sequences, bit by bit: what each operation leaves, and what holds at the heads of the loops that write
 -- the callers.
+-- It has: one bit more and one less; `removed` and `united`, with what is out of a united set; `added`, and the loops over a sequence's words
+-- (`Adding`) and over the sequences (`Writing`); the set of all (`all-in`). The calls that are left from an index on are in Calls.
 -- Assumes nothing.
 use Prim.Native.Nat.{ℕ, zero, suc, _+_, _-_, _*_, _/_, _%_, _^_, _≤_, _<_}
 use native.Mathlib.Omega.{arith}

@@ -1,5 +1,7 @@
 -- What a card says, proved: the columns against the published definitions, the flags, the count and the blank card of demand 2, and
 -- the sentences of demand 3 over the words of a card.
+-- It has: `card-right` (demand 2), `runs-right` (demand 3), and that words which are the same mean the same (`card-same`, `runs-same`). That
+-- no other words are a card is in Unique.
 -- Assumes nothing.
 use Prim.Native.Nat.{ℕ, zero, suc, _+_, _*_, _/_, _^_, _≤_, _<_}
 use native.Mathlib.Omega.{arith}

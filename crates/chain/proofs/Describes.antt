@@ -1,5 +1,7 @@
 -- Tables that describe a library give its answers: what they say of an entry is what `Ranks` says, and so the links and the answer by the
 -- ranks are the library's.
+-- It has: the ranks of the steps (`steps-marked`, `steps-any`); what a table says of an entry (`pass-is`); the looks at an alternative (`pass-
+-- look`, `depth-look`, `touch-look`); the answers (`quiet-answer`, `touch-answer`).
 -- Assumes nothing.
 use Prim.Native.Nat.{ℕ, zero, suc, pred, _+_, _*_, _≤_, _<_}
 use native.Mathlib.Decide.{decLt}

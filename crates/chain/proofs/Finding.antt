@@ -1,4 +1,7 @@
 -- The tables that are made of an accepted image describe its library, and the answer by settled ranks is the library's.
+-- It has: what the areas ask; what each part of the search asks (`mark-asked`, `rank-asked`, `write-asked`); the tables of an accepted image
+-- (`masks-made`, `places-made`, `tables-findable`); and the answer (`found-done`). What the tables say of an entry is in Describes, the call's
+-- cases in Calls.
 -- Assumes nothing.
 use Prim.Native.Nat.{ℕ, zero, suc, _+_, _*_, _^_, _≤_, _<_}
 use native.Mathlib.Decide.{decLt, ℕ-discrete}
@@ -251,9 +254,6 @@ module _ (image : List ℕ) (h : Head) (accepted : accepts image h) (ms ps part 
         ∙ sym (start-unranked (L .sequences) (λ T es. 0) m m i))
 
     -- the ranks of the steps
-    steps-size : length before ≡ p .none + length (L .steps)
-    steps-size = omega (arith, has .steps, yet .long)
-
     steps-stay : (past : ℕ) (test : Item → Bool) (T : List ℕ) → drop m T ≡ drop m (ranked .start) → StepsBy (p .none) past test (ranked .start) → StepsBy m past test T
     steps-stay past test T same steps a =
         ap (λ (l : List ℕ). getD l a past) (same ∙ ap (λ (n : ℕ). drop n (ranked .start)) (sym p-none)) ∙ steps a ∙ ap (cond (test (step a)) 0) p-none

@@ -1,9 +1,12 @@
 -- The answer to a question: a chain that is answered keeps every promise of `Shows`, and "none" is answered exactly when no run has
 -- the outcome.
+-- It has: chains chosen by ranks stand for a run and are lowest (`links-stand`, `links-lowest`); for either kind of question what is answered
+-- and when none is (`touch-shows`, `touch-none`, `untouched-shows`, `untouched-none`), and for all (`answer-shows`, `answer-none`); and that
+-- any table of right ranks gives the answer (`touch-table`, `untouched-table`). That there is one such chain is in Unique.
 use Prim.Native.Nat.{ℕ, zero, suc, pred, _≤_, _<_}
 use mathlib.Core.Path.{_≡_, refl, sym, _∙_, ap, subst, fun-ext}
 use mathlib.Core.Logic.{_≢_, _⊎_, inl, inr, ⊎-elim, _↔_}
-use mathlib.Core.Bool.{Bool, true, false, true≢false}
+use mathlib.Core.Bool.{Bool, true, false}
 use mathlib.Core.List.{List, [], _∷_}
 use native.Mathlib.Omega.{arith}
 use native.Mathlib.Nat.{eq-or-lt-of-le}
@@ -14,10 +17,8 @@ use Rattle.library.specs.Library.{Library, Entry, item, call, Item}
 use Rattle.runs.specs.Run.{Run, Gives, alternativesOf, alternativeOf}
 use Rattle.runs.specs.Touch.{Side, Mark, present, absent, untouched, itemTouch, Question, HasOutcome}
 use Rattle.runs.specs.Algebra.{sameMark-eq}
-use Rattle.runs.specs.Possible.{possibleOutcome}
 use Rattle.general.proofs.Bools.{passes-or-not}
 use Rattle.runs.proofs.Outcome.{present≢untouched, absent≢untouched}
-use Rattle.runs.proofs.Columns.{question-iff}
 use Rattle.runs.proofs.Possible.{alternative-below}
 use Rattle.chains.specs.Link.{touchLink, untouchedLink, Chain}
 use Rattle.chains.specs.Stands.{About, entryAt, Choices, StandsFor}
@@ -323,14 +324,6 @@ pub answer-none : (L : Library) (q : Question) (c f : ℕ) → (answer L q c f �
 answer-none L q c f =
     by-answer L c f (λ r a. (a ≡ none) ↔ ((w : List Item) → Run L c w → ¬ HasOutcome L r f w))
     (λ r touch T reached closed capped. touch-none L r f touch T reached closed c) (λ s T reached closed capped. untouched-none L s f T reached closed c) q
-
-pub answer-possible : (L : Library) (q : Question) (c f : ℕ) → (answer L q c f ≡ none) ↔ (possibleOutcome L q c f ≡ false)
-answer-possible L q c f = (
-  (λ e. ⊎-elim
-      (λ p. let r = question-iff L q c f .0 p in absurd (answer-none L q c f .0 e (r .0) (r .1) (r .2)))
-      (λ p. p) (passes-or-not (possibleOutcome L q c f))),
-  λ e. answer-none L q c f .1 (λ w run outcome. true≢false (sym (question-iff L q c f .1 (w, run, outcome)) ∙ e)),
-)
 
 -- Any table of ranks that are reached, that no look lowers and none of which is above `unranked` gives the answer.
 pub touch-table : (L : Library) (q : Question) (f : ℕ) → q .mark ≢ untouched → (T : Ranks) → Attained (Linked L q f) (unranked L) T

@@ -1,6 +1,8 @@
 -- Numbers of links: a closed table has no rank above the number of links of a chain that stands for a run with the touch asked for, one
 -- look at an alternative finds only numbers that a chain has, and a rank is at most the number of sequences. Then the chain that is
 -- chosen by the ranks, link by link.
+-- It has: `links-least` and `links-below` (no rank above the number of links), `links-reached` (a number that a chain has), `chosen-rank`,
+-- `links-bound` and `chain-ranked` (the chain chosen). Depths are in Depth, what only has to pass in Passing.
 use Prim.Native.Nat.{ℕ, suc, _+_, _≤_, _<_}
 use mathlib.Core.Path.{_≡_, refl, sym, _∙_}
 use mathlib.Core.Logic.{_≢_, ⊎-elim}

@@ -7,7 +7,7 @@ use native.Mathlib.Omega.{arith}
 use mathlib.Core.Path.{_≡_, refl, sym, ap, ap₂, _∙_}
 use mathlib.Core.Logic.{_↔_}
 use mathlib.Core.Bool.{Bool, true, false, not, _&&_, _||_, false≢true, true≢false}
-use lib.Bits.{bitAnd, bitOr, or-lt, and-lt, and-le-l}
+use lib.Bits.{bitOr, or-lt, and-le-l}
 use lib.Count.{ones, ones-step}
 use lib.Dec.{eqb}
 use lib.Pow.{pow-mono, pow-pos}
@@ -45,12 +45,6 @@ pub column-or : (n : ℕ) (p q : ℕ → Bool) → bitOr (column n p) (column n 
 column-or n p q =
     column-is n (bitOr (column n p) (column n q)) (λ (k : ℕ). p k || q k) (or-lt n (column n p) (column n q) (column-lt n p) (column-lt n q))
     (λ k l. bit-or (column n p) (column n q) k ∙ omega (arith, bit-column n p k l, bit-column n q k l, byte-or (p k) (q k)))
-
--- the intersection
-pub column-and : (n : ℕ) (p q : ℕ → Bool) → bitAnd (column n p) (column n q) ≡ column n (λ (k : ℕ). p k && q k)
-column-and n p q =
-    column-is n (bitAnd (column n p) (column n q)) (λ (k : ℕ). p k && q k) (and-lt n (column n p) (column n q) (column-lt n p) (column-lt n q))
-    (λ k l. bit-and (column n p) (column n q) k ∙ omega (arith, bit-column n p k l, bit-column n q k l, byte-and (p k) (q k)))
 
 -- the difference, in words of any width that holds the columns
 pub column-difference : (w n : ℕ) (p q : ℕ → Bool) → n ≤ w → difference w (column n p) (column n q) ≡ column n (λ (k : ℕ). p k && not (q k))

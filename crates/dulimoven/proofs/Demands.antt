@@ -1,4 +1,5 @@
 -- The engine that the contracts describe meets the three demands, and what demand 1 says of a call no other number and no other area does.
+-- It has: demand 1 and `only-engine`; demand 2 (`columns`); demand 3 (`runs`); and all three (`demands-met`).
 -- Assumes nothing.
 use Prim.Native.Nat.{ℕ, _+_, _*_, _-_, _≤_, _<_}
 use native.Mathlib.Omega.{arith}

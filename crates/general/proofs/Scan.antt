@@ -1,5 +1,7 @@
 -- Laws of the scans: of every element, of the least and the greatest value, of the first index, of lists by their indices; and a
 -- count, by which numbers without a gap are bounded.
+-- It has: `every`, `leastBelow`, `greatest`, `firstIndex`, `listBelow` and `total`, some laws each; `count-all` and `count-more`; `gapless-
+-- bound`. Laws of Booleans are in Bools, of tests over a list in Tests.
 use Prim.Native.Nat.{ℕ, zero, suc, _+_, _*_, _≤_, _<_, min}
 use mathlib.Core.Path.{_≡_, refl, sym, _∙_, ap}
 use mathlib.Core.Logic.{_⊎_, inl, inr, ⊎-elim}

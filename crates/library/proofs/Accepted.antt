@@ -1,5 +1,9 @@
 -- What acceptance says, proved from the check's definition: no word has a fault, each part holds its own kinds of words with their
 -- numbers, and the library is counted as the head says.
+-- It has, in this order: answers that are no refusal; a word without a fault; the words of either part; the numbers of openers and how many
+-- there are; the parts of the words between; the library's steps and entries; and of an accepted image `faultless`, `parts`, `counted`,
+-- `library-is`, `steps-below` and `alternatives-named`, which are what other crates cite. How large a library can be stands in Sizes, where
+-- its parts meet in Seam.
 -- Assumes nothing.
 use Prim.Native.Nat.{ℕ, zero, suc, _+_, _-_, _/_, _^_, _≤_, _<_}
 use native.Mathlib.Nat.{le-of-suc-le-suc, add-zero, zero-add}
@@ -203,9 +207,6 @@ sequence-word h e w f late =
 
 opens : (k w : ℕ) → (kind w ≡ k → ⊥) → boolByte (isKind k w) ≡ 0
 opens k w d = ap boolByte (is-not k w d)
-
-opens-one : (k w : ℕ) → kind w ≡ k → boolByte (isKind k w) ≡ 1
-opens-one k w q = ap boolByte (is k w q)
 
 steps-words : (h : Head) (e : Earlier) (p : ℕ) (ws : List ℕ) (g : Head) → walk h e p ws ≡ Accepted g → e .sequences ≡ 0 → kind (e .last) ≤ 5
     → All (StepWord h) (beforeSequences ws)

@@ -1,5 +1,8 @@
 -- How the library is read off the words, one word at a time, and what stands where: the laws by which the crates above follow the
 -- decoding without opening it.
+-- It has: kinds of words; one word more of entries, alternatives, sequences, steps and facts (`entries-cons`, `alternatives-cons`, `sequences-
+-- open`, `steps-open`, `facts-here`); the two parts; how many steps and sequences there are, and the one at a number (`step-at`, `sequence-
+-- at`). Loops over them are in Walking.
 -- Assumes nothing.
 use Prim.Native.Nat.{ℕ, zero, suc, _+_, _≤_, _<_}
 use native.Mathlib.Nat.{le-of-suc-le-suc, zero-add}

@@ -1,4 +1,6 @@
 -- The tables of masks and places, written from the last word to the first: what holds at the head of the loop, and a turn of each kind.
+-- It has: `MasksAt` with its start, a fact word, a step's opener and the end; `PlacesAt` with its start, words passed by, a sequence's opener
+-- and the end. What a table says at an index is in Lookup.
 -- Assumes nothing.
 use Prim.Native.Nat.{ℕ, zero, suc, _+_, _*_, _-_, _≤_, _<_}
 use native.Mathlib.Nat.{suc-add, le-of-suc-le-suc}

@@ -1,4 +1,6 @@
 -- The loops that choose: what holds at the head of each, a turn, and the ways out.
+-- It has: the index from which on all entries pass (`tail-cons`); the first position of an alternative (`placing-` start, turn, found, out)
+-- and the first alternative with one (`Choosing`); the first alternative of no greater depth (`Picking`).
 -- Assumes nothing.
 use Prim.Native.Nat.{ℕ, suc, _+_, _-_, _≤_, _<_}
 use native.Mathlib.Omega.{arith}

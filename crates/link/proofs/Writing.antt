@@ -1,4 +1,6 @@
 -- The words of a chain in the area: the links so far are written, and the words past them stay.
+-- It has: numbers that have 28 bits (`entry-low`); two words more (`put-first`); the loop over links (`Writing`, with start, turn, next and
+-- end); the answer by the ranks in the area (`answered-untouched`, `answered-links`).
 -- Assumes nothing.
 use Prim.Native.Nat.{ℕ, zero, suc, pred, _+_, _*_, _^_, _≤_, _<_}
 use native.Mathlib.Omega.{arith}

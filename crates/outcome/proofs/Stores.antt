@@ -1,4 +1,6 @@
 -- Rows stored into a table of eight words a row: what is read back, what stays, and how much is lacking after a store.
+-- It has: the row that is read back and the others (`row-same`, `row-other`), equal rows (`rows-equal`), and the weight (`lacking-least`,
+-- `lacking-falls`).
 -- Assumes nothing.
 use Prim.Native.Nat.{ℕ, zero, suc, _+_, _-_, _*_, _^_, _≤_, _<_}
 use native.Mathlib.Nat.{add-zero, add-suc, suc-add, pow-suc, le-of-suc-le-suc}

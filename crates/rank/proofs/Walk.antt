@@ -1,5 +1,6 @@
 -- The forms that a loop follows give what the definitions say: ranks lowered by one walk over a sequence's alternatives, an alternative
 -- read from left to right, and the choice of a link by nested scans.
+-- It has: `lowered-from`, `alternative-from`, `depth-from`, `fewest-from`, `position-from`, `link-from` and `tail-from`, one for each form.
 use Prim.Native.Nat.{ℕ, zero, suc, _+_, _≤_, _<_, min, max}
 use mathlib.Core.Path.{_≡_, refl, sym, _∙_, ap, ap₂}
 use mathlib.Core.Logic.{⊎-elim}

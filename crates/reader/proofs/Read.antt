@@ -1,27 +1,20 @@
 -- What follows from where the reader of the steps' part stopped.
 -- Assumes nothing.
-use Prim.Native.Nat.{ℕ, _+_, _-_, _≤_, _<_}
+use Prim.Native.Nat.{ℕ, _+_, _-_, _≤_}
 use native.Mathlib.Omega.{arith}
-use mathlib.Core.Path.{_≡_, refl, sym, ap, _∙_, subst}
-use mathlib.Core.Bool.{true, false}
-use mathlib.Core.List.{List, [], _∷_}
-use lib.ListN.{length, take, drop, length-drop}
-use lib.Seq.{take-all}
-use borrow.Author.Tests.{le-leb, lt-leb, eqb-true, ne-eqb}
-use Rattle.image.specs.Word.{kind, isKind, sumRight, headOf, headRight}
-use Rattle.rules.specs.Rules.{opened, lastOf, earlier}
+use mathlib.Core.Path.{_≡_, sym, ap, _∙_, subst}
+use mathlib.Core.List.{List}
+use lib.ListN.{length, drop}
+use Rattle.image.specs.Word.{headOf}
 use Rattle.rules.specs.Quick.{Counts}
-use Rattle.rules.specs.Checked.{allButLast, between, firstWord, lastWord, checked}
 use Rattle.rules.specs.Walk.{walk, opening}
 use Rattle.reader.specs.Readers.{resume, StoppedWithin, StepsRead}
 use Rattle.image.specs.declared.answer.Head.{Head}
 use Rattle.image.specs.declared.answer.Refusal.{Refusal}
-use Rattle.image.specs.declared.answer.Refusal.the-variants.{Length, SumWord, HeadWord}
 use Rattle.image.specs.declared.answer.Checked.the-variants.{Refused}
 use Rattle.reader.specs.declared.check.Steps.{Steps}
 use Rattle.reader.specs.declared.check.Steps.the-variants as steps
 use Rattle.rules.specs.declared.rules.Earlier.{Earlier}
-use Rattle.general.proofs.Bools.{and-left}
 
 module _ (h : Head) (first : ℕ) (part : List ℕ) (r : Steps) (read : StepsRead h first part r) where
   pub stopped-refused : (x : Refusal) → r ≡ steps.Refused x → Refused x ≡ walk h (opening first) 1 part

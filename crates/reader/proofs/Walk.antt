@@ -1,19 +1,18 @@
 -- Laws of the walk: one word, the way out at a fault, the end.
 -- Assumes nothing.
-use Prim.Native.Nat.{ℕ, suc, _+_, _≤_, _<_}
+use Prim.Native.Nat.{ℕ, _+_, _≤_, _<_}
 use native.Mathlib.Nat.{add-zero}
 use native.Mathlib.Omega.{arith}
 use native.Mathlib.Numerals.{add-one}
 use mathlib.Core.Path.{_≡_, refl, sym, ap, ap₂, _∙_, subst}
-use mathlib.Core.List.{List, [], _∷_, _++_}
-use lib.ListN.{length, getD, drop, length-append}
+use mathlib.Core.List.{List}
+use lib.ListN.{length, getD, drop}
 use mathlib.Core.Bool.{true}
-use mir.Val.{boolByte}
 use lib.Seq.{drop-cons, drop-length}
 use Rattle.image.specs.Word.{isKind}
-use Rattle.rules.specs.Rules.{opened, lastOf, earlier, faultAt}
+use Rattle.rules.specs.Rules.{opened, faultAt}
 use Rattle.rules.specs.Quick.{bodyRight, insideRight, factAbove, after, withLast, inAlternative}
-use Rattle.rules.specs.Checked.{atWord, scan}
+use Rattle.rules.specs.Checked.{atWord}
 use Rattle.rules.specs.Walk.{ended, walk}
 use Rattle.reader.specs.Readers.{BodyRead, FourRight}
 use Rattle.image.specs.declared.answer.Head.{Head}

@@ -1,17 +1,14 @@
 -- What the functions of the check promise: where each stopped, and that the answer from there on is the answer from where it began.
-use Prim.Native.Nat.{ℕ, suc, _+_, _≤_, _<_}
+use Prim.Native.Nat.{ℕ, _+_, _≤_, _<_}
 use mathlib.Core.Path.{_≡_}
 use lib.ListN.{length, getD, drop}
-use mathlib.Core.Bool.{true, cond, _||_}
-use mathlib.Core.List.{List, [], _∷_}
-use lib.Dec.{ltb}
-use Rattle.rules.specs.Rules.{faultAt}
-use Rattle.rules.specs.Quick.{insideRight, after, withLast}
+use mathlib.Core.Bool.{true}
+use mathlib.Core.List.{List}
+use Rattle.rules.specs.Quick.{insideRight, withLast}
 use Rattle.rules.specs.Walk.{walk, opening}
 use Rattle.image.specs.declared.answer.Head.{Head}
-use Rattle.image.specs.declared.answer.Refusal.the-variants.{Missing}
 use Rattle.image.specs.declared.answer.Checked.{Checked}
-use Rattle.image.specs.declared.answer.Checked.the-variants.{Accepted, Refused}
+use Rattle.image.specs.declared.answer.Checked.the-variants.{Refused}
 use Rattle.rules.specs.declared.rules.Earlier.{Earlier}
 use Rattle.reader.specs.declared.check.Body.{Body}
 use Rattle.reader.specs.declared.check.Steps.{Steps}

@@ -1,4 +1,6 @@
 -- A word that is right by the rules of its kind alone has no fault.
+-- It has: a law for each kind of word, and what a reader needs of the words that it passes by (`Passing`, `Above`). That the walk over the
+-- words is the scan of document 01 is in Checked.
 -- Assumes nothing.
 use Prim.Native.Nat.{ℕ, _+_, _*_, _%_, _^_, _≤_, _<_}
 use native.Mathlib.Omega.{arith}

@@ -7,12 +7,11 @@ use mathlib.Core.List.{List, [], _∷_}
 use Rattle.library.specs.Library.{Library, Item}
 use Rattle.general.proofs.Bools.{and-parts, and-both, or-cases, or-left, or-right, passes-or-not}
 use Rattle.runs.specs.Run.{Run}
-use Rattle.runs.specs.Touch.{Question, questionNumber, questionOf, rival, untouchedOn, otherTouch, HasOutcome, itemTouch}
-use Rattle.runs.specs.Touch.{outcomeOf, Mark, present, absent, untouched, Side, last, first}
+use Rattle.runs.specs.Touch.{Question, rival, untouchedOn, otherTouch, HasOutcome, itemTouch}
+use Rattle.runs.specs.Touch.{outcomeOf, Mark, present, absent, untouched}
 use Rattle.runs.specs.Algebra.{outcome, emptyAlgebra, sideAlgebra, sameMark, sameMark-refl, sameMark-eq}
-use Rattle.runs.specs.Possible.{Column, columnHas, questionColumn, emptyColumn, runColumn, columnPossible, possibleOutcome}
+use Rattle.runs.specs.Possible.{Column, columnHas, questionColumn, emptyColumn, runColumn, possibleOutcome}
 use Rattle.runs.specs.Possible.{hasRun, hasEmptyRun, brokenRule, alwaysOutcome}
-use Rattle.runs.specs.Rows.{columnNumber}
 use borrow.Author.Tests.{not-true}
 use Rattle.runs.proofs.Outcome.{decided-outcome}
 use Rattle.runs.proofs.Possible.{possible-iff}
@@ -46,24 +45,6 @@ blank-columns K L c f none =
     (λ e. let r = column-iff K L c f .0 e in absurd (true≢false (sym (hasRun-iff L c .1 (r .0, r .1)) ∙ none)))
     (λ e. e)
     (passes-or-not (columnHas K L c f))
-
--- a question by its number, and its column
-pub question-number : (s : Side) (m : Mark) → questionOf (questionNumber s m) ≡ record { side = s; mark = m }
-question-number last present = refl
-question-number last absent = refl
-question-number last untouched = refl
-question-number first present = refl
-question-number first absent = refl
-question-number first untouched = refl
-
-pub question-column : (L : Library) (s : Side) (m : Mark) (c f : ℕ)
-    → columnPossible L (columnNumber s m) c f ≡ possibleOutcome L (record { side = s; mark = m }) c f
-question-column L last present c f = refl
-question-column L last absent c f = refl
-question-column L last untouched c f = refl
-question-column L first present c f = refl
-question-column L first absent c f = refl
-question-column L first untouched c f = refl
 
 -- "an empty run exists"
 empty-nil : (w : List Item) → outcome emptyAlgebra (λ x. false) w ≡ true → w ≡ []

@@ -1,4 +1,5 @@
 -- The published sets are what document 01 says of touches: of a sequence with a run and a fact below F, for every library.
+-- It has: an equivalence for each published set, and `published-columns` of all.
 use Prim.Native.Nat.{ℕ, zero, suc, _<_}
 use mathlib.Core.Path.{_≡_, refl, sym, _∙_, ap, fun-ext}
 use mathlib.Core.Logic.{_⊎_, inl, inr, ⊎-elim, _↔_, _≢_, Iff·trans, Iff·symm}

@@ -1,5 +1,7 @@
 -- Laws of an alternative read from left to right: reading comes to what the alternative can have; a part of the outcomes is read on
 -- its own; and for the columns reading is by the formulas.
+-- It has: `read-can`, for any outcomes; `read-agree`, for parts of them; and for a side, "a run exists" and "an empty run exists" `side-can`,
+-- `run-can` and `empty-can`.
 use Prim.Native.Nat.{ℕ}
 use mathlib.Core.Path.{_≡_, refl, sym, _∙_, subst}
 use mathlib.Core.Logic.{⊎-elim, _≢_}

@@ -3,7 +3,7 @@ use Prim.Native.Nat.{ℕ}
 use mathlib.Core.Path.{refl}
 use mathlib.Core.Logic.{_↔_}
 use mathlib.Core.List.{List, [], _∷_, _++_, map, map-append, append-assoc, append-nil}
-use Rattle.library.specs.Library.{Library, Sequence, Entry, item, call, Item}
+use Rattle.library.specs.Library.{Library, Sequence, Entry, item, Item}
 use Rattle.runs.specs.Run.{Run, Gives, nothing, by-item, by-call, alternativeOf}
 use Rattle.runs.specs.Refinement.{Network, Decomposes, Transforms, by-none, by-method, Refines}
 use Rattle.runs.proofs.Run.{gives-append, gives-split, call-iff}

@@ -1,5 +1,7 @@
 -- The eight columns worked out together: reading adds to good rows only what keeps them good, and good rows to which reading adds
 -- nothing are what is possible.
+-- It has: eight cases once (`by-column`); good rows (`none-good`, `or-good`, `read-good`); `rows-possible`; and what joins and folds agree on
+-- (`join-agree`, `fold-agree`).
 use Prim.Native.Nat.{ℕ, _<_}
 use mathlib.Core.Path.{_≡_, refl, sym, _∙_, ap, ap₂, subst, fun-ext}
 use mathlib.Core.Logic.{⊎-elim}
