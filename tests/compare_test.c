@@ -35,14 +35,14 @@
  *     the last
  *   link, a link with one link more after it is taken (`t.rank <= k + 1`): a
  *     link's entry is no step with the touch, or no sequence
- *   link, a link is taken though a later entry touches (`quiet <= next` left
+ *   link, a link is taken though a later entry touches (`tail <= next` left
  *     out): beside a link's entry another touches the fact, or has no run
  *   link, a kind 12 link names the first alternative (`k <= 1000`): a link is
  *     not the lowest choice
  *   rank, an entry behind the position is held to what is asked of one ahead
  *     (`passes(none, ahead, w)`): none, and a run has the outcome
- *   rank, entries ahead of the position may touch (`ok = ok`): a chain, and no
- *     run has the outcome
+ *   rank, entries ahead of the position may touch (`floor = floor`): a chain,
+ *     and no run has the outcome
  *   question, one word more is written: words past the chain are changed
  *   outcome, a visit always says that it changed the table, and rank, that it
  *     lowered a rank: the time limit is over, and no answer from

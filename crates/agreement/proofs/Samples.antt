@@ -17,8 +17,8 @@ use Rattle.runs.specs.Possible.{possible}
 use Rattle.cards.specs.Card.{card, cards}
 use Rattle.chains.specs.Link.{chainWords}
 use Rattle.chains.specs.Call.{chained}
-use Rattle.card_text.specs.Words.{wordsOf}
-use Rattle.card_text.specs.Number.{numeral, numeralIn}
+use Rattle.text.specs.Words.{wordsOf}
+use Rattle.text.specs.Number.{numeral, numeralIn}
 use Rattle.card_text.specs.Line.{spaced, cardLine, linesFrom, cardLines, refusalLine}
 use Rattle.card_text.specs.Print.{printed}
 use Rattle.agreement.specs.Samples.{L, endlessFirst, clearThenNeed, pulse, standing, executes, fails, Holds, starred}

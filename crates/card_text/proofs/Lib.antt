@@ -1,5 +1,2 @@
 pub mod Lines
-pub mod Numeral
 pub mod Printed
-pub mod Text
-pub mod Words

@@ -7,12 +7,13 @@ use mathlib.Core.List.{List, [], _∷_, _++_}
 use lib.ListN.{length, take, drop, getD, length-take}
 use lib.Seq.{drop-cons, drop-length}
 use Rattle.cards.specs.Layout.{cardWords}
-use Rattle.card_text.specs.Text.{InFront, PutWithin}
-use Rattle.card_text.specs.Number.{numeral}
-use Rattle.card_text.specs.Writers.{numberBytes, lineBytes, wordBytes, NumeralAsked}
+use Rattle.text.specs.Text.{InFront, PutWithin}
+use Rattle.text.specs.Number.{numeral}
+use Rattle.card_text.specs.Writers.{numberBytes, lineBytes, wordBytes}
+use Rattle.text.specs.Text.{NumeralAsked}
 use Rattle.card_text.specs.Line.{spaced, cardLine, linesFrom, cardLines, refusedText, atText, refusalLine}
-use Rattle.card_text.proofs.Text.{front-none, front-join}
-use Rattle.card_text.proofs.Numeral.{numeral-length}
+use Rattle.text.proofs.Text.{front-none, front-join}
+use Rattle.text.proofs.Numeral.{numeral-length}
 
 -- ---- how long numerals are
 

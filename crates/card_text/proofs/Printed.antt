@@ -21,7 +21,7 @@ use Rattle.card.specs.Answer.{cardsGiven, areaWith, CardsCalled}
 use Rattle.card.specs.declared.answer.Cards.{Cards}
 use Rattle.cards.proofs.Area.{length-cards}
 use Rattle.card.proofs.Filled.{filled}
-use Rattle.card_text.specs.Words.{wordsOf}
+use Rattle.text.specs.Words.{wordsOf}
 use Rattle.card_text.specs.Line.{cardLine, linesFrom, cardLines, refusalLine}
 use Rattle.card_text.specs.Print.{imageText, printed}
 use Rattle.card_text.specs.Writers.{textBytes, answerText, AnswerAsked}

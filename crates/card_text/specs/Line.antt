@@ -3,7 +3,7 @@ use Prim.Native.Nat.{ℕ, zero, suc, _*_}
 use mathlib.Core.List.{List, [], _∷_, _++_}
 use lib.ListN.{take, drop}
 use Rattle.cards.specs.Layout.{cardWords}
-use Rattle.card_text.specs.Number.{numeral}
+use Rattle.text.specs.Number.{numeral}
 
 -- "then the seven card words in hexadecimal .., one space between": each word after a space
 unfoldable pub spaced : List ℕ → List ℕ

@@ -9,7 +9,7 @@ use Rattle.rules.specs.Checked.{checked}
 use Rattle.library.specs.Library.{libraryOf}
 use Rattle.image.specs.declared.answer.Checked.{Checked}
 use Rattle.cards.specs.Card.{cards}
-use Rattle.card_text.specs.Words.{wordsOf}
+use Rattle.text.specs.Words.{wordsOf}
 use Rattle.card_text.specs.Line.{cardLines, refusalLine}
 
 -- for an image: "one line a sequence", or "A refusal prints `refused N at P`."

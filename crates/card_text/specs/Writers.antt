@@ -6,7 +6,6 @@ use lib.ListN.{length}
 use Rattle.image.specs.Answer.{refusalNumber, refusalPosition}
 use Rattle.cards.specs.Layout.{cardWords}
 use Rattle.card.specs.declared.answer.Cards.{Cards}
-use Rattle.card_text.specs.Number.{numeral}
 use Rattle.card_text.specs.Line.{cardLines, refusalLine}
 
 -- for an answer of the card call, with the words that it wrote: "one line a sequence", or "A refusal prints `refused N at P`."
@@ -33,13 +32,6 @@ refusalBytes = 53
 -- the most bytes of the lines of all sequences
 abbrev pub textBytes : ℕ
 textBytes = lineBytes * 256
-
--- what the writer of a numeral asks: a base with digits, and room in front of the text that begins at `at`
-pub record NumeralAsked (area : List ℕ) (at b n : ℕ) : Type 0 where
-  pub low : 2 ≤ b
-  pub high : b ≤ 16
-  pub room : length (numeral b n) ≤ at
-  pub within : at ≤ length area
 
 -- what the writer of an answer asks: the words of the cards, at most 256, and room in front of the text that begins at `at`
 pub record AnswerAsked (area : List ℕ) (at : ℕ) (found : Cards) (words : List ℕ) : Type 0 where

@@ -1,6 +1,3 @@
-// What the printing program reads and writes: bytes to words, and card lines to bytes. A text is written into a lent area from its end
-// to its start, each piece in front of what is there.
-pub mod bytes;
+// What the printing program prints for the bytes that it reads: card lines, or a refusal.
 pub mod line;
-pub mod number;
 pub mod print;

@@ -1,17 +1,17 @@
 // The lines that the program prints: a card, the cards of all sequences, a refusal.
-use crate::bytes::put_byte;
-use crate::bytes::put_bytes;
-use crate::number::DECIMAL;
-use crate::number::HEXADECIMAL;
-use crate::number::put_numeral;
 use image::word::MOST_SEQUENCES;
 use row::card::CARD_WORDS;
+use text::bytes::put_byte;
+use text::bytes::put_bytes;
+use text::number::DECIMAL;
+use text::number::HEXADECIMAL;
+use text::number::put_numeral;
 ghost use mathlib.Core.List.{_∷_};
 ghost use Prim.Native.Nat.{_+_, _*_, _≤_};
 ghost use lib.ListN.{length};
 ghost use Rattle.cards.specs.Layout.{cardWords};
-ghost use Rattle.card_text.specs.Text.{InFront, PutWithin};
-ghost use Rattle.card_text.specs.Number.{numeral};
+ghost use Rattle.text.specs.Text.{InFront, PutWithin};
+ghost use Rattle.text.specs.Number.{numeral};
 ghost use Rattle.card_text.specs.Line.{spaced, cardLine, cardLines, refusalLine};
 ghost use Rattle.card_text.specs.Writers.{wordBytes, numberBytes, lineBytes, refusalBytes};
 

@@ -1,6 +1,4 @@
 // What the program prints: for an answer of the card call, and for the bytes of its input.
-use crate::bytes::WORD_BYTES;
-use crate::bytes::write_words;
 use crate::line::put_lines;
 use crate::line::put_refusal;
 use card::answer::Cards;
@@ -9,11 +7,13 @@ use image::answer::number;
 use image::answer::position;
 use image::word::MOST_WORDS;
 use row::card::MOST_CARD_WORDS;
+use text::bytes::WORD_BYTES;
+use text::bytes::write_words;
 ghost use Prim.Native.Nat.{_≤_};
 ghost use lib.ListN.{length};
 ghost use Rattle.rules.specs.Checked.{checked};
-ghost use Rattle.card_text.specs.Words.{wordsOf};
-ghost use Rattle.card_text.specs.Text.{InFront};
+ghost use Rattle.text.specs.Words.{wordsOf};
+ghost use Rattle.text.specs.Text.{InFront};
 ghost use Rattle.card_text.specs.Print.{imageText, printed};
 ghost use Rattle.card_text.specs.Writers.{textBytes, answerText, AnswerAsked};
 

@@ -7,9 +7,9 @@ use Rattle.card_text.proofs.line.put_line.Statement.{statement}
 use Rattle.card_text.proofs.line.put_line.Tie as tie
 use Rattle.card_text.proofs.line.put_line.Reads as reads
 use Rattle.card_text.proofs.line.put_line.Lts as lts
-use Rattle.card_text.proofs.bytes.put_byte.Reads as put-byte-reads
+use Rattle.text.proofs.bytes.put_byte.Reads as put-byte-reads
 use Rattle.card_text.proofs.line.put_words.Reads as put-words-reads
-use Rattle.card_text.proofs.number.put_numeral.Reads as put-numeral-reads
+use Rattle.text.proofs.number.put_numeral.Reads as put-numeral-reads
 
 put-byte-requires : tie.Need-put-byte-requires
 put-byte-requires c κs = search needs

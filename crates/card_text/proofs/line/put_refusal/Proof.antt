@@ -7,9 +7,9 @@ use Rattle.card_text.proofs.line.put_refusal.Statement.{statement}
 use Rattle.card_text.proofs.line.put_refusal.Tie as tie
 use Rattle.card_text.proofs.line.put_refusal.Reads as reads
 use Rattle.card_text.proofs.line.put_refusal.Lts as lts
-use Rattle.card_text.proofs.bytes.put_byte.Reads as put-byte-reads
-use Rattle.card_text.proofs.bytes.put_bytes.Reads as put-bytes-reads
-use Rattle.card_text.proofs.number.put_numeral.Reads as put-numeral-reads
+use Rattle.text.proofs.bytes.put_byte.Reads as put-byte-reads
+use Rattle.text.proofs.bytes.put_bytes.Reads as put-bytes-reads
+use Rattle.text.proofs.number.put_numeral.Reads as put-numeral-reads
 
 put-byte-requires : tie.Need-put-byte-requires
 put-byte-requires c κs = search needs

@@ -7,8 +7,8 @@ use Rattle.card_text.proofs.line.put_word.Statement.{statement}
 use Rattle.card_text.proofs.line.put_word.Tie as tie
 use Rattle.card_text.proofs.line.put_word.Reads as reads
 use Rattle.card_text.proofs.line.put_word.Lts as lts
-use Rattle.card_text.proofs.bytes.put_byte.Reads as put-byte-reads
-use Rattle.card_text.proofs.number.put_numeral.Reads as put-numeral-reads
+use Rattle.text.proofs.bytes.put_byte.Reads as put-byte-reads
+use Rattle.text.proofs.number.put_numeral.Reads as put-numeral-reads
 
 put-numeral-requires : tie.Need-put-numeral-requires
 put-numeral-requires c κs =

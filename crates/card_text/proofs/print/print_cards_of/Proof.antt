@@ -4,7 +4,7 @@ use borrow.Author.Needs.{needs}
 use native.Mathlib.Omega.{arith}
 use mathlib.Core.Path.{subst}
 use lib.ListN.{length}
-use Rattle.card_text.specs.Text.{InFront}
+use Rattle.text.specs.Text.{InFront}
 use Rattle.card_text.proofs.Printed.{answer-asked, answer-text}
 use Rattle.card_text.proofs.print.print_cards_of.Statement.{statement}
 use Rattle.card_text.proofs.print.print_cards_of.Tie as tie

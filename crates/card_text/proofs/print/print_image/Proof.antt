@@ -4,7 +4,7 @@ use borrow.Author.Needs.{needs}
 use native.Mathlib.Omega.{arith}
 use mathlib.Core.Path.{subst}
 use lib.ListN.{length}
-use Rattle.card_text.specs.Text.{InFront}
+use Rattle.text.specs.Text.{InFront}
 use Rattle.card_text.proofs.Printed.{printed-long, printed-odd, printed-image}
 use Rattle.card_text.proofs.print.print_image.Statement.{statement}
 use Rattle.card_text.proofs.print.print_image.Tie as tie

@@ -6,14 +6,14 @@ use mathlib.Core.Path.{refl, sym, ap, _∙_, subst}
 use mathlib.Core.List.{List}
 use lib.ListN.{length}
 use Rattle.rules.specs.Checked.{checked}
-use Rattle.card_text.specs.Text.{InFront}
+use Rattle.text.specs.Text.{InFront}
 use Rattle.card_text.specs.Print.{imageText}
 use Rattle.card_text.proofs.Printed.{length-words, words-part}
 use Rattle.card_text.proofs.print.print_words.Statement.{statement}
 use Rattle.card_text.proofs.print.print_words.Tie as tie
 use Rattle.card_text.proofs.print.print_words.Reads as reads
 use Rattle.card_text.proofs.print.print_words.Lts as lts
-use Rattle.card_text.proofs.bytes.write_words.Reads as write-words-reads
+use Rattle.text.proofs.bytes.write_words.Reads as write-words-reads
 use Rattle.card_text.proofs.print.print_cards_of.Reads as print-cards-of-reads
 
 slice-aggregate-write-words : tie.Need-slice-aggregate-write-words

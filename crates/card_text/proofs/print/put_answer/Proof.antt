@@ -4,7 +4,7 @@ use borrow.Author.Needs.{needs}
 use native.Mathlib.Omega.{arith}
 use mathlib.Core.Path.{sym, ap, ap₂, _∙_, subst}
 use Rattle.card.specs.declared.answer.Cards.{Cards}
-use Rattle.card_text.specs.Text.{InFront}
+use Rattle.text.specs.Text.{InFront}
 use Rattle.card_text.specs.Line.{refusalLine}
 use Rattle.card_text.specs.Writers.{answerText}
 use Rattle.card_text.proofs.print.put_answer.Statement.{statement}

@@ -1,13 +1,13 @@
--- `card_text::bytes::put_bytes` meets its contract: from the last byte to the first.
+-- `text::bytes::put_bytes` meets its contract: from the last byte to the first.
 -- Assumes nothing.
 use borrow.Author.Needs.{needs}
 use native.Mathlib.Omega.{arith}
-use Rattle.card_text.proofs.Text.{BytesAt, bytes-start, bytes-room, bytes-next, bytes-end}
-use Rattle.card_text.proofs.bytes.put_bytes.Statement.{statement}
-use Rattle.card_text.proofs.bytes.put_bytes.Tie as tie
-use Rattle.card_text.proofs.bytes.put_bytes.Reads as reads
-use Rattle.card_text.proofs.bytes.put_bytes.Lts as lts
-use Rattle.card_text.proofs.bytes.put_byte.Reads as put-byte-reads
+use Rattle.text.proofs.Text.{BytesAt, bytes-start, bytes-room, bytes-next, bytes-end}
+use Rattle.text.proofs.bytes.put_bytes.Statement.{statement}
+use Rattle.text.proofs.bytes.put_bytes.Tie as tie
+use Rattle.text.proofs.bytes.put_bytes.Reads as reads
+use Rattle.text.proofs.bytes.put_bytes.Lts as lts
+use Rattle.text.proofs.bytes.put_byte.Reads as put-byte-reads
 
 abbrev Inv-loop : tie.InvT-loop
 Inv-loop text₀ at bytes i₀ begin₀ text i begin = BytesAt bytes text₀ at text begin i

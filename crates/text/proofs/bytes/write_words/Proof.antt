@@ -1,13 +1,13 @@
--- `card_text::bytes::write_words` meets its contract: from the last word to the first.
+-- `text::bytes::write_words` meets its contract: from the last word to the first.
 -- Assumes nothing.
 use borrow.Author.Needs.{needs}
 use native.Mathlib.Omega.{arith}
-use Rattle.card_text.proofs.Words.{WordsAt, words-start, words-next, words-end}
-use Rattle.card_text.proofs.bytes.write_words.Statement.{statement}
-use Rattle.card_text.proofs.bytes.write_words.Tie as tie
-use Rattle.card_text.proofs.bytes.write_words.Reads as reads
-use Rattle.card_text.proofs.bytes.write_words.Lts as lts
-use Rattle.card_text.proofs.bytes.word_of.Reads as word-of-reads
+use Rattle.text.proofs.Words.{WordsAt, words-start, words-next, words-end}
+use Rattle.text.proofs.bytes.write_words.Statement.{statement}
+use Rattle.text.proofs.bytes.write_words.Tie as tie
+use Rattle.text.proofs.bytes.write_words.Reads as reads
+use Rattle.text.proofs.bytes.write_words.Lts as lts
+use Rattle.text.proofs.bytes.word_of.Reads as word-of-reads
 
 abbrev Inv-loop : tie.InvT-loop
 Inv-loop bytes words₀ i₀ words i = WordsAt bytes words₀ words i

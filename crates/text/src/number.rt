@@ -2,9 +2,9 @@
 use crate::bytes::put_byte;
 ghost use mathlib.Core.Path.{_≡_};
 ghost use Prim.Native.Nat.{_<_};
-ghost use Rattle.card_text.specs.Number.{digit, numeral};
-ghost use Rattle.card_text.specs.Writers.{NumeralAsked};
-ghost use Rattle.card_text.specs.Text.{InFront};
+ghost use Rattle.text.specs.Number.{digit, numeral};
+ghost use Rattle.text.specs.Text.{NumeralAsked};
+ghost use Rattle.text.specs.Text.{InFront};
 
 // The bases that numbers are written in.
 pub const DECIMAL: u64 = 10;

@@ -11,9 +11,9 @@ use mathlib.Core.List.{List, [], _∷_, _++_, append-assoc}
 use lib.ListN.{length, drop, length-append}
 use lib.Dec.{ltb}
 use borrow.Author.Tests.{lt-ltb, le-ltb}
-use Rattle.card_text.specs.Text.{InFront}
-use Rattle.card_text.specs.Number.{digit, numeralIn, numeral}
-use Rattle.card_text.specs.Writers.{NumeralAsked}
+use Rattle.text.specs.Text.{InFront}
+use Rattle.text.specs.Number.{digit, numeralIn, numeral}
+use Rattle.text.specs.Text.{NumeralAsked}
 
 below-or-not : (n b : ℕ) → (n < b) ⊎ (b ≤ n)
 below-or-not n b = elim (decLt n b) [ yes p ↦ inl p | no p ↦ inr (omega arith) ]

@@ -1,11 +1,11 @@
--- `card_text::number::digit_of` meets its contract, on either side of 10.
+-- `text::number::digit_of` meets its contract, on either side of 10.
 -- Assumes nothing.
 use borrow.Author.Needs.{needs}
 use borrow.Author.Tests.{lt-ltb, le-ltb}
-use Rattle.card_text.proofs.number.digit_of.Statement.{statement}
-use Rattle.card_text.proofs.number.digit_of.Tie as tie
-use Rattle.card_text.proofs.number.digit_of.Reads as reads
-use Rattle.card_text.proofs.number.digit_of.Lts as lts
+use Rattle.text.proofs.number.digit_of.Statement.{statement}
+use Rattle.text.proofs.number.digit_of.Tie as tie
+use Rattle.text.proofs.number.digit_of.Reads as reads
+use Rattle.text.proofs.number.digit_of.Lts as lts
 
 cast-result : tie.Need-cast-result
 cast-result c = search needs

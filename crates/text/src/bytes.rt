@@ -3,8 +3,8 @@ ghost use mathlib.Core.Path.{_≡_};
 ghost use mathlib.Core.List.{[], _∷_, _++_};
 ghost use Prim.Native.Nat.{_+_, _*_, _/_, _≤_, _<_};
 ghost use lib.ListN.{length, drop};
-ghost use Rattle.card_text.specs.Words.{word, wordsOf};
-ghost use Rattle.card_text.specs.Text.{InFront};
+ghost use Rattle.text.specs.Words.{word, wordsOf};
+ghost use Rattle.text.specs.Text.{InFront};
 
 // How many bytes a word has, and what the second, the third and the fourth of them count.
 pub const WORD_BYTES: usize = 4;

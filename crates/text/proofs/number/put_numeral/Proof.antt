@@ -1,16 +1,16 @@
--- `card_text::number::put_numeral` meets its contract: from the last digit to the first, while the rest has more than one.
+-- `text::number::put_numeral` meets its contract: from the last digit to the first, while the rest has more than one.
 -- Assumes nothing.
 use borrow.Author.Needs.{needs}
 use native.Mathlib.Omega.{arith}
 use native.Mathlib.Nat.{mod-lt, div-lt-self}
 use mathlib.Core.Path.{_∙_}
-use Rattle.card_text.proofs.Numeral.{DigitsAt, digits-start, digit-room, digits-next, digits-end}
-use Rattle.card_text.proofs.number.put_numeral.Statement.{statement}
-use Rattle.card_text.proofs.number.put_numeral.Tie as tie
-use Rattle.card_text.proofs.number.put_numeral.Reads as reads
-use Rattle.card_text.proofs.number.put_numeral.Lts as lts
-use Rattle.card_text.proofs.bytes.put_byte.Reads as put-byte-reads
-use Rattle.card_text.proofs.number.digit_of.Reads as digit-of-reads
+use Rattle.text.proofs.Numeral.{DigitsAt, digits-start, digit-room, digits-next, digits-end}
+use Rattle.text.proofs.number.put_numeral.Statement.{statement}
+use Rattle.text.proofs.number.put_numeral.Tie as tie
+use Rattle.text.proofs.number.put_numeral.Reads as reads
+use Rattle.text.proofs.number.put_numeral.Lts as lts
+use Rattle.text.proofs.bytes.put_byte.Reads as put-byte-reads
+use Rattle.text.proofs.number.digit_of.Reads as digit-of-reads
 
 abbrev Inv-loop : tie.InvT-loop
 Inv-loop text₀ at base n rest₀ begin₀ text rest begin = DigitsAt text₀ at base n text rest begin

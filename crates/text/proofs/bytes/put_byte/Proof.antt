@@ -1,11 +1,11 @@
--- `card_text::bytes::put_byte` meets its contract: one store in front.
+-- `text::bytes::put_byte` meets its contract: one store in front.
 -- Assumes nothing.
 use borrow.Author.Needs.{needs}
-use Rattle.card_text.proofs.Text.{front-byte}
-use Rattle.card_text.proofs.bytes.put_byte.Statement.{statement}
-use Rattle.card_text.proofs.bytes.put_byte.Tie as tie
-use Rattle.card_text.proofs.bytes.put_byte.Reads as reads
-use Rattle.card_text.proofs.bytes.put_byte.Lts as lts
+use Rattle.text.proofs.Text.{front-byte}
+use Rattle.text.proofs.bytes.put_byte.Statement.{statement}
+use Rattle.text.proofs.bytes.put_byte.Tie as tie
+use Rattle.text.proofs.bytes.put_byte.Reads as reads
+use Rattle.text.proofs.bytes.put_byte.Lts as lts
 
 sub-i : tie.Need-sub-i
 sub-i c = search needs

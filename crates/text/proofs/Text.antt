@@ -6,7 +6,7 @@ use mathlib.Core.Path.{_≡_, refl, sym, ap, ap₂, _∙_, subst}
 use mathlib.Core.List.{List, [], _∷_, _++_, append-assoc}
 use lib.ListN.{length, drop, set, getD, length-set, length-append, length-drop}
 use lib.Seq.{drop-cons, drop-length, drop-set-lt, getD-set-same}
-use Rattle.card_text.specs.Text.{InFront}
+use Rattle.text.specs.Text.{InFront}
 
 pub front-none : (area : List ℕ) (at : ℕ) → InFront area at area at []
 front-none area at = record { long = refl; room = omega arith; text = refl }

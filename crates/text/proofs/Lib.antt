@@ -1,0 +1,3 @@
+pub mod Numeral
+pub mod Text
+pub mod Words
