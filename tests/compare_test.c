@@ -41,8 +41,8 @@
  *     not the lowest choice
  *   rank, an entry behind the position is held to what is asked of one ahead
  *     (`passes(none, ahead, w)`): none, and a run has the outcome
- *   rank, entries ahead of the position may touch (`floor = floor`): a chain,
- *     and no run has the outcome
+ *   rank, entries ahead of the position may touch (`ok = ok`, as the code was
+ *     then): a chain, and no run has the outcome
  *   question, one word more is written: words past the chain are changed
  *   outcome, a visit always says that it changed the table, and rank, that it
  *     lowered a rank: the time limit is over, and no answer from

@@ -107,7 +107,9 @@ fn push(fresh: &mut [u64], stack: &mut [usize], d: usize, at: Walk) -> Walk
 }
 
 // Sequence `c` is finished: it is the next from the end of the order.
-fn finish(order: &mut [usize], c: usize, at: Walk) -> Walk {
+fn finish(order: &mut [usize], c: usize, at: Walk) -> Walk
+    ensures { λ r. ⌜ now (order .exit) ≡ set (now (order .entry)) (r .left) c ⌝ }
+{
     let place = std::num::wrapping_sub_usize(at.left, 1);
     put(order, place, c);
     Walk {
@@ -146,6 +148,7 @@ fn turn(
 // Writes the order of the sequences below `n` with these callers. At first all of them are fresh.
 fn finishing_order(callers: &[u64], stack: &mut [usize], order: &mut [usize], n: usize)
     requires { ⌜ n ≤ mostSequences ⌝ }
+    ensures { λ _. ⌜ length (now (order .exit)) ≡ length (now (order .entry)) ⌝ }
 {
     let mut fresh = [ALL_FRESH; SET_WORDS];
     let mut at = Walk {
