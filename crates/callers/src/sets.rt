@@ -14,6 +14,9 @@ pub const SET_WORDS: usize = 4;
 
 pub const WORD_BITS: usize = 64;
 
+// A set of such words has every sequence.
+pub const ALL_SEQUENCES: u64 = 0xffffffffffffffff;
+
 // The place of a sequence's bit in its word.
 pub fn bit_of(c: usize) -> u32
     ensures { λ r. ⌜ (r ≡ c % 64) × (r < 64) ⌝ }

@@ -3,6 +3,7 @@
 // holds for every order that names all sequences, and that is tested: the walk promises little, and each index is tested where it is used.
 use crate::named::complete;
 use crate::named::write_numbers;
+use callers::sets::ALL_SEQUENCES;
 use callers::sets::SET_WORDS;
 use callers::sets::WORD_BITS;
 use callers::sets::contains;
@@ -17,9 +18,6 @@ ghost use Rattle.callers.specs.Callers.{setWords};
 
 // Past all sequences: no caller.
 const NO_CALLER: usize = MOST_SEQUENCES as usize;
-
-// A set of such words has every sequence.
-const ALL_FRESH: u64 = 0xffffffffffffffff;
 
 // Where the walk stands: how many sequences are entered and not finished, how many are not finished, and how many it has not begun with.
 struct Walk {
@@ -150,7 +148,7 @@ fn finishing_order(callers: &[u64], stack: &mut [usize], order: &mut [usize], n:
     requires { ⌜ n ≤ mostSequences ⌝ }
     ensures { λ _. ⌜ length (now (order .exit)) ≡ length (now (order .entry)) ⌝ }
 {
-    let mut fresh = [ALL_FRESH; SET_WORDS];
+    let mut fresh = [ALL_SEQUENCES; SET_WORDS];
     let mut at = Walk {
         depth: 0,
         left: n,

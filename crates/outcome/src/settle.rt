@@ -1,12 +1,12 @@
 // The outcome table settled: a visit unites the row of a sequence with what its alternatives give, and sequences are visited until no visit
 // changes a row.
 use crate::read::read_sequence;
+use callers::sets::ALL_SEQUENCES;
 use callers::sets::SET_WORDS;
 use row::words::put_row;
 use row::words::row_at;
 use row::words::same;
 use row::words::united;
-use settling::turns::ALL_STALE;
 use settling::turns::after_visit;
 use settling::turns::first;
 use settling::turns::next;
@@ -74,7 +74,7 @@ pub fn settle(
     requires { ⌜ RowsVisitable n (now steps) (now part) (now places) (now table) × Scheduled n (now part) (now places) (now callers) (now order) ⌝ }
     ensures { λ _. ⌜ Settles (visited all (now (steps .entry)) (now (part .entry)) (now (places .entry))) n (now (table .entry)) (now (table .exit)) ⌝ }
 {
-    let mut stale = [ALL_STALE; SET_WORDS];
+    let mut stale = [ALL_SEQUENCES; SET_WORDS];
     sweep(
         all,
         steps,

@@ -1,8 +1,8 @@
 // Ranks lowered in place, turn by turn, until no visit changes them.
 use crate::read::lowered_rank;
+use callers::sets::ALL_SEQUENCES;
 use callers::sets::SET_WORDS;
 use question::asked::Asked;
-use settling::turns::ALL_STALE;
 use settling::turns::after_visit;
 use settling::turns::first;
 use settling::turns::next;
@@ -74,7 +74,7 @@ pub fn settle(
     requires { ⌜ RanksVisitable q n (now ahead) (now behind) (now ranks) (now part) (now places) × Scheduled n (now part) (now places) (now callers) (now order) ⌝ }
     ensures { λ _. ⌜ Settles (visitedRanks q (now (ahead .entry)) (now (behind .entry)) (now (part .entry)) (now (places .entry))) n (now (ranks .entry)) (now (ranks .exit)) ⌝ }
 {
-    let mut stale = [ALL_STALE; SET_WORDS];
+    let mut stale = [ALL_SEQUENCES; SET_WORDS];
     sweep(
         q,
         ahead,

@@ -10,9 +10,6 @@ ghost use Rattle.general.specs.Numbers.{Complete};
 ghost use Rattle.callers.specs.Callers.{setWords};
 ghost use Rattle.settling.specs.Turns.{placeOf, toVisit, StalePlace, TurnAt, NextTurn, StaleAfter};
 
-// Four such words are the set of all sequences.
-pub const ALL_STALE: u64 = 0xffffffffffffffff;
-
 // A turn: the number that is visited, the place from which the next one is looked for, and whether the order is gone through first to last.
 pub struct Turn {
     pub number: usize,
