@@ -10,7 +10,7 @@ use Rattle.general.specs.Tests.{All}
 use Rattle.rules.specs.Checked.{scan, checked}
 use Rattle.library.specs.Library.{Library, has, libraryOf, Item, step}
 use Rattle.rules.specs.Rules.{opened, lastOf}
-use Rattle.image.specs.Word.{total}
+use Rattle.general.specs.Numbers.{total}
 use Rattle.runs.specs.Run.{Run, Gives, nothing, by-item, by-call, alternativeOf}
 use Rattle.runs.specs.Execution.{Fact, State, Executes, end}
 use Rattle.runs.specs.Possible.{possible}

@@ -17,7 +17,7 @@ use Rattle.image.specs.Answer.{checkedAnswer}
 use Rattle.rules.specs.Checked.{scan, checked}
 use Rattle.library.specs.Library.{Library, has, libraryOf}
 use Rattle.rules.specs.Rules.{opened, lastOf}
-use Rattle.image.specs.Word.{total}
+use Rattle.general.specs.Numbers.{total}
 use Rattle.image.specs.declared.answer.Checked.{Checked}
 use Rattle.library.proofs.Accepted.{counted}
 use Rattle.runs.specs.Possible.{possible}

@@ -1,7 +1,7 @@
 -- Tables that describe a library give its answers: what they say of an entry is what `Ranks` says, and so the links and the answer by the
 -- ranks are the library's.
 -- It has: the ranks of the steps (`steps-marked`, `steps-any`); what a table says of an entry (`pass-is`); the looks at an alternative (`pass-
--- look`, `depth-look`, `touch-look`); the answers (`quiet-answer`, `touch-answer`).
+-- look`, `depth-look`, `touch-look`); the answers (`untouched-answer`, `touch-answer`).
 -- Assumes nothing.
 use Prim.Native.Nat.{ℕ, zero, suc, pred, _+_, _*_, _≤_, _<_}
 use native.Mathlib.Decide.{decLt}
@@ -168,8 +168,8 @@ module _ (L : Library) (q : Asked) (Q : Question) (asks : Asks L q Q) where
   three-is absent e = ap (λ (n : ℕ). eqb n 3) (asks .mark ∙ ap markNumber e)
   three-is untouched e = ap (λ (n : ℕ). eqb n 3) (asks .mark ∙ ap markNumber e)
 
-  quiet-number : (m : Mark) → m ≡ untouched → eqb (markNumber m) 2 ≡ true
-  quiet-number m e = ap (λ (n : Mark). eqb (markNumber n) 2) e
+  untouched-number : (m : Mark) → m ≡ untouched → eqb (markNumber m) 2 ≡ true
+  untouched-number m e = ap (λ (n : Mark). eqb (markNumber n) 2) e
 
   module _ (ahead behind : List ℕ) where
     abbrev lookBy : List ℕ → ℕ → Bool → Bool → Alternative → ℕ
@@ -182,8 +182,8 @@ module _ (L : Library) (q : Asked) (Q : Question) (asks : Asks L q Q) where
 
     pub depth-look : Q .mark ≡ untouched → (test : Item → Bool) (T : List ℕ) → StepsBy (unranked L) 0 test T
         → lookIn q ahead behind T ≡ depthLook (unranked L) test (inRanks (unranked L) T)
-    depth-look quiet test T steps =
-        ap₂ (λ (n : ℕ) (b : Bool). lookBy T n b (eqb (q .mark) 3)) (asks .none) (two-is true (quiet-number (Q .mark) quiet)) ∙ depth-is test T steps
+    depth-look marks-none test T steps =
+        ap₂ (λ (n : ℕ) (b : Bool). lookBy T n b (eqb (q .mark) 3)) (asks .none) (two-is true (untouched-number (Q .mark) marks-none)) ∙ depth-is test T steps
 
     -- the links
     pub touch-look : Q .mark ≢ untouched → Described L Q (q .fact) ahead behind → (T : List ℕ) → StepsBy (unranked L) (unranked L) (hasMark L Q (q .fact)) T
@@ -210,10 +210,10 @@ module _ (L : Library) (q : Asked) (Q : Question) (asks : Asks L q Q) where
       own c lt = ap (λ (n : ℕ). getD ranks c n) (asks .none) ∙ sym (getD-take (unranked L) ranks c (unranked L) (omega arith))
 
       -- a question that asks for no touch
-      pub quiet-answer : Q .mark ≡ untouched → StepsBy (unranked L) 0 (hasMark L Q f) ranks → (c : ℕ) → c < length (L .sequences)
+      pub untouched-answer : Q .mark ≡ untouched → StepsBy (unranked L) 0 (hasMark L Q f) ranks → (c : ℕ) → c < length (L .sequences)
           → answerIn q ahead behind ranks part places c ≡ untouchedAnswer L Q f T c
       unfolding answerIn untouchedIn untouchedAnswer
-      quiet-answer quiet steps c lt =
+      untouched-answer marks-none steps c lt =
           let chosen = chosenAlternative (L .sequences) (untouchedLook L Q f) T (pred (T c)) c in
           let alternative : alternativeFrom (depthIn (q .none) ranks) (pred (getD ranks c (q .none))) 0 (alternativesAt part places c) ≡ chosen =
           ap₂ (λ (r : ℕ) (alts : List Alternative). alternativeFrom (depthIn (q .none) ranks) (pred r) 0 alts) (own c lt) (placed c lt)
@@ -221,7 +221,7 @@ module _ (L : Library) (q : Asked) (Q : Question) (asks : Asks L q Q) where
           (ap (λ (n : ℕ). depthIn n ranks) (asks .none) ∙ depth-is (hasMark L Q f) ranks steps)
           ∙ sym (alternative-from (L .sequences) (untouchedLook L Q f) T (pred (T c)) c) in
           ap (λ (b : Bool). cond (ltb (getD ranks c (q .none)) (q .none)) (shown (cond b (untouchedIn (q .none) ranks part places c ∷ []) (linksIn (q .none) ahead behind ranks part places (getD ranks c (q .none)) c))) none)
-          (two-is true (quiet-number (Q .mark) quiet))
+          (two-is true (untouched-number (Q .mark) marks-none))
           ∙ ap₂ (λ (r i : ℕ). cond (ltb r (q .none)) (shown (untouchedLink c i ∷ [])) none) (own c lt) alternative
           ∙ ap (λ (n : ℕ). cond (ltb (T c) n) (shown (untouchedLink c chosen ∷ [])) none) (asks .none)
           ∙ by-test (ltb (T c) (unranked L)) (shown (untouchedLink c chosen ∷ [])) none

@@ -40,12 +40,12 @@ use Rattle.rank.specs.Tables.{inRanks, passIn, lookIn, Rankable, RanksReadable,
 use Rattle.link.specs.Choice.{Choosable, answerIn}
 use Rattle.chain.specs.Described.{Asks, Masked, Placed, StepsBy, Described, FindAsked, RanksAsked, AreasAsked, Unranked, Findable, EntriesMarked, forUntouched, forRun, isFirst, markNumber, sideBy, markBy, questionBy}
 use Rattle.question.specs.declared.asked.Asked.{Asked}
-use Rattle.chains.proofs.Entries.{quiet-run, any-run}
+use Rattle.chains.proofs.Entries.{stays-run, any-run}
 use Rattle.chains.proofs.Passing.{Passable, pass-reached, pass-exact}
 use Rattle.chains.proofs.Ranks.{start-unranked}
 use Rattle.rank.proofs.Visits.{settled-good, touch-good, settled-touch, settled-untouched}
 use Rattle.rank.proofs.Settling.{rankable-at, settled-kept, settled-visits, settled-all}
-use Rattle.chain.proofs.Describes.{steps-marked, steps-any, pass-is, pass-look, depth-look, touch-look, touch-answer, quiet-answer}
+use Rattle.chain.proofs.Describes.{steps-marked, steps-any, pass-is, pass-look, depth-look, touch-look, touch-answer, untouched-answer}
 
 -- ---- the areas
 
@@ -305,30 +305,30 @@ module _ (image : List ℕ) (h : Head) (accepted : accepts image h) (ms ps part 
     no-rank : q .none ≡ unranked L
     no-rank = omega (arith, asked .none, counted image h accepted .sequences)
 
-    quiet-asks : Asks L (forUntouched q) (questionBy (forUntouched q))
-    quiet-asks = asks-by (forUntouched q) (omega arith) (asked .fact) (asked .none)
+    stays-asks : Asks L (forUntouched q) (questionBy (forUntouched q))
+    stays-asks = asks-by (forUntouched q) (omega arith) (asked .fact) (asked .none)
 
     again : {T : List ℕ} → Unranked h q T → Unranked h (forUntouched q) T
     again u = record { long = u .long; empty = u .empty }
 
-    quiet-steps : (r : Asked) (ahead behind before ranks : List ℕ) → Unranked h q before
+    stays-steps : (r : Asked) (ahead behind before ranks : List ℕ) → Unranked h q before
         → (ranked : Ranked false (forUntouched q) r (h .sequences) ms ahead behind part ps before ranks)
         → StepsBy (q .none) 0 (hasMark L (questionBy (forUntouched q)) (q .fact)) (ranked .start)
-    quiet-steps r ahead behind before ranks yet ranked =
-        steps-marked L (forUntouched q) (questionBy (forUntouched q)) ms quiet-asks masks-are before (ranked .start) (omega (arith, counted image h accepted .steps, yet .long)) (ranked .steps) 0 refl
+    stays-steps r ahead behind before ranks yet ranked =
+        steps-marked L (forUntouched q) (questionBy (forUntouched q)) ms stays-asks masks-are before (ranked .start) (omega (arith, counted image h accepted .steps, yet .long)) (ranked .steps) 0 refl
 
     -- the entries that can stay untouched, and those that have a run
     stays-done : (links₀ stays₀ stays : List ℕ) → Unranked h q stays₀ → Ranked false (forUntouched q) (forRun q) (h .sequences) ms links₀ links₀ part ps stays₀ stays
         → (e : Entry) → passIn (unranked L) stays e ≡ canStay L Q (q .fact) e
     stays-done links₀ stays₀ stays yet ranked =
         entries-pass false (forUntouched q) (forRun q) no-rank no-rank links₀ links₀ stays₀ stays (again yet) ranked refl (hasMark L (questionBy (forUntouched q)) (q .fact))
-        (quiet-steps (forRun q) links₀ links₀ stays₀ stays yet ranked) (λ d. possibleOutcome L (untouchedOn Q) d (q .fact)) (quiet-run L Q (q .fact))
+        (stays-steps (forRun q) links₀ links₀ stays₀ stays yet ranked) (λ d. possibleOutcome L (untouchedOn Q) d (q .fact)) (stays-run L Q (q .fact))
 
     runs-done : (links₀ runs₀ runs : List ℕ) → Unranked h q runs₀ → Ranked true (forUntouched q) (forRun q) (h .sequences) ms links₀ links₀ part ps runs₀ runs
         → (e : Entry) → passIn (unranked L) runs e ≡ canRun L Q (q .fact) e
     runs-done links₀ runs₀ runs yet ranked =
         entries-pass true (forUntouched q) (forRun q) no-rank no-rank links₀ links₀ runs₀ runs (again yet) ranked refl (λ (a : Item). true)
-        (steps-any L (forUntouched q) (questionBy (forUntouched q)) ms quiet-asks masks-are runs₀ (ranked .start) (omega (arith, counted image h accepted .steps, yet .long)) (ranked .steps))
+        (steps-any L (forUntouched q) (questionBy (forUntouched q)) ms stays-asks masks-are runs₀ (ranked .start) (omega (arith, counted image h accepted .steps, yet .long)) (ranked .steps))
         (λ d. hasRun L d) (any-run L)
 
     -- by the tables for the entries ahead of the position and those behind it
@@ -360,17 +360,17 @@ module _ (image : List ℕ) (h : Head) (accepted : accepts image h) (ms ps part 
           steps-marked L q Q ms asks masks-are links₀ (ranked .start) (omega (arith, counted image h accepted .steps, yet .long)) (ranked .steps) past end
 
       -- a question that asks for no touch
-      quiet-done : Q .mark ≡ untouched → answerIn q ahead behind links part ps c ≡ answer L Q c (q .fact)
-      quiet-done quiet =
+      untouched-done : Q .mark ≡ untouched → answerIn q ahead behind links part ps c ≡ answer L Q c (q .fact)
+      untouched-done marks-none =
           let test = hasMark L Q (q .fact) in
           let look = untouchedLook L Q (q .fact) in
-          let steps = steps-by 0 (ap (λ (k : Mark). cond (sameMark untouched k) 0 (q .none)) (sym quiet)) in
+          let steps = steps-by 0 (ap (λ (k : Mark). cond (sameMark untouched k) 0 (q .none)) (sym marks-none)) in
           let looks : (T : List ℕ) → drop (unranked L) T ≡ drop (unranked L) (ranked .start) → lookIn q ahead behind T ≡ look (inRanks (unranked L) T) =
-          λ T same. depth-look L q Q asks ahead behind quiet test T (steps-stay false q q no-rank no-rank ahead behind links₀ links yet ranked 0 test T same steps) in
+          λ T same. depth-look L q Q asks ahead behind marks-none test T (steps-stay false q q no-rank no-rank ahead behind links₀ links yet ranked 0 test T same steps) in
           let kept = made-kept false q q no-rank no-rank ahead behind links₀ links yet ranked look looks in
-          quiet-answer L q Q asks ahead behind part ps places-are links quiet
+          untouched-answer L q Q asks ahead behind part ps places-are links marks-none
           (steps-stay false q q no-rank no-rank ahead behind links₀ links yet ranked 0 test links kept steps) c listed
-          ∙ settled-untouched L Q (q .fact) (unranked L) (take (unranked L) links) (omega arith) quiet
+          ∙ settled-untouched L Q (q .fact) (unranked L) (take (unranked L) links) (omega arith) marks-none
           (made-visits false q q no-rank no-rank ahead behind links₀ links yet ranked look looks)
           (made-settled false q q no-rank no-rank ahead behind links₀ links yet ranked look looks) c
 
@@ -402,7 +402,7 @@ module _ (image : List ℕ) (h : Head) (accepted : accepts image h) (ms ps part 
           → EntriesMarked q (h .sequences) ms links₀ part ps ahead₀ behind₀ ahead behind → answerIn q ahead behind links part ps c ≡ answer L Q c (q .fact)
       found-done ahead₀ behind₀ a-yet b-yet marked =
           elim (ℕ-discrete (q .mark) 2) [
-            | yes two ↦ quiet-done (ap markBy two)
+            | yes two ↦ untouched-done (ap markBy two)
             | no two ↦
                 link-done (touch-asked (q .mark) (asked .mark) two)
                 (described-by links₀ ahead₀ behind₀ ahead behind a-yet b-yet (q .first) refl (marked .ahead-marked two) (marked .behind-marked two))

@@ -140,7 +140,7 @@ module _ (L : Library) (q : Question) (f : ℕ) (touch : q .mark ≢ untouched) 
       subst (λ x. NoHigher (linksFrom L q f T (suc k) x) (touchLink d j r ∷ ms)) about
       (first-lowest k d j r ms w (ap T about ∙ e) lt listed s (omega arith)
       (λ b e′ about′ stands′ outcome′. links-lowest k b e′ (omega arith) ms (s .given) about′ stands′ outcome′ (omega arith)))
-  links-lowest (suc k) c e lt (untouchedLink d j ∷ ms) w about (listed, ends, g, quiet) outcome count = absurd (touch (sym outcome ∙ quiet))
+  links-lowest (suc k) c e lt (untouchedLink d j ∷ ms) w about (listed, ends, g, stays) outcome count = absurd (touch (sym outcome ∙ stays))
 
   -- the answer by the table: a chain where the sequence has a rank, none elsewhere
   touch-cases : (c : ℕ)
@@ -189,17 +189,17 @@ module _ (L : Library) (q : Question) (f : ℕ) (touch : q .mark ≢ untouched) 
 
 -- Questions that ask for no touch, likewise.
 module _ (L : Library) (s : Side) (f : ℕ) where
-  abbrev quiet : Question
-  quiet = record { side = s; mark = untouched }
+  abbrev staying : Question
+  staying = record { side = s; mark = untouched }
 
   abbrev leaves : Item → Bool
-  leaves = hasMark L quiet f
+  leaves = hasMark L staying f
 
   module _ (T : Ranks) (reached : Attained (Passing (L .sequences) leaves) (unranked L) T)
-      (closed : Unlowered (L .sequences) (untouchedLook L quiet f) T) where
+      (closed : Unlowered (L .sequences) (untouchedLook L staying f) T) where
     -- an alternative that comes to the least depth, with a derivation no deeper
-    least-depth : (c k i : ℕ) → T c ≡ suc k → Lowest (L .sequences) (untouchedLook L quiet f) T c k i
-        → Given (L .sequences) (unranked L) leaves (alternativeOf (L .sequences) c i) k → LeastDepth L quiet f c i
+    least-depth : (c k i : ℕ) → T c ≡ suc k → Lowest (L .sequences) (untouchedLook L staying f) T c k i
+        → Given (L .sequences) (unranked L) leaves (alternativeOf (L .sequences) c i) k → LeastDepth L staying f c i
     least-depth c k i e a g =
         record {
           listed = a .listed;
@@ -210,7 +210,7 @@ module _ (L : Library) (s : Side) (f : ℕ) where
         }
       where
         least : (j : ℕ) → j < length (alternativesOf (L .sequences) c) → (w : List Item)
-            (h : Gives (L .sequences) (alternativeOf (L .sequences) c j) w) → HasOutcome L quiet f w
+            (h : Gives (L .sequences) (alternativeOf (L .sequences) c j) w) → HasOutcome L staying f w
             → (deepest (L .sequences) (g .derivation) < deepest (L .sequences) h)
             ⊎ ((deepest (L .sequences) (g .derivation) ≡ deepest (L .sequences) h) × (i ≤ j))
         least j lt w h o =
@@ -222,61 +222,61 @@ module _ (L : Library) (s : Side) (f : ℕ) where
 
     -- the alternative of least depth
     abbrev shallowest : ℕ → ℕ
-    shallowest c = chosenAlternative (L .sequences) (untouchedLook L quiet f) T (pred (T c)) c
+    shallowest c = chosenAlternative (L .sequences) (untouchedLook L staying f) T (pred (T c)) c
 
-    shallowest-least : (c : ℕ) → T c < unranked L → LeastDepth L quiet f c (shallowest c)
+    shallowest-least : (c : ℕ) → T c < unranked L → LeastDepth L staying f c (shallowest c)
     shallowest-least c lt =
         let r = reached c lt in
         let exact = depth-exact (L .sequences) (unranked L) leaves T reached closed c lt .1 in
         let a =
-        alternative-lowest (L .sequences) (untouchedLook L quiet f) T c (pred (T c)) (r .derivation .alternative) (r .derivation .listed) (omega arith) in
+        alternative-lowest (L .sequences) (untouchedLook L staying f) T c (pred (T c)) (r .derivation .alternative) (r .derivation .listed) (omega arith) in
         let low = a .keeps in
         let g = depth-given (L .sequences) (unranked L) leaves T reached (alternativeOf (L .sequences) c (shallowest c)) (omega arith) in
         least-depth c (pred (T c)) (shallowest c) (omega arith) a (given-more (L .sequences) (unranked L) leaves g low)
 
     -- the answer by the table
     untouched-cases : (c : ℕ)
-        → ((T c < unranked L) × (untouchedAnswer L quiet f T c ≡ shown (untouchedLink c (shallowest c) ∷ [])))
-        ⊎ ((unranked L ≤ T c) × (untouchedAnswer L quiet f T c ≡ none))
+        → ((T c < unranked L) × (untouchedAnswer L staying f T c ≡ shown (untouchedLink c (shallowest c) ∷ [])))
+        ⊎ ((unranked L ≤ T c) × (untouchedAnswer L staying f T c ≡ none))
     unfolding untouchedAnswer
     untouched-cases c =
         ⊎-elim (λ (e : ltb (T c) (unranked L) ≡ true). inl (ltb-true (T c) (unranked L) e, rw (e, untouchedAnswer)))
         (λ (e : ltb (T c) (unranked L) ≡ false). inr (ltb-false (T c) (unranked L) e, rw (e, untouchedAnswer)))
         (passes-or-not (ltb (T c) (unranked L)))
 
-    pub untouched-shows : (c : ℕ) (ls : Chain) → untouchedAnswer L quiet f T c ≡ shown ls → Shows L quiet c f ls
+    pub untouched-shows : (c : ℕ) (ls : Chain) → untouchedAnswer L staying f T c ≡ shown ls → Shows L staying c f ls
     untouched-shows c ls e =
-        ⊎-elim (λ (lt, h). subst (Shows L quiet c f) (same h) (all lt)) (λ (le, h). let z : _≡_ {A = ℕ} 0 1 = cc in absurd (omega arith))
+        ⊎-elim (λ (lt, h). subst (Shows L staying c f) (same h) (all lt)) (λ (le, h). let z : _≡_ {A = ℕ} 0 1 = cc in absurd (omega arith))
         (untouched-cases c)
       where
-        same : untouchedAnswer L quiet f T c ≡ shown (untouchedLink c (shallowest c) ∷ []) → untouchedLink c (shallowest c) ∷ [] ≡ ls
+        same : untouchedAnswer L staying f T c ≡ shown (untouchedLink c (shallowest c) ∷ []) → untouchedLink c (shallowest c) ∷ [] ≡ ls
         same h = cc
 
-        all : T c < unranked L → Shows L quiet c f (untouchedLink c (shallowest c) ∷ [])
+        all : T c < unranked L → Shows L staying c f (untouchedLink c (shallowest c) ∷ [])
         all lt =
             let d = shallowest-least c lt in
             record {
               about = refl;
               run = d .run;
               stands = (d .listed, refl, d .derivation, d .leaves);
-              runs = λ w stands. (stands-run L quiet f (untouchedLink c (shallowest c) ∷ []) c w refl stands, stands .3);
+              runs = λ w stands. (stands-run L staying f (untouchedLink c (shallowest c) ∷ []) c w refl stands, stands .3);
               fewest = λ ms w about stands outcome. about-one ms c about;
               lowest = λ t ms w about stands outcome count. absurd (t refl);
               one = λ e. (shallowest c, refl, d);
               few = let below = alternative-below (L .sequences) c (shallowest c) (d .listed) in omega arith;
             }
 
-    pub untouched-none : (c : ℕ) → (untouchedAnswer L quiet f T c ≡ none) ↔ ((w : List Item) → Run L c w → ¬ HasOutcome L quiet f w)
+    pub untouched-none : (c : ℕ) → (untouchedAnswer L staying f T c ≡ none) ↔ ((w : List Item) → Run L c w → ¬ HasOutcome L staying f w)
     untouched-none c = (there, back)
       where
-        there : untouchedAnswer L quiet f T c ≡ none → (w : List Item) → Run L c w → ¬ HasOutcome L quiet f w
+        there : untouchedAnswer L staying f T c ≡ none → (w : List Item) → Run L c w → ¬ HasOutcome L staying f w
         there e w run outcome =
             let lt =
             run-ranked (L .sequences) (unranked L) leaves T reached closed (omega arith) c run
             (passes-untouched s (itemTouch L s f) w .1 outcome) in
             ⊎-elim (λ (l, h). let z : _≡_ {A = ℕ} 0 1 = cc in omega arith) (λ (le, h). omega arith) (untouched-cases c)
 
-        back : ((w : List Item) → Run L c w → ¬ HasOutcome L quiet f w) → untouchedAnswer L quiet f T c ≡ none
+        back : ((w : List Item) → Run L c w → ¬ HasOutcome L staying f w) → untouchedAnswer L staying f T c ≡ none
         back no-run =
             ⊎-elim
             (λ (lt, h). let r = reached c lt in
@@ -288,8 +288,8 @@ module _ (L : Library) (c f : ℕ) (P : Question → Answer → Type 0)
     (touching : (q : Question) → q .mark ≢ untouched → (T : Ranks) → Attained (Linked L q f) (unranked L) T
     → Unlowered (L .sequences) (touchLook L q f) T → ((d : ℕ) → T d ≤ unranked L) → P q (touchAnswer L q f T c))
     (leaving : (s : Side) (T : Ranks) → Attained (Passing (L .sequences) (leaves L s f)) (unranked L) T
-    → Unlowered (L .sequences) (untouchedLook L (quiet L s f) f) T → ((d : ℕ) → T d ≤ unranked L)
-    → P (quiet L s f) (untouchedAnswer L (quiet L s f) f T c)) where
+    → Unlowered (L .sequences) (untouchedLook L (staying L s f) f) T → ((d : ℕ) → T d ≤ unranked L)
+    → P (staying L s f) (untouchedAnswer L (staying L s f) f T c)) where
   by-touch : (q : Question) → q .mark ≢ untouched → P q (touchShown L q c f (ranks (L .sequences) (touchLook L q f) (unranked L)))
   unfolding touchShown
   by-touch q touch =
@@ -303,11 +303,11 @@ module _ (L : Library) (c f : ℕ) (P : Question → Answer → Type 0)
   by-mark s present = by-touch (record { side = s; mark = present }) present≢untouched
   by-mark s absent = by-touch (record { side = s; mark = absent }) absent≢untouched
   by-mark s untouched =
-      leaving s (ranksIn L (ranks (L .sequences) (untouchedLook L (quiet L s f) f) (unranked L)))
-      (ranks-reached (L .sequences) (untouchedLook L (quiet L s f) f) (unranked L) (Passing (L .sequences) (leaves L s f))
+      leaving s (ranksIn L (ranks (L .sequences) (untouchedLook L (staying L s f) f) (unranked L)))
+      (ranks-reached (L .sequences) (untouchedLook L (staying L s f) f) (unranked L) (Passing (L .sequences) (leaves L s f))
       (depth-reached (L .sequences) (unranked L) (leaves L s f)))
-      (ranks-closed (L .sequences) (untouchedLook L (quiet L s f) f) (unranked L))
-      (ranks-capped (L .sequences) (untouchedLook L (quiet L s f) f) (unranked L))
+      (ranks-closed (L .sequences) (untouchedLook L (staying L s f) f) (unranked L))
+      (ranks-capped (L .sequences) (untouchedLook L (staying L s f) f) (unranked L))
 
   by-answer : (q : Question) → P q (answer L q c f)
   unfolding answer
@@ -348,7 +348,7 @@ untouched-table L q f leaving T reached closed capped c =
     (λ r a. r .mark ≡ untouched → (T : Ranks) → Attained (Passing (L .sequences) (hasMark L r f)) (unranked L) T
     → Unlowered (L .sequences) (untouchedLook L r f) T → ((d : ℕ) → T d ≤ unranked L) → untouchedAnswer L r f T c ≡ a)
     (λ r t U reached′ closed′ capped′ t′. absurd (t t′))
-    (λ s U reached′ closed′ capped′ t′ T reached closed capped. ap (λ (W : Ranks). untouchedAnswer L (quiet L s f) f W c) (fun-ext (λ d.
+    (λ s U reached′ closed′ capped′ t′ T reached closed capped. ap (λ (W : Ranks). untouchedAnswer L (staying L s f) f W c) (fun-ext (λ d.
     let P = Passing (L .sequences) (leaves L s f) in
     let low = ranks-least P (unranked L) T U (depth-below (L .sequences) (unranked L) (leaves L s f) T closed) capped reached′ d in
     let up = ranks-least P (unranked L) U T (depth-below (L .sequences) (unranked L) (leaves L s f) U closed′) capped′ reached d in

@@ -7,14 +7,13 @@ use mathlib.Core.List.{List, [], _∷_, _++_, List·Memᴰ, List·Memᴰ·head, 
 use Rattle.library.specs.Library.{Library, Sequence, Entry, item, call, Item}
 use Rattle.general.proofs.Bools.{and-parts, and-both}
 use Rattle.runs.specs.Run.{RunOf, Gives, nothing, by-item, by-call}
-use Rattle.runs.specs.Touch.{Side, last, first, Mark, untouched, itemTouch, decided, Question, untouchedOn, HasOutcome}
+use Rattle.runs.specs.Touch.{Side, last, first, Mark, untouched, itemTouch, decided, overruling, Question, untouchedOn, HasOutcome}
 use Rattle.runs.specs.Algebra.{sameMark, sameMark-eq}
 use Rattle.runs.specs.Possible.{hasRun, possibleOutcome}
 use Rattle.runs.proofs.Outcome.{untouched-iff}
 use Rattle.runs.proofs.Columns.{question-iff, hasRun-iff}
 use Rattle.general.specs.Scan.{every}
 use Rattle.chains.specs.Ranks.{entryPasses, canStay, canRun, aheadOf, behindOf}
-use Rattle.chains.specs.Stands.{quietPart}
 use Rattle.chains.proofs.Depth.{append-passes, passes-append}
 
 -- every element passes exactly when each does
@@ -83,9 +82,9 @@ any-run L d = (
 
 module _ (L : Library) (q : Question) (f : ℕ) where
   -- and can stay untouched exactly where it has one whose items all leave the fact untouched
-  pub quiet-run : (d : ℕ) → (possibleOutcome L (untouchedOn q) d f ≡ true)
+  pub stays-run : (d : ℕ) → (possibleOutcome L (untouchedOn q) d f ≡ true)
       ↔ ((w : List Item) × RunOf (L .sequences) d w × (every (λ a. sameMark (itemTouch L (q .side) f a) untouched) w ≡ true))
-  quiet-run d = (
+  stays-run d = (
     (λ h. let r = question-iff L (untouchedOn q) d f .0 h in (r .0, r .1, passes-untouched (q .side) (itemTouch L (q .side) f) (r .0) .1 (r .2))),
     λ r. question-iff L (untouchedOn q) d f .1 (r .0, r .1, passes-untouched (q .side) (itemTouch L (q .side) f) (r .0) .0 (r .2)),
   )
@@ -101,7 +100,7 @@ module _ (L : Library) (q : Question) (f : ℕ) where
       t a = itemTouch L (q .side) f a
 
       each : (every (canStay L q f) es ≡ true) ↔ ((w : List Item) × Gives (L .sequences) es w × (every (λ a. sameMark (t a) untouched) w ≡ true))
-      each = passes-iff (L .sequences) (λ a. sameMark (t a) untouched) (λ d. possibleOutcome L (untouchedOn q) d f) quiet-run es
+      each = passes-iff (L .sequences) (λ a. sameMark (t a) untouched) (λ d. possibleOutcome L (untouchedOn q) d f) stays-run es
 
   -- "has a run"
   pub canRun-iff : (es : List Entry) → (every (canRun L q f) es ≡ true) ↔ ((w : List Item) × Gives (L .sequences) es w)
@@ -115,7 +114,7 @@ module _ (L : Library) (q : Question) (f : ℕ) where
 
   -- what is asked of the entries before a position and of those after it, on either side
   pub beside-given : (s : Side) (xs ys : List Entry) → every (aheadOf L q f s) xs ≡ true → every (behindOf L q f s) ys ≡ true
-      → (u : List Item) × (v : List Item) × Gives (L .sequences) xs u × Gives (L .sequences) ys v × HasOutcome L (untouchedOn q) f (quietPart s u v)
+      → (u : List Item) × (v : List Item) × Gives (L .sequences) xs u × Gives (L .sequences) ys v × HasOutcome L (untouchedOn q) f (overruling s u v)
   beside-given last xs ys a b =
       let x = canRun-iff xs .0 a in
       let y = canStay-iff ys .0 b in
@@ -126,6 +125,6 @@ module _ (L : Library) (q : Question) (f : ℕ) where
       (x .0, y .0, x .1, y .1, x .2)
 
   pub given-beside : (s : Side) (xs ys : List Entry) {u v : List Item} → Gives (L .sequences) xs u → Gives (L .sequences) ys v
-      → HasOutcome L (untouchedOn q) f (quietPart s u v) → (every (aheadOf L q f s) xs ≡ true) × (every (behindOf L q f s) ys ≡ true)
-  given-beside last xs ys {u} {v} g h quiet = (canRun-iff xs .1 (u, g), canStay-iff ys .1 (v, h, quiet))
-  given-beside first xs ys {u} {v} g h quiet = (canStay-iff xs .1 (u, g, quiet), canRun-iff ys .1 (v, h))
+      → HasOutcome L (untouchedOn q) f (overruling s u v) → (every (aheadOf L q f s) xs ≡ true) × (every (behindOf L q f s) ys ≡ true)
+  given-beside last xs ys {u} {v} g h stays = (canRun-iff xs .1 (u, g), canStay-iff ys .1 (v, h, stays))
+  given-beside first xs ys {u} {v} g h stays = (canStay-iff xs .1 (u, g, stays), canRun-iff ys .1 (v, h))

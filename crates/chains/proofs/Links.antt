@@ -72,7 +72,7 @@ module _ (L : Library) (q : Question) (f none : ℕ) where
   pub choices-rank : (T : Ranks) (n : ℕ) (ls : Chain) → ((d : ℕ) (u : List Item) → About d ls → StandsFor L q f ls u → HasOutcome L q f u → T d ≤ n)
       → (es : Alternative) (p : ℕ) (w : List Item) → Choices L q f es p (Touching L q f ls) w → after T es p ≤ n
   choices-rank T n ls low es p w k =
-      let b = given-beside L q f (q .side) (take p es) (drop (suc p) es) (k .earlier) (k .later) (k .quiet) in
+      let b = given-beside L q f (q .side) (take p es) (drop (suc p) es) (k .earlier) (k .later) (k .stays) in
       let e =
       cond-true (every (aheadOf L q f (q .side)) (take p es) && every (behindOf L q f (q .side)) (drop (suc p) es))
       (entryRank none (hasMark L q f) T (entryAt es p)) none (and-both _ _ (b .0) (b .1)) in
@@ -89,7 +89,7 @@ module _ (L : Library) (q : Question) (f none : ℕ) where
       let s = closed d i lt in
       let le : T d ≤ suc (length ls) = omega arith in
       rw about at le
-  links-least touch T closed (untouchedLink d i ∷ ls) c w about (lt, ends, g, quiet) outcome = absurd (touch (sym outcome ∙ quiet))
+  links-least touch T closed (untouchedLink d i ∷ ls) c w about (lt, ends, g, stays) outcome = absurd (touch (sym outcome ∙ stays))
 
   pub links-below : q .mark ≢ untouched → (T : Ranks) → Unlowered (L .sequences) look T → (c n : ℕ) → Linked L q f c n → T c ≤ n
   links-below touch T closed c n r =
@@ -168,7 +168,7 @@ module _ (L : Library) (q : Question) (f none : ℕ) where
               earlier = r .2;
               touching = touching;
               later = r .3;
-              quiet = r .4;
+              stays = r .4;
             },
           ),
         )
@@ -224,7 +224,7 @@ module _ (L : Library) (q : Question) (f none : ℕ) where
               found : (d i : ℕ) → i < length (alternativesOf (L .sequences) d) → look T (entriesOf L d i) ≤ k
                   → (i : ℕ) × (i < length (alternativesOf (L .sequences) d)) × (look T (entriesOf L d i) ≤ k)
               found d i listed low = (i, listed, low)
-          go (untouchedLink d i ∷ ls) w about (listed, ends, g, quiet) outcome le = absurd (touch (sym outcome ∙ quiet))
+          go (untouchedLink d i ∷ ls) w about (listed, ends, g, stays) outcome le = absurd (touch (sym outcome ∙ stays))
 
       pub chosen : (c k : ℕ) → T c ≡ suc k → suc k < none → Chosen T c k (chosenAt T c k) (positionAt T c k)
       chosen c k e lt =
@@ -275,4 +275,4 @@ module _ (L : Library) (q : Question) (f none : ℕ) where
           let l = look-le T (entriesOf L d i) p (k .listed) in
           let s = closed d i lt in
           rw about at (links-bound d (omega arith))
-      chain-ranked room (untouchedLink d i ∷ ls) c w about (lt, ends, g, quiet) outcome = absurd (touch (sym outcome ∙ quiet))
+      chain-ranked room (untouchedLink d i ∷ ls) c w about (lt, ends, g, stays) outcome = absurd (touch (sym outcome ∙ stays))

@@ -14,7 +14,8 @@ use Rattle.library.specs.Library.{Sequence}
 use Rattle.runs.specs.Run.{alternativesOf, alternativeOf}
 use Rattle.runs.proofs.Possible.{alternative-below}
 use Rattle.general.proofs.Bools.{passes-or-not}
-use Rattle.general.specs.Scan.{listBelow, total}
+use Rattle.general.specs.Scan.{listBelow}
+use Rattle.general.specs.Numbers.{total}
 use Rattle.chains.specs.Ranks.{Ranks, Look, lowered, Unlowered, round, rounds, ranks, Attained}
 use Rattle.chains.specs.Answer.{chosenAlternative}
 use Rattle.general.proofs.Scan.{first-found, least-start, least-le, least-cases, length-listBelow, getD-listBelow, total-constant, total-same}

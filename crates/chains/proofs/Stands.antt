@@ -9,20 +9,20 @@ use lib.ListN.{length}
 use lib.Seq.{split-at}
 use Rattle.library.specs.Library.{Library, Alternative, Entry, item, call, Item, step}
 use Rattle.runs.specs.Run.{Run, Gives, nothing, by-item, by-call, alternativesOf, alternativeOf}
-use Rattle.runs.specs.Touch.{Side, last, first, Mark, untouched, itemTouch, decided, Question, untouchedOn, HasOutcome}
+use Rattle.runs.specs.Touch.{Side, last, first, Mark, untouched, itemTouch, decided, overruling, Question, untouchedOn, HasOutcome}
 use Rattle.runs.specs.Algebra.{orElse-untouched}
 use Rattle.runs.proofs.Run.{gives-append, call-iff}
 use Rattle.runs.proofs.Outcome.{decided-append, orElse-touch, orElse-cases}
 use Rattle.chains.specs.Link.{touchLink, untouchedLink, Chain}
-use Rattle.chains.specs.Stands.{About, quietPart, EntryTouches, entryAt, Choices, StandsFor}
+use Rattle.chains.specs.Stands.{About, EntryTouches, entryAt, Choices, StandsFor}
 
 -- the touch between two parts, of which the one that could overrule it leaves the fact untouched, decides
 middle-decides : (s : Side) (t : Item → Mark) (m : Mark) (u g v : List Item) → m ≢ untouched → decided s t g ≡ m
-    → decided s t (quietPart s u v) ≡ untouched → decided s t (u ++ (g ++ v)) ≡ m
-middle-decides last t m u g v touch here quiet =
-    rw (decided-append last t u (g ++ v), decided-append last t g v, quiet, here) (orElse-touch m (decided last t u) touch)
-middle-decides first t m u g v touch here quiet =
-    rw (decided-append first t u (g ++ v), decided-append first t g v, quiet, here) (orElse-touch m (decided first t v) touch)
+    → decided s t (overruling s u v) ≡ untouched → decided s t (u ++ (g ++ v)) ≡ m
+middle-decides last t m u g v touch here stays =
+    rw (decided-append last t u (g ++ v), decided-append last t g v, stays, here) (orElse-touch m (decided last t u) touch)
+middle-decides first t m u g v touch here stays =
+    rw (decided-append first t u (g ++ v), decided-append first t g v, stays, here) (orElse-touch m (decided first t v) touch)
 
 -- a step alone
 decided-one : (s : Side) (t : Item → Mark) (a : Item) → decided s t (a ∷ []) ≡ t a
@@ -32,7 +32,7 @@ decided-one first t a = orElse-untouched (t a)
 
 -- of two lists joined, the one that has the touch, where the other does not overrule it
 touch-cases : (s : Side) (t : Item → Mark) (m : Mark) (u v : List Item) → decided s t (u ++ v) ≡ m
-    → ((decided s t u ≡ m) × (decided s t (quietPart s [] v) ≡ untouched)) ⊎ ((decided s t v ≡ m) × (decided s t (quietPart s u []) ≡ untouched))
+    → ((decided s t u ≡ m) × (decided s t (overruling s [] v) ≡ untouched)) ⊎ ((decided s t v ≡ m) × (decided s t (overruling s u []) ≡ untouched))
 unfolding decided
 touch-cases last t m u v e =
     ⊎-elim (λ (q, h). inl (h, q)) (λ h. inr (h, refl)) (orElse-cases (decided last t v) (decided last t u) m (sym (decided-append last t u v) ∙ e))
@@ -40,10 +40,10 @@ touch-cases first t m u v e =
     ⊎-elim (λ (q, h). inr (h, q)) (λ h. inl (h, refl)) (orElse-cases (decided first t u) (decided first t v) m (sym (decided-append first t u v) ∙ e))
 
 -- one more list before
-quiet-more : (s : Side) (t : Item → Mark) (u b v : List Item) → decided s t (quietPart s u []) ≡ untouched
-    → decided s t (quietPart s b v) ≡ untouched → decided s t (quietPart s (u ++ b) v) ≡ untouched
-quiet-more last t u b v p q = q
-quiet-more first t u b v p q = rw (decided-append first t u b, p) q
+stays-more : (s : Side) (t : Item → Mark) (u b v : List Item) → decided s t (overruling s u []) ≡ untouched
+    → decided s t (overruling s b v) ≡ untouched → decided s t (overruling s (u ++ b) v) ≡ untouched
+stays-more last t u b v p q = q
+stays-more first t u b v p q = rw (decided-append first t u b, p) q
 
 module _ (L : Library) (q : Question) (f : ℕ) where
   -- what the touching entry gives is a list that it gives, with the touch
@@ -66,7 +66,7 @@ module _ (L : Library) (q : Question) (f : ℕ) where
     where
       run : (d i : ℕ) → i < length (alternativesOf (L .sequences) d) → Gives (L .sequences) (alternativeOf (L .sequences) d i) w → Run L d w
       run d i lt g = record { alternative = i; listed = lt; given = g }
-  stands-run (untouchedLink d i ∷ ls) c w about (lt, ends, g, quiet) = rw about at (run d i lt g)
+  stands-run (untouchedLink d i ∷ ls) c w about (lt, ends, g, stays) = rw about at (run d i lt g)
     where
       run : (d i : ℕ) → i < length (alternativesOf (L .sequences) d) → Gives (L .sequences) (alternativeOf (L .sequences) d i) w → Run L d w
       run d i lt g = record { alternative = i; listed = lt; given = g }
@@ -76,12 +76,12 @@ module _ (L : Library) (q : Question) (f : ℕ) where
   stands-outcome c i p ls w (lt, k) =
       let e = entry-given ls (λ u. StandsFor L q f ls u) (stands-run ls) (entryAt (alternativeOf (L .sequences) c i) p) (k .given) (k .touching) in
       rw (k .split)
-      (middle-decides (q .side) (itemTouch L (q .side) f) (q .mark) (k .before) (k .given) (k .after) (k .touch) (e .1) (k .quiet))
+      (middle-decides (q .side) (itemTouch L (q .side) f) (q .mark) (k .before) (k .given) (k .after) (k .touch) (e .1) (k .stays))
 
   -- the choices for a position, with one more entry before
   choices-after : (e : Entry) (es : Alternative) (p : ℕ) (touches : Entry → List Item → Type 0) (u w : List Item) → Gives (L .sequences) (e ∷ []) u
-      → HasOutcome L (untouchedOn q) f (quietPart (q .side) u []) → Choices L q f es p touches w → Choices L q f (e ∷ es) (suc p) touches (u ++ w)
-  choices-after e es p touches u w g quiet k =
+      → HasOutcome L (untouchedOn q) f (overruling (q .side) u []) → Choices L q f es p touches w → Choices L q f (e ∷ es) (suc p) touches (u ++ w)
+  choices-after e es p touches u w g stays k =
       let lt = k .listed in
       record {
         touch = k .touch;
@@ -93,7 +93,7 @@ module _ (L : Library) (q : Question) (f : ℕ) where
         earlier = gives-append (L .sequences) g (k .earlier);
         touching = k .touching;
         later = k .later;
-        quiet = quiet-more (q .side) (itemTouch L (q .side) f) u (k .before) (k .after) quiet (k .quiet);
+        stays = stays-more (q .side) (itemTouch L (q .side) f) u (k .before) (k .after) stays (k .stays);
       }
 
   -- links such that a list which entries give is given with the choices of one of their positions
@@ -112,7 +112,7 @@ module _ (L : Library) (q : Question) (f : ℕ) where
         empty first = refl
     found (by-item {a = a} {es = es} {w = w} g) h =
         ⊎-elim
-        (λ (here, quiet). record {
+        (λ (here, stays). record {
           position = 0;
           links = [];
           choices = record {
@@ -125,20 +125,20 @@ module _ (L : Library) (q : Question) (f : ℕ) where
             earlier = nothing;
             touching = (refl, refl, sym (decided-one (q .side) (itemTouch L (q .side) f) a) ∙ here);
             later = g;
-            quiet = quiet;
+            stays = stays;
           };
         })
-        (λ (there, quiet). let r = found g there in record {
+        (λ (there, stays). let r = found g there in record {
           position = suc (r .position);
           links = r .links;
           choices =
               choices-after (item a) es (r .position) (EntryTouches L q f (r .links) (λ u. StandsFor L q f (r .links) u)) (a ∷ []) w
-              (by-item nothing) quiet (r .choices);
+              (by-item nothing) stays (r .choices);
         })
         (touch-cases (q .side) (itemTouch L (q .side) f) (q .mark) (a ∷ []) w h)
     found (by-call {c = c} {es = es} {u = u} {v = v} i lt g g′ e) h =
         ⊎-elim
-        (λ (here, quiet). let r = found g here in record {
+        (λ (here, stays). let r = found g here in record {
           position = 0;
           links = touchLink c i (r .position) ∷ r .links;
           choices = record {
@@ -151,16 +151,16 @@ module _ (L : Library) (q : Question) (f : ℕ) where
             earlier = nothing;
             touching = (refl, (lt, r .choices), here);
             later = g′;
-            quiet = quiet;
+            stays = stays;
           };
         })
-        (λ (there, quiet). let r = found g′ there in record {
+        (λ (there, stays). let r = found g′ there in record {
           position = suc (r .position);
           links = r .links;
           choices =
               rw e
               (choices-after (call c) es (r .position) (EntryTouches L q f (r .links) (λ u. StandsFor L q f (r .links) u)) u v
-              (call-iff (L .sequences) c u .1 (record { alternative = i; listed = lt; given = g })) quiet (r .choices));
+              (call-iff (L .sequences) c u .1 (record { alternative = i; listed = lt; given = g })) stays (r .choices));
         })
         (touch-cases (q .side) (itemTouch L (q .side) f) (q .mark) u v (rw e at h))
 

@@ -11,7 +11,8 @@ use Rattle.runs.specs.Run.{RunOf, alternativesOf, alternativeOf}
 use Rattle.runs.specs.Touch.{Side, last, first, untouched, itemTouch, Question, untouchedOn, HasOutcome}
 use Rattle.runs.specs.Algebra.{sameMark}
 use Rattle.runs.specs.Possible.{hasRun, possibleOutcome}
-use Rattle.general.specs.Scan.{every, leastBelow, greatest, listBelow, total}
+use Rattle.general.specs.Scan.{every, leastBelow, greatest, listBelow}
+use Rattle.general.specs.Numbers.{total}
 use Rattle.chains.specs.Link.{Chain}
 use Rattle.chains.specs.Stands.{About, entryAt, StandsFor}
 use Rattle.chains.specs.Depth.{depthOf}

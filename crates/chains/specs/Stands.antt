@@ -6,19 +6,13 @@ use mathlib.Core.List.{List, [], _∷_, _++_}
 use lib.ListN.{length, getD, take, drop}
 use Rattle.library.specs.Library.{Library, Alternative, Item, step, Entry, item, call}
 use Rattle.runs.specs.Run.{Gives, alternativesOf, alternativeOf}
-use Rattle.runs.specs.Touch.{Side, last, first, untouched, itemTouch, Question, HasOutcome, untouchedOn}
+use Rattle.runs.specs.Touch.{untouched, itemTouch, overruling, Question, HasOutcome, untouchedOn}
 use Rattle.chains.specs.Link.{touchLink, untouchedLink, Chain, sequenceOf}
 
 -- "A chain stands for runs of its first link's sequence"; "The first link of an answer is about the sequence asked about."
 abbrev pub About : ℕ → Chain → Type 0
 About c [] = ⊥
 About c (l ∷ ls) = sequenceOf l ≡ c
-
--- "on the last side, what every later entry gives leaves the fact untouched, on the first side what every earlier one gives": of
--- what stands before the entry and after it, the part that leaves the fact untouched
-abbrev pub quietPart : Side → List Item → List Item → List Item
-quietPart last before after = after
-quietPart first before after = before
 
 -- "the entry at the position gives the touch asked for, by itself or by a run that the links after it stand for": u is what the
 -- entry gives, ls are the links after, and `after` says which runs they stand for. "the entry at the position is a step with that
@@ -47,7 +41,7 @@ pub record Choices (L : Library) (q : Question) (f : ℕ) (es : Alternative) (p 
   pub touching : touches (entryAt es p) given
   pub later : Gives (L .sequences) (drop (suc p) es) after
   -- "on the last side, what every later entry gives leaves the fact untouched, on the first side what every earlier one gives"
-  pub quiet : HasOutcome L (untouchedOn q) f (quietPart (q .side) before after)
+  pub stays : HasOutcome L (untouchedOn q) f (overruling (q .side) before after)
 
 -- "A kind 12 link stands for the runs that its alternative gives and that leave the fact untouched on the question's side. A kind 11
 -- link stands for the runs that its alternative gives with these choices". A kind 12 link ends its chain.

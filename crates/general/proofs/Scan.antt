@@ -13,7 +13,8 @@ use lib.ListN.{length, getD, set}
 use lib.Dec.{leb}
 use borrow.Author.Tests.{leb-true, le-leb, lt-leb, leb-false}
 use Rattle.general.proofs.Bools.{passes-or-not}
-use Rattle.general.specs.Scan.{every, leastBelow, greatest, firstIndex, listBelow, total}
+use Rattle.general.specs.Scan.{every, leastBelow, greatest, firstIndex, listBelow}
+use Rattle.general.specs.Numbers.{total}
 
 pub every-append : {A : Type 0} (p : A → Bool) (xs ys : List A) → every p (xs ++ ys) ≡ (every p xs && every p ys)
 unfolding every

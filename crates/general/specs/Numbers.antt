@@ -1,8 +1,13 @@
--- Lists of numbers: one that names every number below a bound, one of zeros.
-use Prim.Native.Nat.{ℕ, _<_}
+-- Lists of numbers: their sum, one that names every number below a bound, one of zeros.
+use Prim.Native.Nat.{ℕ, _+_, _<_}
 use mathlib.Core.Path.{_≡_}
-use mathlib.Core.List.{List}
+use mathlib.Core.List.{List, [], _∷_}
 use lib.ListN.{length, getD}
+
+-- the sum of the numbers
+unfoldable pub total : List ℕ → ℕ
+total [] = 0
+total (x ∷ xs) = x + total xs
 
 -- the list names number c
 pub record Named (order : List ℕ) (c : ℕ) : Type 0 where

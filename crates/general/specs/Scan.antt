@@ -1,5 +1,5 @@
 -- Scans: a test of every element, the least of some numbers, the first index that passes a test, a list by its indices.
-use Prim.Native.Nat.{ℕ, zero, suc, _+_, min, max}
+use Prim.Native.Nat.{ℕ, zero, suc, min, max}
 use mathlib.Core.Bool.{Bool, true, cond, _&&_}
 use mathlib.Core.List.{List, [], _∷_}
 
@@ -27,8 +27,3 @@ firstIndex p (suc n) = let later : ℕ = suc (firstIndex (λ i. p (suc i)) n) in
 unfoldable pub listBelow : (ℕ → ℕ) → ℕ → List ℕ
 listBelow v zero = []
 listBelow v (suc n) = v 0 ∷ listBelow (λ i. v (suc i)) n
-
--- the sum of the numbers
-unfoldable pub total : List ℕ → ℕ
-total [] = 0
-total (x ∷ xs) = x + total xs

@@ -7,7 +7,7 @@ use mathlib.Core.Path.{_≡_, ap}
 use mathlib.Core.List.{List}
 use lib.ListN.{length, getD, drop}
 use lib.Seq.{drop-cons, drop-length}
-use Rattle.image.specs.Word.{total}
+use Rattle.general.specs.Numbers.{total}
 
 total-drop : (ws : List ℕ) (i : ℕ) → i < length ws → total (drop i ws) ≡ getD ws i 0 + total (drop (i + 1) ws)
 unfolding total

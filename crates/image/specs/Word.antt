@@ -1,8 +1,9 @@
 -- Words, their kinds and payloads, and the two words at the ends of an image: the head and the sum word (document 01, "The image").
 use Prim.Native.Nat.{ℕ, _+_, _/_, _%_, _^_}
 use mathlib.Core.Bool.{Bool, _&&_, _||_}
-use mathlib.Core.List.{List, [], _∷_}
+use mathlib.Core.List.{List}
 use lib.Dec.{leb, eqb}
+use Rattle.general.specs.Numbers.{total}
 use Rattle.image.specs.declared.answer.Head.{Head}
 
 -- "fewer than 2 or more than 8,192 words" are refused
@@ -36,11 +37,6 @@ isFact w = isKind 2 w || isKind 3 w || isKind 4 w
 -- "Kind 8 is an entry naming a step, kind 9 an entry naming a sequence."
 abbrev pub isEntry : ℕ → Bool
 isEntry w = isKind 8 w || isKind 9 w
-
--- the words added up, without wrap
-unfoldable pub total : List ℕ → ℕ
-total [] = 0
-total (w ∷ ws) = w + total ws
 
 -- "Let s be the sum of all earlier words with wrap at 2^32"
 abbrev pub wrappedSum : List ℕ → ℕ

@@ -13,7 +13,7 @@ use Rattle.library.specs.Walk.{alternativesAt}
 use Rattle.settling.specs.Settling as settling
 use Rattle.runs.specs.Run.{alternativesOf}
 use Rattle.settling.proofs.Visits.{Lowers}
-use Rattle.general.specs.Scan.{total}
+use Rattle.general.specs.Numbers.{total}
 use Rattle.chains.specs.Ranks.{Look}
 use Rattle.rank.specs.Walk.{loweredFrom}
 use Rattle.rank.specs.Visits.{visited, Visits, RanksSettled}

@@ -7,7 +7,7 @@ use native.Mathlib.Omega.{arith}
 use native.Mathlib.Decide.{ℕ-discrete}
 use lib.ListN.{length, getD, replicate, length-replicate, length-set}
 use lib.Seq.{getD-set-same, getD-set-other}
-use Rattle.general.specs.Scan.{total}
+use Rattle.general.specs.Numbers.{total}
 use Rattle.general.proofs.Scan.{total-set}
 use Rattle.library.specs.Library.{Library, Sequence}
 use Rattle.settling.specs.Settling.{here, next}

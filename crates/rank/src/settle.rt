@@ -8,7 +8,7 @@ use settling::turns::first;
 use settling::turns::next;
 ghost use Prim.Native.Nat.{_<_};
 ghost use Rattle.settling.specs.Settling.{Scheduled, Visit, Swept, Settles};
-ghost use Rattle.general.specs.Scan.{total};
+ghost use Rattle.general.specs.Numbers.{total};
 ghost use Rattle.rank.specs.Tables.{RanksVisitable, visitedRanks};
 
 // Lowers the rank of sequence `c` by its alternatives. Answers whether it fell.

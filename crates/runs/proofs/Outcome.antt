@@ -4,7 +4,7 @@ use mathlib.Core.Logic.{_⊎_, inl, inr, ⊎-elim, _≢_, _↔_}
 use mathlib.Core.Bool.{false≢true}
 use mathlib.Core.List.{List, [], _∷_, _++_, List·Memᴰ, List·Memᴰ·head, List·Memᴰ·tail, List·Memᴰ·not-nil, List·Memᴰ·cases-cons}
 use Rattle.library.specs.Library.{Item}
-use Rattle.runs.specs.Touch.{Mark, present, absent, untouched, orElse, Side, last, first, decided}
+use Rattle.runs.specs.Touch.{Mark, present, absent, untouched, orElse, Side, last, first, decided, overruling}
 use Rattle.runs.specs.Algebra.{Algebra, outcome, sideAlgebra, joinMarks, joinMarks-left, sameMark}
 
 -- the outcome of joined lists is the join of their outcomes
@@ -88,34 +88,29 @@ untouched-decided s t (x ∷ w) h =
 pub untouched-iff : (s : Side) (t : Item → Mark) (w : List Item) → (decided s t w ≡ untouched) ↔ Untouched t w
 untouched-iff s t w = (decided-untouched s t w, untouched-decided s t w)
 
--- the items that come later than the one that decides on the last side, or earlier on the first
-abbrev pub beside : Side → List Item → List Item → List Item
-beside last u v = v
-beside first u v = u
-
--- the item that decides: it has the touch, and those beside it have none
+-- the item that decides: it has the touch, and those that could overrule it have none
 pub record Decider (s : Side) (t : Item → Mark) (m : Mark) (w : List Item) : Type 0 where
   pub before : List Item
   pub item : Item
   pub after : List Item
   pub split : w ≡ before ++ item ∷ after
   pub touches : t item ≡ m
-  pub quiet : Untouched t (beside s before after)
+  pub stays : Untouched t (overruling s before after)
 
 decider-decides : (s : Side) (t : Item → Mark) (m : Mark) (u : List Item) (x : Item) (v : List Item) → m ≢ untouched → t x ≡ m
-    → Untouched t (beside s u v) → decided s t (u ++ x ∷ v) ≡ m
-decider-decides last t m u x v touch e quiet =
-    rw (decided-append last t u (x ∷ v), decided-cons last t x v, untouched-decided last t v quiet, e) (orElse-touch m (decided last t u) touch)
-decider-decides first t m u x v touch e quiet =
-    rw (decided-append first t u (x ∷ v), decided-cons first t x v, untouched-decided first t u quiet, e) (orElse-touch m (decided first t v) touch)
+    → Untouched t (overruling s u v) → decided s t (u ++ x ∷ v) ≡ m
+decider-decides last t m u x v touch e stays =
+    rw (decided-append last t u (x ∷ v), decided-cons last t x v, untouched-decided last t v stays, e) (orElse-touch m (decided last t u) touch)
+decider-decides first t m u x v touch e stays =
+    rw (decided-append first t u (x ∷ v), decided-cons first t x v, untouched-decided first t u stays, e) (orElse-touch m (decided first t v) touch)
 
 decided-decider : (s : Side) (t : Item → Mark) (m : Mark) (w : List Item) → m ≢ untouched → decided s t w ≡ m → Decider s t m w
 decided-decider s t m [] touch e = absurd (touch (sym e ∙ decided-nil s t))
 decided-decider last t m (x ∷ w) touch e =
     ⊎-elim
-    (λ p. record { before = []; item = x; after = w; split = refl; touches = p .1; quiet = decided-untouched last t w (p .0) })
+    (λ p. record { before = []; item = x; after = w; split = refl; touches = p .1; stays = decided-untouched last t w (p .0) })
     (λ q. let d = decided-decider last t m w touch q in
-    record { before = x ∷ d .before; item = d .item; after = d .after; split = ap (λ l. x ∷ l) (d .split); touches = d .touches; quiet = d .quiet })
+    record { before = x ∷ d .before; item = d .item; after = d .after; split = ap (λ l. x ∷ l) (d .split); touches = d .touches; stays = d .stays })
     (orElse-cases (decided last t w) (t x) m (sym (decided-cons last t x w) ∙ e))
 decided-decider first t m (x ∷ w) touch e =
     ⊎-elim
@@ -126,9 +121,9 @@ decided-decider first t m (x ∷ w) touch e =
       after = d .after;
       split = ap (λ l. x ∷ l) (d .split);
       touches = d .touches;
-      quiet = Untouched-cons t x (d .before) (p .0) (d .quiet);
+      stays = Untouched-cons t x (d .before) (p .0) (d .stays);
     })
-    (λ q. record { before = []; item = x; after = w; split = refl; touches = q; quiet = Untouched-nil t })
+    (λ q. record { before = []; item = x; after = w; split = refl; touches = q; stays = Untouched-nil t })
     (orElse-cases (t x) (decided first t w) m (sym (decided-cons first t x w) ∙ e))
 
 -- "the last touch decides", "the first touch decides": a run has a touch for its outcome exactly when one of its items has it and
@@ -136,5 +131,5 @@ decided-decider first t m (x ∷ w) touch e =
 pub decider-iff : (s : Side) (t : Item → Mark) (m : Mark) (w : List Item) → m ≢ untouched → (decided s t w ≡ m) ↔ Decider s t m w
 decider-iff s t m w touch = (
   decided-decider s t m w touch,
-  λ d. rw (d .split) (decider-decides s t m (d .before) (d .item) (d .after) touch (d .touches) (d .quiet)),
+  λ d. rw (d .split) (decider-decides s t m (d .before) (d .item) (d .after) touch (d .touches) (d .stays)),
 )

@@ -39,6 +39,12 @@ decided last t (x ∷ w) = orElse (decided last t w) (t x)
 decided first t [] = untouched
 decided first t (x ∷ w) = orElse (t x) (decided first t w)
 
+-- "the last touch decides"; "the first touch decides": of what stands before a touch and after it, the part in which another touch
+-- would overrule it
+abbrev pub overruling : Side → List Item → List Item → List Item
+overruling last before after = after
+overruling first before after = before
+
 -- the outcome of run w for fact f on a side
 abbrev pub outcomeOf : Library → Side → ℕ → List Item → Mark
 outcomeOf L side f w = decided side (itemTouch L side f) w

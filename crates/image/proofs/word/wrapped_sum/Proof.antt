@@ -6,7 +6,7 @@ use native.Mathlib.Omega.{arith}
 use Prim.Native.Nat.{_+_, _-_, _%_, _^_, _≤_, _<_}
 use mathlib.Core.Path.{_≡_}
 use lib.ListN.{length, drop}
-use Rattle.image.specs.Word.{total}
+use Rattle.general.specs.Numbers.{total}
 use Rattle.image.proofs.Sum.{sum-turn, sum-end}
 use Rattle.image.proofs.word.wrapped_sum.Statement.{statement}
 use Rattle.image.proofs.word.wrapped_sum.Tie as tie

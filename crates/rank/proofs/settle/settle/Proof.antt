@@ -3,7 +3,7 @@
 use borrow.Author.Needs.{needs}
 use native.Mathlib.Omega.{arith}
 use Rattle.settling.proofs.Settling.{swept-start, swept-on, swept-twice, settles-after, Settling, load, settling-less, settling-turn, settling-end}
-use Rattle.general.specs.Scan.{total}
+use Rattle.general.specs.Numbers.{total}
 use Rattle.rank.specs.Tables.{visitedRanks}
 use Rattle.rank.proofs.Settling.{visits-lower, visitable-at}
 use Rattle.rank.proofs.Calls.{visits-local}
