@@ -54,7 +54,7 @@ static void read_library(const uint32_t *image, size_t length)
 static struct row step_row(uint32_t a)
 {
     uint64_t n = lib.needs[a], s = lib.sets[a], c = lib.clears[a];
-    struct row r = {lib.all, 0, {s, c & ~s, lib.all & ~(s | c)},
+    struct row r = {lib.all, 0, {s, c, lib.all & ~(s | c)},
                     {n, s & ~n, lib.all & ~(n | s)}};
     return r;
 }

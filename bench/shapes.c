@@ -51,12 +51,13 @@ static void column(uint32_t k, uint64_t facts)
             put(k, f);
 }
 
+/* A step, which clears no fact that it sets. */
 static void step(uint32_t a, uint64_t needs, uint64_t sets, uint64_t clears)
 {
     put(KIND_STEP, a);
     column(KIND_NEEDS, needs);
     column(KIND_SETS, sets);
-    column(KIND_CLEARS, clears);
+    column(KIND_CLEARS, clears & ~sets);
 }
 
 /* Some of the facts from `from` up to and without `to`. */
@@ -254,6 +255,25 @@ static void empty_alternatives(struct shape *shape)
     end();
 }
 
+/*
+ * Steps of 64 fact words each, in turn 64 sets, 64 clears, and 32 sets with the
+ * other 32 facts cleared. One sequence, of one of each, is there to be asked.
+ */
+static void full_steps(struct shape *shape)
+{
+    const uint64_t all = ~UINT64_C(0), half = all >> 32;
+    const uint64_t sets[3] = {all, 0, half}, clears[3] = {0, all, ~half};
+    uint32_t a, steps = 63;
+    begin(shape, "steps of 64 facts", 64, steps, 1);
+    for (a = 0; a < steps; a++)
+        step(a, 0, sets[a % 3], clears[a % 3]);
+    put(KIND_SEQUENCE, 0);
+    put(KIND_ALTERNATIVE, 0);
+    for (a = 0; a < 3; a++)
+        put(KIND_STEP_ENTRY, a);
+    end();
+}
+
 void write_shapes(struct shape shapes[SHAPES])
 {
     everyday(&shapes[0], "everyday", 200);
@@ -267,6 +287,7 @@ void write_shapes(struct shape shapes[SHAPES])
     one_alternative(&shapes[8]);
     empty_alternatives(&shapes[9]);
     calling(&shapes[10], "all endless", ENDLESS);
+    full_steps(&shapes[11]);
 }
 
 void write_growth(struct shape shapes[GROWTH])

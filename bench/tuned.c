@@ -32,26 +32,58 @@ static int64_t both_halves(four v)
     return half[0] & half[1];
 }
 
+/*
+ * Where the steps end, or 0 where one breaks a rule. The fact words of a step
+ * are three runs, each ascending to its kind's end. A word past that end fails
+ * in the next run, since it is not above its start, or as an opener.
+ */
+static size_t steps_end(const uint32_t *image, uint32_t facts, uint32_t steps)
+{
+    const uint32_t needs_end = 0x20000000u + facts;
+    const uint32_t sets_end = 0x30000000u + facts;
+    const uint32_t clears_end = 0x40000000u + facts;
+    size_t i = 1;
+    uint32_t a, w, before;
+    for (a = 0; a < steps; a++) {
+        uint64_t sets = 0, clears = 0;
+        if (image[i] != (0x50000000u | a))
+            return 0;
+        w = image[++i];
+        for (before = 0x1fffffffu; w < needs_end; w = image[++i]) {
+            if (w <= before)
+                return 0;
+            before = w;
+        }
+        for (before = 0x2fffffffu; w < sets_end; w = image[++i]) {
+            if (w <= before)
+                return 0;
+            before = w;
+            sets |= UINT64_C(1) << (w & 63);
+        }
+        for (before = 0x3fffffffu; w < clears_end; w = image[++i]) {
+            if (w <= before)
+                return 0;
+            before = w;
+            clears |= UINT64_C(1) << (w & 63);
+        }
+        if (sets & clears)
+            return 0;
+    }
+    return i;
+}
+
 /* Whether the words between head and sum word keep the rules. */
 static int well_formed(const uint32_t *image, size_t length, uint32_t facts,
                        uint32_t steps, uint32_t sequences)
 {
-    size_t i = 1;
-    uint32_t a, c, w, before, inside;
+    size_t i = steps_end(image, facts, steps);
+    uint32_t c, w, inside;
     /* kinds 8 and 9 are the least numbers, read with a sign */
     const four seven = all_four(0x70000000u), nine = all_four(0x90000000u);
     const four eight_end = all_four(0x80000000u + steps);
     const four nine_end = all_four(0x90000000u + sequences);
-    for (a = 0; a < steps; a++) {
-        if (image[i] != (0x50000000u | a))
-            return 0;
-        before = 0;
-        for (i++; (w = image[i]) - 0x20000000u < 0x30000000u; i++) {
-            if ((payload_of(w) >= facts) | (w <= before))
-                return 0;
-            before = w;
-        }
-    }
+    if (i == 0)
+        return 0;
     for (c = 0, inside = 0; i + 1 < length; i++) {
         /* four words at a time, where all are alternatives and entries */
         while (inside && i + 4 < length) {
@@ -167,7 +199,7 @@ static size_t read_steps(const uint32_t *image, uint64_t all, uint32_t steps)
         for (i++; (w = image[i]) - 0x20000000u < 0x30000000u; i++)
             mask[kind_of(w) - 2] |= UINT64_C(1) << (w & 63);
         u = all & ~(mask[1] | mask[2]);
-        r->last = (pair){mask[1], mask[2] & ~mask[1]};
+        r->last = (pair){mask[1], mask[2]};
         r->last_untouched = (pair){u, u};
         u = all & ~(mask[0] | mask[1]);
         r->first = (pair){mask[0], mask[1] & ~mask[0]};

@@ -32,13 +32,14 @@ extern "C" {
  * The format is how the words of an image and of a card are laid out. Its
  * number rises with every change of either, so that a program that was written
  * for one layout can tell. The version is 1,000 times the format, plus the
- * number of changes since that leave the format as it is, such as a new call.
+ * number of changes since that leave the format as it is, such as a new call or
+ * a new refusal.
  *
  * The numbers from here to the refusals are plain numbers and no enumerators,
  * since they are multiplied and added with one another.
  */
 #define DULIMOVEN_FORMAT 1
-#define DULIMOVEN_VERSION (DULIMOVEN_FORMAT * 1000 + 0)
+#define DULIMOVEN_VERSION (DULIMOVEN_FORMAT * 1000 + 1)
 
 /* How many words of 64 bits a card has, and how many of 32 bits a link. */
 #define DULIMOVEN_CARD_WORDS 7
@@ -66,9 +67,9 @@ extern "C" {
 #define DULIMOVEN_STACK_CHAIN 65536
 
 /*
- * The refusals. Of those that apply a call answers the first in this order; of
- * 4, 5 and 6 the one at the earliest word, and in one word the lowest. From 8
- * on the position is 0.
+ * The refusals. Of those that apply a call answers the first in this order: 1,
+ * 2 and 3; of 4, 5, 6 and 13 the one at the earliest word, and in one word the
+ * lowest; then 7, and 8 to 12. From 8 to 12 the position is 0.
  */
 enum dulimoven_refusal {
     /* fewer than 2 or more than 8,192 words; position 0 */
@@ -96,7 +97,10 @@ enum dulimoven_refusal {
     /* the fact asked about is not in the library */
     DULIMOVEN_FACT = 11,
     /* there is a chain, and it has more words than the chain area */
-    DULIMOVEN_CHAIN_AREA = 12
+    DULIMOVEN_CHAIN_AREA = 12,
+    /* a clear word naming a fact that an earlier word of the same step sets;
+     * the clear word's position */
+    DULIMOVEN_SET_AND_CLEARED = 13
 };
 
 /*
@@ -111,13 +115,14 @@ enum dulimoven_refusal {
  * Answers the head's payload, which is below 2^28, where the image is accepted:
  * the number of facts, steps and sequences (dulimoven_facts, dulimoven_steps,
  * dulimoven_sequences). Otherwise one of
- *   1  DULIMOVEN_LENGTH      image_len is below 2 or above 8,192
- *   2  DULIMOVEN_SUM_WORD    the last word is not the image's sum word
- *   3  DULIMOVEN_HEAD_WORD   the first word is no head
- *   4  DULIMOVEN_KIND        a word of a kind that may not stand there
- *   5  DULIMOVEN_PAYLOAD     a payload that breaks the rule of its kind
- *   6  DULIMOVEN_FACT_ORDER  fact words of a step that do not ascend
- *   7  DULIMOVEN_MISSING     fewer steps or sequences than the head counts
+ *   1   DULIMOVEN_LENGTH           image_len is below 2 or above 8,192
+ *   2   DULIMOVEN_SUM_WORD         the last word is not the image's sum word
+ *   3   DULIMOVEN_HEAD_WORD        the first word is no head
+ *   4   DULIMOVEN_KIND             a word of a kind that may not stand there
+ *   5   DULIMOVEN_PAYLOAD          a payload that breaks the rule of its kind
+ *   6   DULIMOVEN_FACT_ORDER       fact words of a step that do not ascend
+ *   13  DULIMOVEN_SET_AND_CLEARED  a step that clears a fact that it sets
+ *   7   DULIMOVEN_MISSING          fewer steps or sequences than the head says
  * with its position (dulimoven_refusal_of, dulimoven_position_of).
  */
 uint64_t dulimoven_check(const uint32_t *image, size_t image_len);
@@ -168,8 +173,8 @@ enum dulimoven_flag {
  *
  * Answers C, the number of sequences, at most 256. The card of sequence c
  * stands in the 7 words from area[7 * c] on then, and the words after the last
- * card are as they were. Otherwise the call answers one of refusals 1 to 7, as
- * dulimoven_check does for the image, or
+ * card are as they were. Otherwise the call answers one of refusals 1 to 7 and
+ * 13, as dulimoven_check does for the image, or
  *   8  DULIMOVEN_CARD_AREA   area_len is below 7 * C; position 0
  * and every word of the area is as it was.
  */
@@ -180,8 +185,7 @@ uint64_t dulimoven_cards(const uint32_t *image, size_t image_len,
  * The questions of dulimoven_chain. 0 to 2 are of the last side: a step touches
  * a fact if it sets or clears it, and the last touch decides. 3 to 5 are of the
  * first side: a step touches a fact if it needs or sets it, and the first touch
- * decides. A step that sets and clears a fact sets it; one that needs and sets
- * a fact needs it.
+ * decides; a step that needs and sets a fact needs it.
  *
  * A fact is in "may set", "may clear" or "may need" exactly where question 0, 1
  * or 3 has a chain. Of a sequence that has a run, a fact is missing from an
@@ -252,18 +256,19 @@ enum dulimoven_link_word {
  * Otherwise the call answers the first refusal that applies, and every word of
  * the area is as it was. The image is looked at first, as dulimoven_check does,
  * with the position that the check gives:
- *   1   DULIMOVEN_LENGTH      image_len is below 2 or above 8,192
- *   2   DULIMOVEN_SUM_WORD    the last word is not the image's sum word
- *   3   DULIMOVEN_HEAD_WORD   the first word is no head
- *   4   DULIMOVEN_KIND        a word of a kind that may not stand there
- *   5   DULIMOVEN_PAYLOAD     a payload that breaks the rule of its kind
- *   6   DULIMOVEN_FACT_ORDER  fact words of a step that do not ascend
- *   7   DULIMOVEN_MISSING     fewer steps or sequences than the head counts
+ *   1   DULIMOVEN_LENGTH           image_len is below 2 or above 8,192
+ *   2   DULIMOVEN_SUM_WORD         the last word is not the image's sum word
+ *   3   DULIMOVEN_HEAD_WORD        the first word is no head
+ *   4   DULIMOVEN_KIND             a word of a kind that may not stand there
+ *   5   DULIMOVEN_PAYLOAD          a payload that breaks the rule of its kind
+ *   6   DULIMOVEN_FACT_ORDER       fact words of a step that do not ascend
+ *   13  DULIMOVEN_SET_AND_CLEARED  a step that clears a fact that it sets
+ *   7   DULIMOVEN_MISSING          fewer steps or sequences than the head says
  * then the question, with position 0:
- *   9   DULIMOVEN_SEQUENCE    sequence is not below C
- *   10  DULIMOVEN_QUESTION    question is above 5
- *   11  DULIMOVEN_FACT        fact is not below F
- *   12  DULIMOVEN_CHAIN_AREA  there is a chain, and area_len is below its words
+ *   9   DULIMOVEN_SEQUENCE         sequence is not below C
+ *   10  DULIMOVEN_QUESTION         question is above 5
+ *   11  DULIMOVEN_FACT             fact is not below F
+ *   12  DULIMOVEN_CHAIN_AREA       there is a chain of more than area_len words
  */
 uint64_t dulimoven_chain(const uint32_t *image, size_t image_len,
                          uint64_t sequence, uint64_t question, uint64_t fact,
@@ -275,7 +280,7 @@ static inline int dulimoven_is_refusal(uint64_t answer)
     return answer >> 32 != 0;
 }
 
-/* An answer's refusal, 1 to 12, or 0 where the call refused nothing. */
+/* An answer's refusal, 1 to 13, or 0 where the call refused nothing. */
 static inline uint32_t dulimoven_refusal_of(uint64_t answer)
 {
     return (uint32_t)(answer >> 32);

@@ -5,6 +5,7 @@
  * differs, then a count; the exit status is 0 where nothing differs.
  */
 #include "harness.h"
+#include "pulses.h"
 #include "samples.h"
 
 /*
@@ -111,7 +112,10 @@ static void no_cards(void)
          dulimoven_cards(area + GUARD, words, NULL, 0) == 0);
 }
 
-/* Refusals 1 to 7 come before 8: each with an area that is too short too. */
+/*
+ * Refusals 1 to 7 and 13 come before 8: each with an area that is too short
+ * too.
+ */
 static void refusals(void)
 {
     static const size_t lengths[] = {0, CARD - 1, LONG_AREA};
@@ -134,9 +138,28 @@ static void refusals(void)
         cards("6: a fact word twice", length, REFUSED(6, 3));
         BUILD(HEAD(1, 0, 2), SEQUENCE(0));
         cards("7: one sequence of two", length, REFUSED(7, 2));
+        BUILD(HEAD(1, 1, 1), STEP(0), SETS(0), CLEARS(0), SEQUENCE(0));
+        cards("13: a fact set and cleared", length, REFUSED(13, 3));
     }
     hold("1: no word, null pointers",
          dulimoven_cards(NULL, 0, NULL, 0) == REFUSED(1, 0));
+}
+
+/*
+ * The images of pulses.h. Those that are accepted have no sequence: the answer
+ * is 0, and no word is written.
+ */
+static void set_and_cleared(void)
+{
+    static const size_t lengths[] = {0, CARD, LONG_AREA};
+    size_t i, j;
+    for (i = 0; i < COUNT(pulses); i++)
+        for (j = 0; j < COUNT(lengths); j++) {
+            const struct pulse *p = &pulses[i];
+            build(p->words, p->count);
+            lend();
+            cards(p->why, lengths[j], REFUSED(p->number, p->position));
+        }
 }
 
 /* Step 0 sets fact 0, step 1 clears it, step 2 needs it. */
@@ -194,15 +217,22 @@ static void columns(void)
     EXPECT(1, 0, 0, 0, 0, 0, 0, 0);
     cards("no alternative, and its caller", 2 * CARD, 2);
 
-    /* fact 63 is bit 63; set and cleared by one step means set */
+    /* fact 63 is bit 63 */
     BUILD(HEAD(64, 1, 1),
-          STEP(0), NEEDS(63), SETS(62), SETS(63), CLEARS(0), CLEARS(63),
+          STEP(0), NEEDS(63), SETS(62), SETS(63), CLEARS(0),
           SEQUENCE(0), ALTERNATIVE, DO(0));
     lend();
     EXPECT(0, 0x301, UINT64_C(0x8000000000000000),
            UINT64_C(0x8000000000000000), UINT64_C(0xc000000000000000), 1,
            UINT64_C(0xc000000000000000), 1);
     cards("facts 62 and 63", CARD, 1);
+
+    /* the same step, and it clears a fact that it sets */
+    BUILD(HEAD(64, 1, 1),
+          STEP(0), NEEDS(63), SETS(62), SETS(63), CLEARS(0), CLEARS(63),
+          SEQUENCE(0), ALTERNATIVE, DO(0));
+    lend();
+    cards("fact 63 set and cleared", CARD, REFUSED(13, 6));
 }
 
 /* All 64 facts set by 64 steps: the count is 64, in bits 8 to 14. */
@@ -266,6 +296,7 @@ int main(void)
     areas_of_l();
     no_cards();
     refusals();
+    set_and_cleared();
     columns();
     all_facts();
     deep("each calls the next", 1);

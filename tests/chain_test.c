@@ -9,6 +9,7 @@
  * a step that does neither, and <..> is an alternative with its entries.
  */
 #include "harness.h"
+#include "pulses.h"
 #include "samples.h"
 
 /*
@@ -149,12 +150,17 @@ static void samples(void)
     none("<clear, need>, question 5", 0, 5, 0);
     SHOWN("<clear, need>, question 1", 0, 1, 0, CHOICE(0, 0), AT(0));
 
-    /* set and cleared by one step means set */
+    /* a step that sets and clears is refused at its clear word; without that
+       word it sets */
     BUILD(HEAD(1, 1, 1), STEP(0), SETS(0), CLEARS(0),
           SEQUENCE(0), ALTERNATIVE, DO(0));
-    SHOWN("<set and clear>, question 0", 0, 0, 0, CHOICE(0, 0), AT(0));
-    none("<set and clear>, question 1", 0, 1, 0);
-    none("<set and clear>, question 2", 0, 2, 0);
+    unwritten("<set and clear>, question 0", 0, 0, 0, REFUSED(13, 3));
+    unwritten("<set and clear>, question 1", 0, 1, 0, REFUSED(13, 3));
+    unwritten("<set and clear>, question 2", 0, 2, 0, REFUSED(13, 3));
+    BUILD(HEAD(1, 1, 1), STEP(0), SETS(0), SEQUENCE(0), ALTERNATIVE, DO(0));
+    SHOWN("<set>, question 0", 0, 0, 0, CHOICE(0, 0), AT(0));
+    none("<set>, question 1", 0, 1, 0);
+    none("<set>, question 2", 0, 2, 0);
 
     /* 64 facts are read, 65 are not */
     BUILD(HEAD(64, 1, 1), STEP(0), SETS(63), SEQUENCE(0), ALTERNATIVE, DO(0));
@@ -276,8 +282,8 @@ static void order(void)
 }
 
 /*
- * Refusals 1 to 7 come first: with numbers that name nothing, and with those of
- * a chain.
+ * Refusals 1 to 7 and 13 come first: with numbers that name nothing, and with
+ * those of a chain.
  */
 static void refusals(void)
 {
@@ -303,12 +309,32 @@ static void refusals(void)
         unwritten("6: a fact word twice", n, n, n, REFUSED(6, 3));
         BUILD(HEAD(1, 0, 2), SEQUENCE(0));
         unwritten("7: one sequence of two", n, n, n, REFUSED(7, 2));
+        BUILD(HEAD(1, 1, 1), STEP(0), SETS(0), CLEARS(0), SEQUENCE(0));
+        unwritten("13: a fact set and cleared", n, n, n, REFUSED(13, 3));
         hold("1: no word, null pointers",
              dulimoven_chain(NULL, 0, n, n, n, NULL, 0) == REFUSED(1, 0));
     }
     start();
     fill(WORD(KIND_SUM, 0), FULL + 1);
     unwritten("1: 8,193 words", 0, 0, 0, REFUSED(1, 0));
+}
+
+/*
+ * The images of pulses.h. Those that are accepted have no sequence to ask
+ * about, and get 9.
+ */
+static void set_and_cleared(void)
+{
+    size_t i;
+    for (i = 0; i < COUNT(pulses); i++) {
+        const struct pulse *p = &pulses[i];
+        uint64_t expected = p->number == 0 ? REFUSED(9, 0)
+                                           : REFUSED(p->number, p->position);
+        uint64_t question;
+        build(p->words, p->count);
+        for (question = 0; question < 6; question++)
+            unwritten(p->why, 0, question, 0, expected);
+    }
 }
 
 /*
@@ -691,6 +717,7 @@ int main(void)
     every_question_of_l();
     order();
     refusals();
+    set_and_cleared();
     sides();
     fewest();
     choices();

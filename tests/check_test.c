@@ -4,10 +4,12 @@
  * C++17. Prints a line for each answer that differs, then a count; the exit
  * status is 0 where nothing differs.
  *
- * The name of a row says which rule of document 01 its answer follows from. A
- * refusal is said with its number and position; words count from 0, the head.
+ * The name of a row says which rule of documents 01 and 02 its answer follows
+ * from. A refusal is said with its number and position; words count from 0, the
+ * head.
  */
 #include "harness.h"
+#include "pulses.h"
 #include "samples.h"
 
 static void print_answer(uint64_t answer)
@@ -106,14 +108,18 @@ static void accepted_steps(void)
             STEP(2));
     ACCEPTS("a fact needed and set: kind 2 is below kind 3", HEAD(1, 1, 0),
             STEP(0), NEEDS(0), SETS(0));
-    ACCEPTS("a fact set and cleared: kind 3 is below kind 4", HEAD(1, 1, 0),
-            STEP(0), SETS(0), CLEARS(0));
+    ACCEPTS("a fact needed and cleared: kind 2 is below kind 4", HEAD(1, 1, 0),
+            STEP(0), NEEDS(0), CLEARS(0));
+    ACCEPTS("one set, another cleared: kind 3 is below kind 4", HEAD(2, 1, 0),
+            STEP(0), SETS(1), CLEARS(0));
     ACCEPTS("as 32-bit numbers 0x20000001 is below 0x30000000", HEAD(2, 1, 0),
             STEP(0), NEEDS(1), SETS(0));
     ACCEPTS("facts 0, 1, 2 ascend", HEAD(3, 1, 0), STEP(0), NEEDS(0), NEEDS(1),
             NEEDS(2));
-    ACCEPTS("the highest fact, under all three kinds", HEAD(MOST_F, 1, 0),
-            STEP(0), NEEDS(MOST_F - 1), SETS(MOST_F - 1), CLEARS(MOST_F - 1));
+    ACCEPTS("the highest fact, needed and set", HEAD(MOST_F, 1, 0), STEP(0),
+            NEEDS(MOST_F - 1), SETS(MOST_F - 1));
+    ACCEPTS("the highest fact, needed and cleared", HEAD(MOST_F, 1, 0),
+            STEP(0), NEEDS(MOST_F - 1), CLEARS(MOST_F - 1));
     ACCEPTS("a step that begins below the last fact word of the one before",
             HEAD(1, 2, 0), STEP(0), CLEARS(0), STEP(1), NEEDS(0));
     ACCEPTS("a step that begins below it, with two facts", HEAD(2, 2, 0),
@@ -301,27 +307,51 @@ static void most_of_all(void)
     accepts("the greatest counts in 8,192 words");
 }
 
-/* A step that needs, sets and clears all facts, without the sum word. */
-static void put_all_facts(void)
+/* Fact words of a kind, for the facts from `from` up to and without `to`. */
+static void put_facts(uint32_t kind, uint32_t from, uint32_t to)
 {
-    uint32_t kind, fact;
-    start();
-    PUT(HEAD(MOST_F, 1, 0), STEP(0));
-    for (kind = KIND_NEEDS; kind <= KIND_CLEARS; kind++)
-        for (fact = 0; fact < MOST_F; fact++)
-            put(WORD(kind, fact));
+    for (; from < to; from++)
+        put(WORD(kind, from));
 }
 
-/* The fact words stand from 2 on. */
+/*
+ * A step that needs all facts, sets those below `set` and clears those from
+ * `cleared` up, without the sum word. Its fact words stand from 2 on.
+ */
+static void put_step(uint32_t set, uint32_t cleared)
+{
+    start();
+    PUT(HEAD(MOST_F, 1, 0), STEP(0));
+    put_facts(KIND_NEEDS, 0, MOST_F);
+    put_facts(KIND_SETS, 0, set);
+    put_facts(KIND_CLEARS, cleared, MOST_F);
+}
+
 static void all_facts(void)
 {
-    put_all_facts();
+    enum { HALF = MOST_F / 2 };
+    put_step(HALF, HALF);
     put_sum();
-    accepts("all fact words, each greater than the one before");
-    put_all_facts();
+    accepts("all facts needed, half of them set and the others cleared");
+    put_step(HALF, HALF);
     put(CLEARS(MOST_F - 1));
     put_sum();
-    refuses(6, 2 + 3 * MOST_F, "all fact words, and the last one twice");
+    refuses(6, 2 + 2 * MOST_F, "the same, and the last fact word twice");
+    put_step(MOST_F, MOST_F);
+    put_sum();
+    accepts("all facts needed and set");
+    put_step(0, 0);
+    put_sum();
+    accepts("all facts needed and cleared");
+    put_step(MOST_F, 0);
+    put_sum();
+    refuses(13, 2 + 2 * MOST_F, "all fact words: the first clear word");
+    put_step(HALF, HALF - 1);
+    put_sum();
+    refuses(13, 2 + MOST_F + HALF, "half set, and the last of them cleared");
+    put_step(MOST_F, MOST_F - 1);
+    put_sum();
+    refuses(13, 2 + 2 * MOST_F, "all facts set, and the last one cleared");
 }
 
 /* The sum word's payload is so much greater than the right one. */
@@ -549,7 +579,10 @@ static void kind_of_entry(void)
             HEAD(1, 0, 1), SEQUENCE(0), DO(0));
 }
 
-/* "In 4 to 6 the earliest word decides". */
+/*
+ * "In 4 to 6 the earliest word decides"; 13 "joins 4 to 6", and pulses.h has
+ * its rows.
+ */
 static void earliest(void)
 {
     REFUSES(4, 2, "kind 0, then a wrong payload", HEAD(1, 0, 1), SEQUENCE(0),
@@ -702,6 +735,72 @@ static void fact_order(void)
 }
 
 /*
+ * 13: "a clear word naming a fact that an earlier word of the same step sets".
+ */
+static void set_and_cleared(void)
+{
+    size_t i;
+    for (i = 0; i < COUNT(pulses); i++) {
+        const struct pulse *p = &pulses[i];
+        build(p->words, p->count);
+        if (p->number == 0)
+            accepts(p->why);
+        else
+            refuses(p->number, p->position, p->why);
+    }
+}
+
+/* A step that sets one fact and clears one: 13 where it is the same fact. */
+static void set_and_cleared_pairs(void)
+{
+    uint32_t set, cleared;
+    for (set = 0; set < MOST_F; set++)
+        for (cleared = 0; cleared < MOST_F; cleared++) {
+            BUILD(HEAD(MOST_F, 1, 0), STEP(0), SETS(set), CLEARS(cleared));
+            if (set == cleared)
+                refuses(13, 3, "the fact that is set is cleared");
+            else
+                accepts("one fact is set, another one cleared");
+        }
+}
+
+/*
+ * Steps alone, in 8,192 words: 63 that need and set all facts, and one that
+ * needs 60 of them, sets a fact and clears a fact.
+ */
+enum { LAST_STEP = 63, LAST_NEEDS = 60 };
+
+static void build_steps(uint32_t set, uint32_t cleared)
+{
+    uint32_t a;
+    start();
+    put(HEAD(MOST_F, LAST_STEP + 1, 0));
+    for (a = 0; a < LAST_STEP; a++) {
+        put(STEP(a));
+        put_facts(KIND_NEEDS, 0, MOST_F);
+        put_facts(KIND_SETS, 0, MOST_F);
+    }
+    put(STEP(LAST_STEP));
+    put_facts(KIND_NEEDS, 0, LAST_NEEDS);
+    PUT(SETS(set), CLEARS(cleared));
+    put_sum();
+}
+
+static void longest_steps(void)
+{
+    build_steps(62, 63);
+    hold("8,192 words of steps are built", words == FULL);
+    accepts("the last step clears what the steps before it set");
+    build_steps(63, 63);
+    refuses(13, FULL - 2, "a fact set and cleared right before the sum word");
+    miss_sum(1);
+    refuses(2, FULL - 1, "the same with a wrong sum: 2 comes before 13");
+    *word_at(0) = HEAD(MOST_F + 1, LAST_STEP + 1, 0);
+    sum_again();
+    refuses(3, 0, "the same with F above the greatest: 3 comes before 13");
+}
+
+/*
  * 7: "Fewer than A steps or C sequences were opened, position of the last
  * word."
  */
@@ -756,10 +855,10 @@ static void names(void)
              DULIMOVEN_HEAD_WORD == 3 && DULIMOVEN_KIND == 4 &&
              DULIMOVEN_PAYLOAD == 5 && DULIMOVEN_FACT_ORDER == 6 &&
              DULIMOVEN_MISSING == 7);
-    hold("refusals 8 to 12",
+    hold("refusals 8 to 13",
          DULIMOVEN_CARD_AREA == 8 && DULIMOVEN_SEQUENCE == 9 &&
              DULIMOVEN_QUESTION == 10 && DULIMOVEN_FACT == 11 &&
-             DULIMOVEN_CHAIN_AREA == 12);
+             DULIMOVEN_CHAIN_AREA == 12 && DULIMOVEN_SET_AND_CLEARED == 13);
 }
 
 int main(void)
@@ -788,6 +887,9 @@ int main(void)
     payload_of_entry();
     payload_of_fact_and_alternative();
     fact_order();
+    set_and_cleared();
+    set_and_cleared_pairs();
+    longest_steps();
     missing();
     names();
     printf("check_test: %u checks, %u failed\n", ran, failed);

@@ -9,7 +9,8 @@
  * links are the fewest, what depth is the least and which choice is the lowest.
  * The rounds are held against the second engine's columns too. The check is
  * compared with the second engine's over each library, and over the same with
- * some damage.
+ * some damage. A library with a pulse must get refusal 13 from all calls, at
+ * the clear word; with some damage beside it the check is compared again.
  *
  * What it would catch: a card word that the algorithms do not give, or a word
  * changed past the cards; "none" where a run has the outcome, or a chain where
@@ -19,7 +20,8 @@
  * that must not, or has no run; an untouched link whose alternative cannot stay
  * untouched; more links than the fewest; a choice that is not the lowest; words
  * changed past a chain or on "none"; a library refused, or a damaged one judged
- * otherwise; a call that does not end.
+ * otherwise; a pulse that is not refused, or at another word, or with a word of
+ * an area changed; a call that does not end.
  *
  * Tried: the engine was broken on a copy, compiled without its proofs and
  * linked with this test. Each break was reported, first by the words after it.
@@ -91,10 +93,14 @@ static const struct trial {
 
 static const uint64_t first_seed = UINT64_C(0x2545f4914f6cdd1d);
 
-/* What is counted of the libraries of a kind, or of all. */
+/*
+ * What is counted of the libraries of a kind, or of all. `pulses` are the
+ * libraries with a pulse, `pulses_damaged` the damaged ones of them that still
+ * get refusal 13.
+ */
 struct tally {
-    uint64_t libraries, sequences, card_words, checks, questions, chains, links,
-        differences;
+    uint64_t libraries, sequences, card_words, checks, pulses, pulses_damaged,
+        questions, chains, links, differences;
 };
 
 static struct tally tally;
@@ -186,6 +192,9 @@ static void try_check(void)
         differs("refused by the second engine");
 }
 
+/* How many times an image is damaged. */
+enum { DAMAGES = 4 };
+
 /* Changes a word, leaves one out, doubles one or lets two change places. */
 static void damage(struct seed *seed, struct image *damaged)
 {
@@ -212,19 +221,25 @@ static void damage(struct seed *seed, struct image *damaged)
     }
 }
 
-/* The damaged library, most times with a sum word that is right again. */
-static void try_damage(struct seed *seed)
+/*
+ * The damaged image, most times with a sum word that is right again. Answers
+ * what the second engine does.
+ */
+static uint64_t try_damage(struct seed *seed, const struct image *whole)
 {
     static struct image damaged;
-    damaged = image;
+    uint64_t answer;
+    image_copy(&damaged, whole);
     damage(seed, &damaged);
     if (draw(seed, 8) != 0) {
         damaged.length--;
         image_end(&damaged);
     }
     tally.checks++;
-    if (check(&damaged) != second_check(damaged.words, damaged.length))
+    answer = second_check(damaged.words, damaged.length);
+    if (check(&damaged) != answer)
         differs("the check answers otherwise once the library is damaged");
+    return answer;
 }
 
 /* The card areas of both engines, with words past the last card. */
@@ -232,12 +247,15 @@ enum { CARD_AREA = DULIMOVEN_MOST_CARD_WORDS + 8 };
 static uint64_t cards[CARD_AREA];
 static uint64_t second[CARD_AREA];
 
+/* What each byte of a card area holds before the call. */
+enum { CARDS_BEFORE = 0xa5 };
+
 static void try_cards(void)
 {
     uint32_t sequences = sequences_of(image.words[0]);
     size_t i;
-    memset(cards, 0xa5, sizeof cards);
-    memset(second, 0xa5, sizeof second);
+    memset(cards, CARDS_BEFORE, sizeof cards);
+    memset(second, CARDS_BEFORE, sizeof second);
     call_name = "dulimoven_cards";
     if (dulimoven_cards(image.words, image.length, cards, CARD_AREA) !=
         sequences)
@@ -314,14 +332,68 @@ static void ask_fact(const struct trial *trial, uint32_t fact)
             ask(c, question, fact);
 }
 
+/* Whether the card call refuses an image so, and writes nothing. */
+static int cards_refuse(const struct image *refused, uint64_t expected)
+{
+    size_t room = (size_t)DULIMOVEN_CARD_WORDS *
+                  sequences_of(refused->words[0]) * sizeof cards[0];
+    uint64_t answer;
+    memset(cards, CARDS_BEFORE, room);
+    memset(second, CARDS_BEFORE, room);
+    call_name = "dulimoven_cards";
+    answer = dulimoven_cards(refused->words, refused->length, cards,
+                             room / sizeof cards[0]);
+    return answer == expected && memcmp(cards, second, room) == 0;
+}
+
+/* Whether the chain call does, for a question that is drawn. */
+static int chain_refuses(struct seed *seed, const struct image *refused,
+                         uint64_t expected)
+{
+    uint32_t head = refused->words[0];
+    uint32_t sequence = draw(seed, sequences_of(head));
+    uint32_t question = draw(seed, DULIMOVEN_FIRST_UNTOUCHED + 1);
+    uint32_t fact = draw(seed, facts_of(head));
+    uint32_t link[DULIMOVEN_LINK_WORDS] = {JUDGE_BEFORE, JUDGE_BEFORE};
+    call_name = "dulimoven_chain";
+    return dulimoven_chain(refused->words, refused->length, sequence, question,
+                           fact, link, DULIMOVEN_LINK_WORDS) == expected &&
+           link[0] == JUDGE_BEFORE && link[1] == JUDGE_BEFORE;
+}
+
+/* The library with a pulse, which is all that is wrong with it. */
+static void try_pulse(struct seed *seed)
+{
+    static struct image pulse;
+    size_t position = make_pulse(seed, &image, &pulse);
+    uint64_t expected = (uint64_t)DULIMOVEN_SET_AND_CLEARED << 32 | position;
+    uint32_t n;
+    if (position == 0)
+        return;
+    tally.pulses++;
+    tally.checks++;
+    if (check(&pulse) != expected)
+        differs("a pulse is not refused by the library");
+    if (second_check(pulse.words, pulse.length) != expected)
+        differs("a pulse is not refused by the second engine");
+    if (!cards_refuse(&pulse, expected))
+        differs("the card call does not refuse a pulse, or writes a word");
+    if (!chain_refuses(seed, &pulse, expected))
+        differs("the chain call does not refuse a pulse, or writes a word");
+    for (n = 0; n < DAMAGES; n++)
+        tally.pulses_damaged +=
+            dulimoven_refusal_of(try_damage(seed, &pulse)) ==
+            DULIMOVEN_SET_AND_CLEARED;
+}
+
 static void try_library(const struct trial *trial, struct seed *seed)
 {
-    enum { DAMAGES = 4 };
     uint32_t fact, n;
     begin_library();
     try_check();
     for (n = 0; n < DAMAGES; n++)
-        try_damage(seed);
+        try_damage(seed, &image);
+    try_pulse(seed);
     try_cards();
     judge_library(image.words, image.length);
     for (fact = 0; fact < facts_of(image.words[0]); fact += trial->facts)
@@ -331,14 +403,19 @@ static void try_library(const struct trial *trial, struct seed *seed)
 static void print_tally(const char *name, const struct tally *t)
 {
     printf("%s: libraries %" PRIu64 ", sequences %" PRIu64
-           ", card words %" PRIu64 ", checks %" PRIu64 ", questions %" PRIu64
+           ", card words %" PRIu64 ", checks %" PRIu64 ", pulses %" PRIu64
+           ", refused with 13 after damage %" PRIu64 ", questions %" PRIu64
            ", chains %" PRIu64 ", links %" PRIu64 ", differences %" PRIu64 "\n",
            name, t->libraries, t->sequences, t->card_words, t->checks,
-           t->questions, t->chains, t->links, t->differences);
+           t->pulses, t->pulses_damaged, t->questions, t->chains, t->links,
+           t->differences);
     fflush(stdout);
 }
 
-/* Libraries of a kind. Some questions must have a chain, and some none. */
+/*
+ * Libraries of a kind. Some questions must have a chain, and some none; some
+ * libraries must have room for a pulse.
+ */
 static void try_kind(unsigned kind)
 {
     struct seed seed = {first_seed + kind};
@@ -351,6 +428,8 @@ static void try_kind(unsigned kind)
     }
     if (tally.chains == 0 || tally.chains == tally.questions)
         differs("no chain in any library, or no \"none\"");
+    if (tally.pulses == 0)
+        differs("no pulse in any library");
     print_tally(kind_name, &tally);
 }
 
@@ -360,6 +439,8 @@ static void add_tally(struct tally *total)
     total->sequences += tally.sequences;
     total->card_words += tally.card_words;
     total->checks += tally.checks;
+    total->pulses += tally.pulses;
+    total->pulses_damaged += tally.pulses_damaged;
     total->questions += tally.questions;
     total->chains += tally.chains;
     total->links += tally.links;
@@ -368,12 +449,17 @@ static void add_tally(struct tally *total)
 
 int main(void)
 {
-    struct tally total = {0, 0, 0, 0, 0, 0, 0, 0};
+    struct tally total = {0, 0, 0, 0, 0, 0, 0, 0, 0, 0};
     unsigned kind;
     signal(SIGALRM, time_is_up);
     for (kind = 0; kind < SEEDED_KINDS; kind++) {
         try_kind(kind);
         add_tally(&total);
+    }
+    if (total.pulses_damaged == 0 ||
+        total.pulses_damaged == DAMAGES * total.pulses) {
+        total.differences++;
+        printf("damage hides every pulse, or none\n");
     }
     print_tally("total", &total);
     return total.differences == 0 ? 0 : 1;

@@ -312,12 +312,28 @@ static const uint32_t poll[] = {
     STEP(0), NEEDS(1),
     STEP(1), NEEDS(1), SETS(0),
     STEP(2), CLEARS(1), CLEARS(2),
-    STEP(3), SETS(2), CLEARS(2),
+    STEP(3), SETS(2),
     SEQUENCE(0), ALTERNATIVE, DO(0), CALL(0), ALTERNATIVE, DO(1),
     SEQUENCE(1), ALTERNATIVE, CALL(0), DO(2), ALTERNATIVE, CALL(2),
     SEQUENCE(2), ALTERNATIVE, DO(0), CALL(2),
     SEQUENCE(3), ALTERNATIVE, DO(3), CALL(0), ALTERNATIVE, CALL(3), CALL(3),
         ALTERNATIVE};
+
+/*
+ * The library of examples/pulse.image: the same, and step 3 clears the fact
+ * that it sets.
+ */
+static void pulse(void)
+{
+    enum { CLEAR = 11 };
+    start();
+    put_all(poll, CLEAR);
+    put(CLEARS(2));
+    put_all(poll + CLEAR, COUNT(poll) - CLEAR);
+    put_sum();
+    holds("the pulse is not refused",
+          all_calls("pulse.image") == REFUSED(13, CLEAR));
+}
 
 static int sum_is_right(void)
 {
@@ -399,6 +415,23 @@ static void noise(void)
     }
 }
 
+/* A step with random fact words, which clears no fact that it sets. */
+static void random_step(uint32_t number, uint32_t facts)
+{
+    uint64_t sets = 0;
+    uint32_t kind, fact;
+    put(STEP(number));
+    for (kind = KIND_NEEDS; kind <= KIND_CLEARS; kind++)
+        for (fact = 0; fact < facts; fact++) {
+            if (below(facts < 4 ? 4 : facts) != 0)
+                continue;
+            if (kind == KIND_SETS)
+                sets |= UINT64_C(1) << fact;
+            if (kind != KIND_CLEARS || !dulimoven_has_fact(sets, fact))
+                put(WORD(kind, fact));
+        }
+}
+
 /*
  * Random libraries, which are accepted, and each with one nibble changed and
  * the sum word made right again.
@@ -410,16 +443,11 @@ static void libraries(void)
         uint32_t f = 1 + below(n % 8 == 0 ? MOST_F : 4);
         uint32_t a = below(6);
         uint32_t c = below(7);
-        uint32_t i, kind, fact, alternatives, entries;
+        uint32_t i, alternatives, entries;
         start();
         put(HEAD(f, a, c));
-        for (i = 0; i < a; i++) {
-            put(STEP(i));
-            for (kind = KIND_NEEDS; kind <= KIND_CLEARS; kind++)
-                for (fact = 0; fact < f; fact++)
-                    if (below(f < 4 ? 4 : f) == 0)
-                        put(WORD(kind, fact));
-        }
+        for (i = 0; i < a; i++)
+            random_step(i, f);
         for (i = 0; i < c; i++) {
             put(SEQUENCE(i));
             for (alternatives = below(4); alternatives > 0; alternatives--) {
@@ -451,6 +479,7 @@ int main(void)
     }
     nibbles("L", library_l, L_SUM);
     nibbles("poll.image", poll, COUNT(poll));
+    pulse();
     noise();
     libraries();
     printf("damage_test: %u checks, %u failed\n", ran, failed);

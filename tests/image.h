@@ -10,6 +10,7 @@
 
 #include <stddef.h>
 #include <stdint.h>
+#include <string.h>
 
 /* Bounds of an image's length, and of what its head counts. */
 enum {
@@ -178,6 +179,12 @@ static inline void image_end(struct image *image)
 {
     uint32_t sum = sum_word_after(image->words, image->length);
     image_put(image, KIND_SUM, payload_of(sum));
+}
+
+static inline void image_copy(struct image *to, const struct image *from)
+{
+    to->length = from->length;
+    memcpy(to->words, from->words, from->length * sizeof from->words[0]);
 }
 
 #endif

@@ -61,28 +61,33 @@ static void write_setup(void)
 }
 
 /*
- * poll. Sequence 0 polls until a device is ready, 1 does so and unlocks, or
- * waits for ever, 2 polls for ever, 3 can pulse and poll, call itself twice, or
- * do nothing.
+ * poll and pulse. Sequence 0 polls until a device is ready, 1 does so and
+ * unlocks, or waits for ever, 2 polls for ever, 3 can raise a line and poll,
+ * call itself twice, or do nothing. In pulse, the step that raises the line
+ * clears its fact too.
  */
 #define POLL DO(0)
 #define SEE_READY DO(1)
 #define UNLOCK DO(2)
-#define PULSE DO(3)
+#define RAISE DO(3)
+#define POLL_WORDS(...)                                              \
+    HEAD(3, 4, 4),                                                   \
+        STEP(0), NEEDS(1),                                           \
+        STEP(1), NEEDS(1), SETS(0),                                  \
+        STEP(2), CLEARS(1), CLEARS(2),                               \
+        STEP(3), __VA_ARGS__,                                        \
+        SEQUENCE(0), TAKES(POLL, CALL(0)), TAKES(SEE_READY),         \
+        SEQUENCE(1), TAKES(CALL(0), UNLOCK), TAKES(CALL(2)),         \
+        SEQUENCE(2), TAKES(POLL, CALL(2)),                           \
+        SEQUENCE(3), TAKES(RAISE, CALL(0)), TAKES(CALL(3), CALL(3)), \
+        ALTERNATIVE
 
 static void write_poll(void)
 {
-    BUILD(HEAD(3, 4, 4),
-          STEP(0), NEEDS(1),
-          STEP(1), NEEDS(1), SETS(0),
-          STEP(2), CLEARS(1), CLEARS(2),
-          STEP(3), SETS(2), CLEARS(2),
-          SEQUENCE(0), TAKES(POLL, CALL(0)), TAKES(SEE_READY),
-          SEQUENCE(1), TAKES(CALL(0), UNLOCK), TAKES(CALL(2)),
-          SEQUENCE(2), TAKES(POLL, CALL(2)),
-          SEQUENCE(3), TAKES(PULSE, CALL(0)), TAKES(CALL(3), CALL(3)),
-          ALTERNATIVE);
+    BUILD(POLL_WORDS(SETS(2)));
     write_image("poll");
+    BUILD(POLL_WORDS(SETS(2), CLEARS(2)));
+    write_image("pulse");
 }
 
 /*

@@ -7,8 +7,9 @@
  *
  * The calls keep their tables on the stack, of a fixed size each, and none of
  * their functions calls itself; so what they take depends on which functions an
- * image and a question lead to. Tried are L, L with each word in each kind, the
- * largest libraries that there can be, and all questions.
+ * image and a question lead to. Tried are L, L with each word in each kind, a
+ * step that clears what it sets, the largest libraries that there can be, and
+ * all questions.
  */
 #define _POSIX_C_SOURCE 200809L
 #include "harness.h"
@@ -99,7 +100,10 @@ static void measure_calls(void)
         measure_in_thread();
 }
 
-/* L, and L with each word but the sum word in each kind. */
+/*
+ * L, and L with each word but the sum word in each kind; and refusal 13, which
+ * is not among those.
+ */
 static void small(void)
 {
     size_t i;
@@ -114,12 +118,14 @@ static void small(void)
             build(given, 19);
             measure_calls();
         }
+    BUILD(HEAD(1, 1, 1), STEP(0), SETS(0), CLEARS(0), SEQUENCE(0));
+    measure_calls();
 }
 
 /*
- * The largest library: each step needs, sets and clears a fact, and each
- * sequence has an alternative with the sequence `ahead` of it and one with ten
- * steps; the last goes on as far as there is room.
+ * The largest library: each step needs a fact, sets the next and clears the one
+ * after that, and each sequence has an alternative with the sequence `ahead` of
+ * it and one with ten steps; the last goes on as far as there is room.
  */
 static void large(uint32_t ahead)
 {

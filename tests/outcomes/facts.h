@@ -93,7 +93,7 @@ static void facts(void)
     judge();
 
     LIBRARY("one step with several facts", HEAD(5, 1, 3), STEP(0),
-            NEEDS(0), NEEDS(1), SETS(1), SETS(2), CLEARS(2), CLEARS(3));
+            NEEDS(0), NEEDS(1), SETS(1), SETS(2), CLEARS(3));
     PUT(SEQUENCE(0), ALTERNATIVE, DO(0));
     /* last: 1 and 2 set, 3 cleared, 0 and 4 untouched. First: 0 and 1 needed, 2
        set, 3 and 4 untouched. */

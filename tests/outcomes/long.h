@@ -120,12 +120,12 @@ static void rings(void)
     uint32_t c;
 
     LIBRARY("a ring with one way out, in the middle",
-            HEAD(1, 1, MOST_C), STEP(0), SETS(0), CLEARS(0));
+            HEAD(1, 1, MOST_C), STEP(0), SETS(0));
     for (c = 0; c < MOST_C; c++) {
         PUT(SEQUENCE(c), ALTERNATIVE, CALL(c < TOP ? c + 1 : 0));
         if (c == WAY_OUT)
             PUT(ALTERNATIVE, DO(0));
-        /* the one run of each is <step 0>, which sets and clears: it sets */
+        /* the one run of each is <step 0> */
         runs(LAST(1, 0, 0), FIRST(0, 1, 0));
     }
     judge();

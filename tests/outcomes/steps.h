@@ -1,10 +1,10 @@
 /* Needs after sets and after clears, and steps that touch a fact twice. */
 static void steps(void)
 {
-    LIBRARY("each step by itself, under one, two and three kinds",
+    LIBRARY("each step by itself, under one and two kinds",
             HEAD(1, 7, 7), SET_CLEAR_NEED, STEP(3), NEEDS(0), SETS(0),
-            STEP(4), SETS(0), CLEARS(0), STEP(5), NEEDS(0), CLEARS(0),
-            STEP(6), NEEDS(0), SETS(0), CLEARS(0));
+            STEP(4), SETS(0), STEP(5), NEEDS(0), CLEARS(0),
+            STEP(6), NEEDS(0), SETS(0));
     PUT(SEQUENCE(0), ALTERNATIVE, DO(0));
     /* sets */
     runs(LAST(1, 0, 0), FIRST(0, 1, 0));
@@ -18,13 +18,13 @@ static void steps(void)
     /* needs and sets: it needs on the first side */
     runs(LAST(1, 0, 0), FIRST(1, 0, 0));
     PUT(SEQUENCE(4), ALTERNATIVE, DO(4));
-    /* sets and clears: it sets */
+    /* sets, as step 0 does */
     runs(LAST(1, 0, 0), FIRST(0, 1, 0));
     PUT(SEQUENCE(5), ALTERNATIVE, DO(5));
     /* needs and clears */
     runs(LAST(0, 1, 0), FIRST(1, 0, 0));
     PUT(SEQUENCE(6), ALTERNATIVE, DO(6));
-    /* all three: it sets on the last side and needs on the first */
+    /* needs and sets, as step 3 does */
     runs(LAST(1, 0, 0), FIRST(1, 0, 0));
     judge();
 
@@ -91,8 +91,8 @@ static void steps(void)
     runs(LAST(1, 0, 0), FIRST(1, 0, 0));
     judge();
 
-    LIBRARY("a step that sets and clears",
-            HEAD(1, 3, 5), STEP(0), SETS(0), CLEARS(0), STEP(1), CLEARS(0),
+    LIBRARY("one step sets, the others clear",
+            HEAD(1, 3, 5), STEP(0), SETS(0), STEP(1), CLEARS(0),
             STEP(2), NEEDS(0), CLEARS(0));
     PUT(SEQUENCE(0), ALTERNATIVE, DO(0), DO(1));
     /* last the clear of step 1; first the set */

@@ -1,5 +1,6 @@
 /*
- * The check: document 01, "Turned down, in checking order", refusals 1 to 7.
+ * The check: document 01, "Turned down, in checking order", refusals 1 to 7,
+ * and refusal 13 of document 02.
  */
 #include "../image.h"
 #include "dulimoven.h"
@@ -10,11 +11,15 @@ static uint64_t refusal(uint64_t number, size_t position)
     return number << 32 | position;
 }
 
-/* How far the words between head and sum word are read. */
+/*
+ * How far the words between head and sum word are read. `sets` has the facts
+ * that the words since the last step's opener set, bit f for fact f.
+ */
 struct reading {
     uint32_t facts, steps, sequences;
     uint32_t opened_steps, opened_sequences;
     uint32_t before;
+    uint64_t sets;
 };
 
 /* Rule 4: whether a word of this kind may stand here. */
@@ -65,7 +70,16 @@ static int ascends(const struct reading *r, uint32_t word)
     return !is_fact(word) || !is_fact(r->before) || word > r->before;
 }
 
-/* The first of 4, 5 and 6 that applies to a word, or 0. */
+/*
+ * Rule 13: whether it is a "clear word naming a fact that an earlier word of
+ * the same step sets". The fact is below F.
+ */
+static int clears_what_is_set(const struct reading *r, uint32_t word)
+{
+    return kind_of(word) == KIND_CLEARS && (r->sets >> payload_of(word) & 1u);
+}
+
+/* The first of 4, 5, 6 and 13 that applies to a word, or 0. */
 static uint64_t fault(const struct reading *r, uint32_t word)
 {
     if (!stands(r, word))
@@ -74,7 +88,27 @@ static uint64_t fault(const struct reading *r, uint32_t word)
         return DULIMOVEN_PAYLOAD;
     if (!ascends(r, word))
         return DULIMOVEN_FACT_ORDER;
+    if (clears_what_is_set(r, word))
+        return DULIMOVEN_SET_AND_CLEARED;
     return 0;
+}
+
+/* Reads a word that breaks no rule. */
+static void read_word(struct reading *r, uint32_t word)
+{
+    r->before = word;
+    switch (kind_of(word)) {
+    case KIND_STEP:
+        r->opened_steps++;
+        r->sets = 0;
+        break;
+    case KIND_SETS:
+        r->sets |= UINT64_C(1) << payload_of(word);
+        break;
+    case KIND_SEQUENCE:
+        r->opened_sequences++;
+        break;
+    }
 }
 
 static int head_right(uint32_t head)
@@ -86,20 +120,19 @@ static int head_right(uint32_t head)
            sequences_of(head) <= MOST_SEQUENCES;
 }
 
-/* Refusals 4 to 7 of an image whose head and sum word are right. */
+/* Refusals 4 to 7 and 13 of an image whose head and sum word are right. */
 static uint64_t read_words(const uint32_t *image, size_t length)
 {
     uint32_t head = image[0];
     struct reading r = {facts_of(head), steps_of(head), sequences_of(head),
-                        0, 0, 0};
+                        0, 0, head, 0};
     uint64_t number;
     size_t i;
-    for (r.before = head, i = 1; i + 1 < length; r.before = image[i++]) {
+    for (i = 1; i + 1 < length; i++) {
         number = fault(&r, image[i]);
         if (number != 0)
             return refusal(number, i);
-        r.opened_steps += kind_of(image[i]) == KIND_STEP;
-        r.opened_sequences += kind_of(image[i]) == KIND_SEQUENCE;
+        read_word(&r, image[i]);
     }
     if (r.opened_steps < r.steps || r.opened_sequences < r.sequences)
         return refusal(DULIMOVEN_MISSING, length - 1);

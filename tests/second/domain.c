@@ -48,7 +48,7 @@ void read_domain(const uint32_t *image, size_t length, struct domain *d)
 
 /*
  * What a fact word of kind `kind` adds to what the words before it say: they
- * stand in the order needs, sets, clears, which decides the ties.
+ * stand in the order needs, sets, clears, so that a need comes before a set.
  */
 static unsigned says(unsigned before, uint32_t kind)
 {
@@ -56,7 +56,7 @@ static unsigned says(unsigned before, uint32_t kind)
         return PREC;
     if (kind == KIND_SETS)
         return before & PREC ? ADD : ADD | FIRST_ADD;
-    return before & ADD ? 0 : DEL;
+    return DEL;
 }
 
 void read_actions(const uint32_t *image, size_t length, uint32_t f,

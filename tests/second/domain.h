@@ -34,10 +34,10 @@ void read_domain(const uint32_t *image, size_t length, struct domain *d);
 
 /*
  * What an action does with the fact under consideration. 001 assumes "w.l.o.g."
- * that no action has a fact in prec and add, or in add and del. Document 01
- * does not, and has a rule for each tie: a step that sets and clears a fact
- * sets it; a step that needs and sets it needs it on the first side, and sets
- * it on the last. So add(a) of Algorithm 6 is not add(a) of Algorithm 5.
+ * that no action has a fact in prec and add, or in add and del. The second is
+ * so in an accepted image, by refusal 13. For the first document 01 has a rule:
+ * a step that needs and sets a fact needs it on the first side, and sets it on
+ * the last. So add(a) of Algorithm 6 is not add(a) of Algorithm 5.
  */
 enum { PREC = 1, ADD = 2, DEL = 4, FIRST_ADD = 8 };
 

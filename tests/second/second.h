@@ -1,9 +1,9 @@
 /*
  * The second engine, for tests and the benchmark: the check by the rules of
- * document 01, one word after the other, and the cards by the algorithms
- * printed in source document 001, one fact after the other. The calls are of
- * the library's shape. The engine shares no code with the library, and reads
- * the image by itself. C11 and C++17.
+ * documents 01 and 02, one word after the other, and the cards by the
+ * algorithms printed in source document 001, one fact after the other. The
+ * calls are of the library's shape. The engine shares no code with the library,
+ * and reads the image by itself. C11 and C++17.
  */
 #ifndef DULIMOVEN_TESTS_SECOND_H
 #define DULIMOVEN_TESTS_SECOND_H
@@ -11,10 +11,10 @@
 #include <stddef.h>
 #include <stdint.h>
 
-/* As dulimoven_check: refusals 1 to 7, or the head's payload. */
+/* As dulimoven_check: refusals 1 to 7 and 13, or the head's payload. */
 uint64_t second_check(const uint32_t *image, size_t image_len);
 
-/* As dulimoven_cards: refusals 1 to 8, or C with the cards in the area. */
+/* As dulimoven_cards: refusals 1 to 8 and 13, or C with the cards. */
 uint64_t second_cards(const uint32_t *image, size_t image_len, uint64_t *area,
                       size_t area_len);
 

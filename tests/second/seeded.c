@@ -3,6 +3,8 @@
  */
 #include "seeded.h"
 
+#include <string.h>
+
 /* A shift register of 64 bits (xorshift: 13, 7, 17). */
 uint32_t draw(struct seed *seed, uint32_t below)
 {
@@ -115,16 +117,25 @@ static int room(const struct image *image)
     return image->length < ROOM_END;
 }
 
-/* The fact words of a step, needs first, then sets, then clears. */
+/*
+ * The fact words of a step, needs first, then sets, then clears of facts that
+ * it does not set.
+ */
 static void put_facts(struct seed *seed, const struct shape *s, uint32_t a,
                       struct image *image)
 {
     uint32_t of = s->touching == 0 && a == 0 ? 48 : s->touching;
+    uint64_t sets = 0;
     uint32_t kind, f;
     for (kind = KIND_NEEDS; kind <= KIND_CLEARS; kind++)
-        for (f = 0; f < s->facts; f++)
-            if (chance(seed, of) && image->length < FACTS_END)
+        for (f = 0; f < s->facts; f++) {
+            if (!chance(seed, of) || image->length >= FACTS_END)
+                continue;
+            if (kind == KIND_SETS)
+                sets |= UINT64_C(1) << f;
+            if (kind != KIND_CLEARS || !(sets >> f & 1u))
                 image_put(image, kind, f);
+        }
 }
 
 /* A sequence that sequence c calls, or one that there is not. */
@@ -212,4 +223,41 @@ void make_library(struct seed *seed, unsigned kind, struct image *image)
     for (c = 0; c < s.sequences; c++)
         put_sequence(seed, &s, c, image);
     image_end(image);
+}
+
+/* The position of the set word before which there are `before`, or 0. */
+static size_t set_word(const struct image *image, uint32_t before)
+{
+    size_t i;
+    for (i = 1; i + 1 < image->length; i++)
+        if (kind_of(image->words[i]) == KIND_SETS && before-- == 0)
+            return i;
+    return 0;
+}
+
+static uint32_t count_sets(const struct image *image)
+{
+    uint32_t count = 0;
+    size_t i;
+    for (i = 1; i + 1 < image->length; i++)
+        count += kind_of(image->words[i]) == KIND_SETS;
+    return count;
+}
+
+size_t make_pulse(struct seed *seed, const struct image *library,
+                  struct image *pulse)
+{
+    size_t i = set_word(library, draw(seed, count_sets(library)));
+    uint32_t clear;
+    if (i == 0 || library->length == MOST_WORDS)
+        return 0;
+    clear = word_of(KIND_CLEARS, payload_of(library->words[i]));
+    while (is_fact(library->words[i]) && library->words[i] < clear)
+        i++;
+    image_copy(pulse, library);
+    memmove(pulse->words + i + 1, pulse->words + i,
+            (pulse->length - 1 - i) * sizeof pulse->words[0]);
+    pulse->words[i] = clear;
+    image_end(pulse);
+    return i;
 }

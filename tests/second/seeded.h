@@ -1,6 +1,7 @@
 /*
  * Libraries made from a seed, of several kinds: a shape is drawn, and an image
- * is written that has it. C11 and C++17.
+ * is written that has it; and the same with a pulse, which is refused. C11 and
+ * C++17.
  */
 #ifndef DULIMOVEN_TESTS_SEEDED_H
 #define DULIMOVEN_TESTS_SEEDED_H
@@ -11,8 +12,8 @@
  * Small and large libraries; such as call themselves, each other, the next
  * sequence or the one before; endless and deep ones; with many empty
  * alternatives, or with alternatives of hundreds of entries; with one fact and
- * with as many as there can be; with steps that set and clear, or need and set,
- * the same fact.
+ * with as many as there can be; with steps that need and set, or need and
+ * clear, the same fact. No step clears a fact that it sets.
  */
 enum { SEEDED_KINDS = 15 };
 
@@ -28,5 +29,14 @@ uint32_t draw(struct seed *seed, uint32_t below);
 
 /* Writes a library of a kind. */
 void make_library(struct seed *seed, unsigned kind, struct image *image);
+
+/*
+ * Writes a library with a pulse: a copy in which a step also clears a fact that
+ * it sets. The clear word stands where the order of the fact words wants it,
+ * and breaks no other rule. Answers its position, or 0 where the library has no
+ * set word, or no room for another word, and none is written.
+ */
+size_t make_pulse(struct seed *seed, const struct image *library,
+                  struct image *pulse);
 
 #endif

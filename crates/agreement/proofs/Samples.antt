@@ -7,9 +7,11 @@ use mathlib.Core.Bool.{Bool, true, false, _&&_, _||_, false≢true}
 use mathlib.Core.List.{List, [], _∷_}
 use borrow.Author.Tests.{ne-eqb}
 use Rattle.general.specs.Tests.{All}
+use Rattle.column.specs.Column.{bit}
+use Rattle.column.specs.Sets.{inColumn}
 use Rattle.rules.specs.Checked.{scan, checked}
 use Rattle.library.specs.Library.{Library, has, libraryOf, Item, step}
-use Rattle.rules.specs.Rules.{opened, lastOf}
+use Rattle.rules.specs.Rules.{opened, lastOf, setsOf}
 use Rattle.general.specs.Numbers.{total}
 use Rattle.runs.specs.Run.{Run, Gives, nothing, by-item, by-call, alternativeOf}
 use Rattle.runs.specs.Execution.{Fact, State, Executes, end}
@@ -21,7 +23,7 @@ use Rattle.text.specs.Words.{wordsOf}
 use Rattle.text.specs.Number.{numeral, numeralIn}
 use Rattle.card_text.specs.Line.{spaced, cardLine, linesFrom, cardLines, refusalLine}
 use Rattle.card_text.specs.Print.{printed}
-use Rattle.agreement.specs.Samples.{L, endlessFirst, clearThenNeed, pulse, standing, executes, fails, Holds, starred}
+use Rattle.agreement.specs.Samples.{L, endlessFirst, clearThenNeed, standing, executes, fails, Holds, starred}
 
 -- what a step without needs asks
 no-need : (K : Library) (s : State K) (f : ℕ) → has f [] ≡ true → (low : f < K .facts) × (s (f, low) ≡ true)
@@ -82,14 +84,6 @@ clear-executes = (record { alternative = 1; listed = omega arith; given = by-ite
     ends (zero, low) = refl
     ends (suc f, low) = absurd (omega arith)
 
-pulse-executes : Holds (executes pulse 0 (step 0 ∷ []) [] (0 ∷ []))
-unfolding libraryOf has
-pulse-executes = (record { alternative = 0; listed = omega arith; given = by-item nothing }, (no-need (libraryOf pulse) (standing (libraryOf pulse) []), tt), ends)
-  where
-    ends : (f : Fact (libraryOf pulse)) → end (libraryOf pulse) (step 0 ∷ []) (standing (libraryOf pulse) []) f ≡ has (f .0) (0 ∷ [])
-    ends (zero, low) = refl
-    ends (suc f, low) = absurd (omega arith)
-
 -- "Alternative <clear f, need f>: always needed, though no run executes.": its runs are <step 0, step 1>, and whichever facts stand at the
 -- start, f does not stand when step 1 comes
 cleared : (b : Bool) → (b && false || false) ≡ false
@@ -117,6 +111,6 @@ need-fails =
 -- ---- the one fact
 
 pub starred-hold : All Holds starred
-unfolding checked scan total opened lastOf libraryOf has possible cards card chained chainWords printed wordsOf cardLines linesFrom cardLine spaced numeral numeralIn refusalLine
+unfolding checked scan total opened lastOf setsOf inColumn bit libraryOf has possible cards card chained chainWords printed wordsOf cardLines linesFrom cardLine spaced numeral numeralIn refusalLine
 starred-hold =
-    (refl, (refl, (refl, (refl, (refl, (refl, (refl, (refl, (both-steps, (second-fails, (second-executes, (refl, (refl, (refl, (refl, (refl, (refl, (refl, (clear-executes, (refl, (need-fails, (refl, (pulse-executes, tt)))))))))))))))))))))))
+    (refl, (refl, (refl, (refl, (refl, (refl, (refl, (refl, (both-steps, (second-fails, (second-executes, (refl, (refl, (refl, (refl, (refl, (refl, (refl, (clear-executes, (refl, (need-fails, (refl, tt))))))))))))))))))))))

@@ -16,7 +16,7 @@ use Rattle.column.proofs.Bits.{bit-zero, bit-none}
 use Rattle.image.specs.Answer.{checkedAnswer}
 use Rattle.rules.specs.Checked.{scan, checked}
 use Rattle.library.specs.Library.{Library, has, libraryOf}
-use Rattle.rules.specs.Rules.{opened, lastOf}
+use Rattle.rules.specs.Rules.{opened, lastOf, setsOf}
 use Rattle.general.specs.Numbers.{total}
 use Rattle.image.specs.declared.answer.Checked.{Checked}
 use Rattle.library.proofs.Accepted.{counted}
@@ -31,7 +31,7 @@ use Rattle.chains.specs.Link.{Link, touchLink, untouchedLink, Chain, chainWords
 use Rattle.chains.proofs.Fits.{accepted-fits}
 use Rattle.chains.specs.Answer.{shown}
 use Rattle.chains.specs.Call.{answered, chained}
-use Rattle.agreement.specs.Samples.{L, selfCall, clearThenNeed, pulse}
+use Rattle.agreement.specs.Samples.{L, selfCall, clearThenNeed}
 use Rattle.dulimoven.specs.Returned.{Returned, returned}
 use Rattle.dulimoven.specs.ChainCall.{Asked, Answers, Links, ChainReturn}
 use Rattle.dulimoven.specs.ChainCall as chain
@@ -54,50 +54,54 @@ detour =
     0x10080081 ∷ 0x50000000 ∷ 0x30000000 ∷ 0x60000000 ∷ 0x70000000 ∷ 0x80000000 ∷ 0x70000000 ∷ 0x90000001 ∷ 0x60000001 ∷ 0x70000000
     ∷ 0x80000000 ∷ 0xf0080086 ∷ []
 
+-- one alternative with one step that sets the fact
+abbrev oneSet : List ℕ
+oneSet = 0x10040081 ∷ 0x50000000 ∷ 0x30000000 ∷ 0x60000000 ∷ 0x70000000 ∷ 0x80000000 ∷ 0xf004008f ∷ []
+
 accepted-L : checked L ≡ Checked.Accepted (record { facts = 3; steps = 3; sequences = 3 })
-unfolding checked scan total opened lastOf
+unfolding checked scan total opened lastOf setsOf inColumn bit
 accepted-L = refl
 
 accepted-selfCall : checked selfCall ≡ Checked.Accepted (record { facts = 1; steps = 0; sequences = 1 })
-unfolding checked scan total opened lastOf
+unfolding checked scan total opened lastOf setsOf inColumn bit
 accepted-selfCall = refl
 
 accepted-clearThenNeed : checked clearThenNeed ≡ Checked.Accepted (record { facts = 1; steps = 2; sequences = 1 })
-unfolding checked scan total opened lastOf
+unfolding checked scan total opened lastOf setsOf inColumn bit
 accepted-clearThenNeed = refl
 
-accepted-pulse : checked pulse ≡ Checked.Accepted (record { facts = 1; steps = 1; sequences = 1 })
-unfolding checked scan total opened lastOf
-accepted-pulse = refl
+accepted-oneSet : checked oneSet ≡ Checked.Accepted (record { facts = 1; steps = 1; sequences = 1 })
+unfolding checked scan total opened lastOf setsOf inColumn bit
+accepted-oneSet = refl
 
 cards-L : engine .cards L (zeros 21)
     ≡ returned 3 (0x103 ∷ 0 ∷ 0 ∷ 1 ∷ 0 ∷ 0 ∷ 0 ∷ 0x201 ∷ 0 ∷ 1 ∷ 3 ∷ 0 ∷ 2 ∷ 0 ∷ 0 ∷ 0 ∷ 0 ∷ 0 ∷ 0 ∷ 0 ∷ 0 ∷ [])
-unfolding checked scan total opened lastOf libraryOf has possible cards card
+unfolding checked scan total opened lastOf setsOf inColumn bit libraryOf has possible cards card
 cards-L = refl
 
 cards-clearThenNeed : engine .cards clearThenNeed (zeros 7) ≡ returned 1 (0x101 ∷ 1 ∷ 1 ∷ 0 ∷ 1 ∷ 0 ∷ 1 ∷ [])
-unfolding checked scan total opened lastOf libraryOf has possible cards card
+unfolding checked scan total opened lastOf setsOf inColumn bit libraryOf has possible cards card
 cards-clearThenNeed = refl
 
-cards-pulse : engine .cards pulse (zeros 7) ≡ returned 1 (0x101 ∷ 0 ∷ 0 ∷ 1 ∷ 0 ∷ 1 ∷ 0 ∷ [])
-unfolding checked scan total opened lastOf libraryOf has possible cards card
-cards-pulse = refl
+cards-oneSet : engine .cards oneSet (zeros 7) ≡ returned 1 (0x101 ∷ 0 ∷ 0 ∷ 1 ∷ 0 ∷ 1 ∷ 0 ∷ [])
+unfolding checked scan total opened lastOf setsOf inColumn bit libraryOf has possible cards card
+cards-oneSet = refl
 
 chain-selfCall : chained selfCall 0 2 0 (length (zeros 2)) ≡ answered (shown (untouchedLink 0 1 ∷ []))
-unfolding chained checked scan total opened lastOf libraryOf has possible
+unfolding chained checked scan total opened lastOf setsOf inColumn bit libraryOf has possible
 chain-selfCall = refl
 
 chain-L : chained L 1 0 0 (length (zeros 6)) ≡ answered (shown (touchLink 1 0 0 ∷ touchLink 0 0 0 ∷ []))
-unfolding chained checked scan total opened lastOf libraryOf has possible
+unfolding chained checked scan total opened lastOf setsOf inColumn bit libraryOf has possible
 chain-L = refl
 
 -- sequence 1 of L, question 3, fact 0: entry 1 of its alternative, step 1, needs the fact
 chain-needed : chained L 1 3 0 (length (zeros 2)) ≡ answered (shown (touchLink 1 0 1 ∷ []))
-unfolding chained checked scan total opened lastOf libraryOf has possible
+unfolding chained checked scan total opened lastOf setsOf inColumn bit libraryOf has possible
 chain-needed = refl
 
 chain-detour : chained detour 0 0 0 (length (zeros 4)) ≡ answered (shown (touchLink 0 0 0 ∷ []))
-unfolding chained checked scan total opened lastOf libraryOf has possible
+unfolding chained checked scan total opened lastOf setsOf inColumn bit libraryOf has possible
 chain-detour = refl
 
 ready-L : Ready L (zeros 21)
@@ -110,10 +114,10 @@ ready-clearThenNeed =
     let size : length (zeros 7) ≡ 7 = refl in
     record { head = _; accepted = accepted-clearThenNeed; room = omega (arith, counted clearThenNeed _ accepted-clearThenNeed .sequences) }
 
-ready-pulse : Ready pulse (zeros 7)
-ready-pulse =
+ready-oneSet : Ready oneSet (zeros 7)
+ready-oneSet =
     let size : length (zeros 7) ≡ 7 = refl in
-    record { head = _; accepted = accepted-pulse; room = omega (arith, counted pulse _ accepted-pulse .sequences) }
+    record { head = _; accepted = accepted-oneSet; room = omega (arith, counted oneSet _ accepted-oneSet .sequences) }
 
 -- the questions of the samples that get a chain
 gets-selfCall : Gets selfCall 0 2 0 (zeros 2) (untouchedLink 0 1 ∷ [])
@@ -243,9 +247,9 @@ blank-column needed e wrong d =
     let one-bit = ap (λ (r : Returned). bit (partWord (r .area) 0 1) 0) cards-clearThenNeed ∙ bit-zero 1 in
     omega arith
 blank-column set e wrong d =
-    let size = counted pulse _ accepted-pulse in
-    let zero-bit = blank-right set e wrong d pulse (zeros 7) ready-pulse 0 (omega (arith, size .sequences)) 0 (omega (arith, size .facts)) in
-    let one-bit = ap (λ (r : Returned). bit (partWord (r .area) 0 5) 0) cards-pulse ∙ bit-zero 1 in
+    let size = counted oneSet _ accepted-oneSet in
+    let zero-bit = blank-right set e wrong d oneSet (zeros 7) ready-oneSet 0 (omega (arith, size .sequences)) 0 (omega (arith, size .facts)) in
+    let one-bit = ap (λ (r : Returned). bit (partWord (r .area) 0 5) 0) cards-oneSet ∙ bit-zero 1 in
     omega arith
 blank-column cleared e wrong d =
     let size = counted clearThenNeed _ accepted-clearThenNeed in

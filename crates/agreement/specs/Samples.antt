@@ -1,4 +1,4 @@
--- The starred samples of document 01: one table of calls, with the answers that the paper gives, and one fact, that each answer follows from
+-- The starred samples of document 01, as the requests of document 02 have them: one table of calls, with the answers that the paper gives, and one fact, that each answer follows from
 -- the definitions (`starred-hold`). Where the paper says of a sample that a run executes, or that none does, the states are those of `standing`.
 use Prim.Native.Nat.{ℕ, _+_, _*_, _/_, _%_, _^_}
 use Prim.Native.Char.{code}
@@ -138,7 +138,6 @@ starred =
     -- state is `never-executes` (proofs/Samples)
     ∷ fills clearThenNeed ((0x101 ∷ 1 ∷ 1 ∷ 0 ∷ 1 ∷ 0 ∷ 1 ∷ []) ∷ [])
     ∷ fails clearThenNeed 0 (step 0 ∷ step 1 ∷ []) (0 ∷ [])
-    -- "One step sets and clears f: always set, not may clear."
-    ∷ fills pulse ((0x101 ∷ 0 ∷ 0 ∷ 1 ∷ 0 ∷ 1 ∷ 0 ∷ []) ∷ [])
-    ∷ executes pulse 0 (step 0 ∷ []) [] (0 ∷ [])
+    -- "One step sets and clears f": document 02, request 1, "The sample with that step becomes a refused one", "at the clear word"
+    ∷ refuses pulse 13 3
     ∷ []

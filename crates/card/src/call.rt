@@ -1,4 +1,4 @@
-// The card call: refusals 1 to 8, or the cards of all sequences.
+// The card call: refusals 1 to 8 and 13, or the cards of all sequences.
 use crate::answer::Cards;
 use image::answer::Checked;
 use image::answer::Head;

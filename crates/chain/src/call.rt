@@ -1,4 +1,4 @@
-// The chain call: refusals 1 to 7 and 9 to 12, a chain, or none.
+// The chain call: refusals 1 to 7 and 9 to 13, a chain, or none.
 use image::answer::Checked;
 use image::answer::Head;
 use image::word::MOST_SEQUENCES;

@@ -7,14 +7,15 @@ use native.Mathlib.Omega.{arith}
 use mathlib.Core.Path.{_≡_, refl, sym, ap, ap₂, _∙_}
 use mathlib.Core.Logic.{_↔_}
 use mathlib.Core.Bool.{Bool, true, false, not, _&&_, _||_, false≢true, true≢false}
-use lib.Bits.{bitOr, or-lt, and-le-l}
+use lib.Bits.{bitAnd, bitOr, or-lt, and-le-l}
 use lib.Count.{ones, ones-step}
 use lib.Dec.{eqb}
+use borrow.Author.Tests.{eqb-true, ne-eqb}
 use lib.Pow.{pow-mono, pow-pos}
 use mir.Val.{boolByte}
-use Rattle.column.specs.Column.{bit, column}
-use Rattle.column.specs.Sets.{difference, inColumn, countBelow}
-use Rattle.column.proofs.Bits.{bit-or, bit-and, bit-not, bit-high, column-lt, bit-column, column-is, column-same}
+use Rattle.column.specs.Column.{bit, column, withFact}
+use Rattle.column.specs.Sets.{difference, disjoint, inColumn, countBelow}
+use Rattle.column.proofs.Bits.{bit-le, bit-none, bit-or, bit-and, bit-not, bit-pow, bit-high, column-lt, bit-column, column-is, column-same}
 
 -- ---- tests as bits
 
@@ -106,7 +107,42 @@ pub in-column : (n : ℕ) (p : ℕ → Bool) (k : ℕ) → k < n → inColumn (c
 unfolding inColumn
 in-column n p k l = ap (λ (b : ℕ). eqb b 1) (bit-column n p k l) ∙ byte-test (p k)
 
+byte-eq : (b : ℕ) (c : Bool) → b ≡ boolByte c → eqb b 1 ≡ c
+byte-eq b c e = ap (λ (n : ℕ). eqb n 1) e ∙ byte-test c
+
+-- a column with one fact more, whatever its width
+pub in-with : (c f k : ℕ) → inColumn (withFact c f) k ≡ eqb f k || inColumn c k
+unfolding inColumn
+in-with c f k =
+    byte-eq (bit (withFact c f) k) (eqb f k || eqb (bit c k) 1)
+    (bit-or c (2 ^ f) k ∙ omega (arith, bit-pow f k, byte-or (eqb f k) (eqb (bit c k) 1), bit-byte))
+  where
+    low : (b : ℕ) → b ≤ 1 → b ≡ boolByte (eqb b 1)
+    low zero l = refl
+    low (suc zero) l = refl
+    low (suc (suc b)) l = absurd (omega arith)
+
+    bit-byte : bit c k ≡ boolByte (eqb (bit c k) 1)
+    bit-byte = low (bit c k) (bit-le c k)
+
+-- a fact of one of two columns without a fact in common is not in the other
+pub disjoint-in : (a b k : ℕ) → disjoint a b ≡ true → inColumn a k ≡ true → inColumn b k ≡ false
+unfolding inColumn
+disjoint-in a b k none held =
+    let both = bit-and a b k in
+    let zero-bit : bit (bitAnd a b) k ≡ 0 = ap (λ (n : ℕ). bit n k) (eqb-true (bitAnd a b) 0 none) ∙ bit-none k in
+    ne-eqb (bit b k) 1 (λ one. omega (arith, eqb-true (bit a k) 1 held))
+
+-- no fact is in the column 0
+pub in-none : (k : ℕ) → inColumn 0 k ≡ false
+unfolding inColumn
+in-none k = ap (λ (b : ℕ). eqb b 1) (bit-none k)
+
 -- no fact from the width on is in a column
+pub in-high : (w a k : ℕ) → a < 2 ^ w → w ≤ k → inColumn a k ≡ false
+unfolding inColumn
+in-high w a k l u = ap (λ (b : ℕ). eqb b 1) (bit-high w a k l u)
+
 pub column-high : (n : ℕ) (p : ℕ → Bool) (k : ℕ) → n ≤ k → bit (column n p) k ≡ 0
 column-high n p k l = bit-high n (column n p) k (column-lt n p) l
 

@@ -10,6 +10,10 @@ use Rattle.column.specs.Column.{bit}
 abbrev pub difference : ℕ → ℕ → ℕ → ℕ
 difference w a b = bitAnd a (2 ^ w - 1 - b)
 
+-- no fact is in both columns
+abbrev pub disjoint : ℕ → ℕ → Bool
+disjoint a b = eqb (bitAnd a b) 0
+
 -- fact f is in column a
 unfoldable pub inColumn : ℕ → ℕ → Bool
 unfolding bit

@@ -4,7 +4,7 @@ use Prim.Native.Nat.{_≤_}
 use native.Mathlib.Omega.{arith}
 use Rattle.image.specs.Answer.{refusalNumber, refusalAnswer}
 use Rattle.image.specs.declared.answer.Refusal.{Refusal}
-use Rattle.image.specs.declared.answer.Refusal.the-variants.{Length, SumWord, HeadWord, Kind, Payload, FactOrder, Missing, CardArea, Sequence, Question, Fact, ChainArea}
+use Rattle.image.specs.declared.answer.Refusal.the-variants.{Length, SumWord, HeadWord, Kind, Payload, FactOrder, Missing, CardArea, Sequence, Question, Fact, ChainArea, SetAndCleared}
 use Rattle.dulimoven.specs.Demands.{Refuses}
 
 -- every refusal has a number from 1 on, so that it is told by 2^32
@@ -21,6 +21,7 @@ number-low Sequence = omega arith
 number-low Question = omega arith
 number-low Fact = omega arith
 number-low ChainArea = omega arith
+number-low (SetAndCleared p) = omega arith
 
 pub refusal-high : (r : Refusal) → Refuses (refusalAnswer r)
 refusal-high r = omega (arith, number-low r)

@@ -40,7 +40,7 @@ Refuses n = 2 ^ 32 ≤ n
 
 pub record Demand1 (e : Engine) : Type 0 where
   -- "A caller may hand over every list of words, every area and every number, and the call ends with an acceptance, .. or the first refusal
-  -- in document 01 that applies"
+  -- in document 01 that applies"; "Demand 1 and document 01's list take in the answers that requests add": 13 beside 4 to 6
   pub check : (image : List ℕ) → e .check image ≡ checkedAnswer (checked image)
   -- "otherwise the head's payload from the check"
   pub head : (image : List ℕ) (h : Head) → checked image ≡ Checked.Accepted h → e .check image ≡ payload (firstWord image)

@@ -1,2 +1,2 @@
 pub mod Sum
-pub mod Entries
+pub mod Words

@@ -1,13 +1,14 @@
--- The numbers of the answers, as document 01 gives them: "For each case of an enum answer, a definition gives this paper's
+-- The numbers of the answers, as documents 01 and 02 give them: "For each case of an enum answer, a definition gives this paper's
 -- number and values."
 use Prim.Native.Nat.{ℕ, _+_, _*_, _^_}
 use Rattle.image.specs.declared.answer.Head.{Head}
 use Rattle.image.specs.declared.answer.Refusal.{Refusal}
-use Rattle.image.specs.declared.answer.Refusal.the-variants.{Length, SumWord, HeadWord, Kind, Payload, FactOrder, Missing, CardArea, Sequence, Question, Fact, ChainArea}
+use Rattle.image.specs.declared.answer.Refusal.the-variants.{Length, SumWord, HeadWord, Kind, Payload, FactOrder, Missing, CardArea, Sequence, Question, Fact, ChainArea, SetAndCleared}
 use Rattle.image.specs.declared.answer.Checked.{Checked}
 use Rattle.image.specs.declared.answer.Checked.the-variants.{Accepted, Refused}
 
--- "Turned down, in checking order"
+-- "Turned down, in checking order"; document 02: "Demand 1 and document 01's list take in the answers that requests add". 13 comes
+-- after 6 in that order
 abbrev pub refusalNumber : Refusal → ℕ
 refusalNumber Length = 1
 refusalNumber (SumWord p) = 2
@@ -21,8 +22,10 @@ refusalNumber Sequence = 9
 refusalNumber Question = 10
 refusalNumber Fact = 11
 refusalNumber ChainArea = 12
+refusalNumber (SetAndCleared p) = 13
 
--- "a word position counted from 0; from 8 on the position is 0". 1 and 3 have "position 0"
+-- "a word position counted from 0; from 8 on the position is 0". 1 and 3 have "position 0". Document 02 says of 13 "at the clear
+-- word", and is the later statement
 abbrev pub refusalPosition : Refusal → ℕ
 refusalPosition Length = 0
 refusalPosition (SumWord p) = p
@@ -36,6 +39,7 @@ refusalPosition Sequence = 0
 refusalPosition Question = 0
 refusalPosition Fact = 0
 refusalPosition ChainArea = 0
+refusalPosition (SetAndCleared p) = p
 
 -- "N × 2^32 + P for refusal N at position P"
 abbrev pub refusalAnswer : Refusal → ℕ

@@ -15,7 +15,7 @@ pub struct Head {
     pub sequences: u32,
 }
 
-// The refusals of document 01, 1 to 12 in its order. The number that a case carries is the position of a word.
+// The refusals of document 01, 1 to 12 in its order, and those that requests add. The number that a case carries is the position of a word.
 pub enum Refusal {
     // 1. fewer than 2 or more than 8,192 words
     Length,
@@ -41,6 +41,8 @@ pub enum Refusal {
     Fact,
     // 12. a chain exists but has more words than the chain area
     ChainArea,
+    // 13. a clear word for a fact that an earlier word of the same step sets
+    SetAndCleared(u32),
 }
 
 // What the check finds: the head of a library, or the first refusal that applies.
@@ -49,7 +51,7 @@ pub enum Checked {
     Refused(Refusal),
 }
 
-// Document 01's number of a refusal.
+// The number of a refusal, as the documents give it.
 pub fn number(refusal: Refusal) -> u64
     ensures { λ r. ⌜ (r ≡ refusalNumber refusal) × (r < 2 ^ 32) ⌝ }
 {
@@ -66,6 +68,7 @@ pub fn number(refusal: Refusal) -> u64
         Refusal::Question => 10,
         Refusal::Fact => 11,
         Refusal::ChainArea => 12,
+        Refusal::SetAndCleared(_) => 13,
     }
 }
 
@@ -86,6 +89,7 @@ pub fn position(refusal: Refusal) -> u32
         Refusal::Question => 0,
         Refusal::Fact => 0,
         Refusal::ChainArea => 0,
+        Refusal::SetAndCleared(p) => p,
     }
 }
 

@@ -1,104 +1,46 @@
 -- What acceptance says, proved from the check's definition: no word has a fault, each part holds its own kinds of words with their
 -- numbers, and the library is counted as the head says.
--- It has, in this order: answers that are no refusal; a word without a fault; the words of either part; the numbers of openers and how many
--- there are; the parts of the words between; the library's steps and entries; and of an accepted image `faultless`, `parts`, `counted`,
--- `library-is`, `steps-below` and `alternatives-named`, which are what other crates cite. How large a library can be stands in Sizes, where
--- its parts meet in Seam.
+-- It has, in this order: where a word may stand; the words of either part; the numbers of openers and how many there are; the parts of the
+-- words between; the library's steps and entries; and of an accepted image `faultless`, `parts`, `counted`, `library-is`, `steps-below` and
+-- `alternatives-named`, which are what other crates cite. What a passed test says stands in Passed, that no step clears what it sets in
+-- Apart, how large a library can be in Sizes, where its parts meet in Seam.
 -- Assumes nothing.
 use Prim.Native.Nat.{ℕ, zero, suc, _+_, _-_, _/_, _^_, _≤_, _<_}
 use native.Mathlib.Nat.{le-of-suc-le-suc, add-zero, zero-add}
 use native.Mathlib.Omega.{arith}
 use mathlib.Core.Path.{_≡_, refl, sym, ap, ap₂, _∙_}
-use mathlib.Core.Bool.{Bool, true, false, cond, _&&_, _||_, false≢true}
+use mathlib.Core.Bool.{Bool, true, false, cond, _&&_, _||_}
 use mathlib.Core.Logic.{_⊎_, inl, inr, ⊎-elim}
 use mathlib.Core.List.{List, [], _∷_, _++_, append-nil}
 use lib.ListN.{length, getD, take, length-append, length-take, List·getD-append}
 use lib.Seq.{take-append-le, append-snoc, take-take, getD-take}
 use lib.Dec.{leb, ltb, eqb}
-use borrow.Author.Tests.{leb-true, ltb-true, eqb-true, eqb-false, ltb-false}
+use borrow.Author.Tests.{leb-true, ltb-true, eqb-true, eqb-false}
 use mir.Val.{boolByte}
 use Rattle.image.specs.Word.{kind, payload, isKind, isFact, isEntry, headOf, headRight, sumRight}
-use Rattle.rules.specs.Rules.{opened, earlier, mayStand, whereKind, payloadRight, inOrder, faultAt}
+use Rattle.rules.specs.Rules.{opened, earlier, mayStand, faultAt}
 use Rattle.rules.specs.Quick.{after}
-use Rattle.rules.specs.Checked.{atWord, scan, allButLast, between, firstWord, lastWord, checked}
+use Rattle.rules.specs.Checked.{scan, allButLast, between, firstWord, lastWord, checked}
 use Rattle.rules.specs.Walk.{walk, opening}
 use Rattle.library.specs.Library.{step, item, call, factsFrom, stepsFrom, alternativesFrom, sequencesFrom, beforeSequences, fromSequences, stepsPart, sequencesPart, libraryOf}
 use Rattle.library.specs.Walk.{entryOf}
 use Rattle.general.specs.Tests.{All}
 use Rattle.library.specs.Accepted.{Faultless, StepWord, SequenceWord, Parts, Named, Below, Counted}
 use Rattle.image.specs.declared.answer.Head.{Head}
-use Rattle.image.specs.declared.answer.Refusal.{Refusal}
-use Rattle.image.specs.declared.answer.Refusal.the-variants.{Length, SumWord, HeadWord, Missing}
-use Rattle.image.specs.declared.answer.Checked.{Checked}
-use Rattle.image.specs.declared.answer.Checked.the-variants.{Accepted, Refused}
+use Rattle.image.specs.declared.answer.Refusal.the-variants.{Length, SumWord, HeadWord}
+use Rattle.image.specs.declared.answer.Checked.the-variants.{Accepted}
 use Rattle.rules.specs.declared.rules.Earlier.{Earlier}
-use Rattle.rules.specs.declared.rules.Fault.{Fault}
-use Rattle.rules.specs.declared.rules.Fault.the-variants.{Found, Nothing}
+use Rattle.rules.specs.declared.rules.Fault.the-variants.{Nothing}
 use Rattle.general.proofs.Bools.{and-left, and-right, or-cases, or-five, and-six}
-use Rattle.image.proofs.Entries.{entry-kinds}
-use Rattle.library.proofs.Decode.{is, is-not, kind-is, alternatives-all, parts-opened, parts-joined, steps-length, sequences-length}
+use Rattle.image.proofs.Words.{fact-kind, entry-kinds}
+use Rattle.library.proofs.Decode.{is-not, kind-is, alternatives-all, parts-opened, parts-joined, steps-length, sequences-length}
 use Rattle.rules.proofs.Checked.{checked-walk}
+use Rattle.rules.proofs.Faultless.{Fine, fine, payloads}
+use Rattle.library.proofs.Passed.{passed, passed-word, walk-cons, walk-nil}
+use Rattle.library.proofs.Apart.{steps-apart}
 use Rattle.library.proofs.Seam.{length-between}
 
--- ---- an answer that is no refusal
-
-refused-accepted : {r : Refusal} {h : Head} → Refused r ≡ Accepted h → ⊥
-refused-accepted {r} {h} e = let z : _≡_ {A = ℕ} 0 1 = cc in omega arith
-
-same-head : {h g : Head} → Accepted h ≡ Accepted g → h ≡ g
-same-head e = cc
-
--- a test that refuses where it fails
-passed : (b : Bool) (x : Checked) (r : Refusal) (h : Head) → cond b x (Refused r) ≡ Accepted h → (b ≡ true) × (x ≡ Accepted h)
-passed true x r h e = (refl, e)
-passed false x r h e = absurd (refused-accepted e)
-
-passed-not : (b : Bool) (r : Refusal) (g h : Head) → cond b (Refused r) (Accepted g) ≡ Accepted h → (b ≡ false) × (g ≡ h)
-passed-not true r g h e = absurd (refused-accepted e)
-passed-not false r g h e = (refl, same-head e)
-
-passed-word : (f : Fault) (x : Checked) (h : Head) → atWord f x ≡ Accepted h → (f ≡ Nothing) × (x ≡ Accepted h)
-passed-word (Found r) x h e = absurd (refused-accepted e)
-passed-word Nothing x h e = (refl, e)
-
-walk-cons : (h : Head) (e : Earlier) (p w : ℕ) (ws : List ℕ) (g : Head) → walk h e p (w ∷ ws) ≡ Accepted g
-    → (faultAt h e p w ≡ Nothing) × (walk h (after e w) (suc p) ws ≡ Accepted g)
-unfolding walk
-walk-cons h e p w ws g a = passed-word (faultAt h e p w) (walk h (after e w) (suc p) ws) g a
-
-or-false : (a b : Bool) → a || b ≡ false → (a ≡ false) × (b ≡ false)
-or-false true b e = absurd (false≢true (sym e))
-or-false false b e = (refl, e)
-
-walk-nil : (h : Head) (e : Earlier) (p : ℕ) (g : Head) → walk h e p [] ≡ Accepted g
-    → (h ≡ g) × (h .steps ≤ e .steps) × (h .sequences ≤ e .sequences)
-unfolding walk
-walk-nil h e p g a =
-    let n = passed-not (ltb (e .steps) (h .steps) || ltb (e .sequences) (h .sequences)) (Missing p) h g a in
-    let o = or-false (ltb (e .steps) (h .steps)) (ltb (e .sequences) (h .sequences)) (n .0) in
-    (n .1, ltb-false _ _ (o .0), ltb-false _ _ (o .1))
-
--- ---- a word without a fault
-
-record Fine (h : Head) (e : Earlier) (w : ℕ) : Type 0 where
-  stands : mayStand h e w ≡ true
-  pays : payloadRight h e w ≡ true
-  follows : inOrder e w ≡ true
-
-found-nothing : {r : Refusal} → Found r ≡ Nothing → ⊥
-found-nothing {r} e = let z : _≡_ {A = ℕ} 0 1 = cc in omega arith
-
-all-kept : (a b c : Bool) (x y z : Refusal) → cond a (cond b (cond c Nothing (Found z)) (Found y)) (Found x) ≡ Nothing
-    → (a ≡ true) × (b ≡ true) × (c ≡ true)
-all-kept true true true x y z e = (refl, refl, refl)
-all-kept true true false x y z e = absurd (found-nothing e)
-all-kept true false c x y z e = absurd (found-nothing e)
-all-kept false b c x y z e = absurd (found-nothing e)
-
-fine : (h : Head) (e : Earlier) (p w : ℕ) → faultAt h e p w ≡ Nothing → Fine h e w
-fine h e p w n =
-    let k = all-kept (mayStand h e w) (payloadRight h e w) (inOrder e w) _ _ _ n in
-    record { stands = k .0; pays = k .1; follows = k .2 }
+-- ---- where a word may stand
 
 -- which clause of the rule for kinds lets a word stand
 data Place (h : Head) (e : Earlier) (w : ℕ) : Type 0 where
@@ -125,46 +67,8 @@ place h e w s = go (or-five (isFact w && after-step) (isKind 5 w && eqb (e .sequ
     go (inr (inr (inr (inl t)))) = alternative-opener (kind-is 7 w (and-left (isKind 7 w) _ t)) (ltb-true _ _ (and-right (isKind 7 w) _ t))
     go (inr (inr (inr (inr t)))) = entry-word (and-left (isEntry w) after-entry t) (and-right (isEntry w) after-entry t)
 
-fact-kind : (w : ℕ) → isFact w ≡ true → (2 ≤ kind w) × (kind w ≤ 4)
-fact-kind w s =
-    ⊎-elim
-    (λ s. ⊎-elim (λ s. omega (arith, kind-is 2 w s)) (λ s. omega (arith, kind-is 3 w s)) (or-cases (isKind 2 w) (isKind 3 w) s))
-    (λ s. omega (arith, kind-is 4 w s))
-    (or-cases (isKind 2 w || isKind 3 w) (isKind 4 w) s)
-
 entry-kind : (w : ℕ) → isEntry w ≡ true → (8 ≤ kind w) × (kind w ≤ 9)
 entry-kind w s = ⊎-elim (λ s. omega (arith, kind-is 8 w s)) (λ s. omega (arith, kind-is 9 w s)) (or-cases (isKind 8 w) (isKind 9 w) s)
-
--- the rule holds of a word of that kind
-rule : (b r : Bool) → whereKind b r ≡ true → b ≡ true → r ≡ true
-rule true r e q = e
-rule false r e q = absurd (false≢true q)
-
-record Payloads (h : Head) (e : Earlier) (w : ℕ) : Type 0 where
-  step : kind w ≡ 5 → (payload w ≡ e .steps) × (payload w < h .steps)
-  sequence : kind w ≡ 6 → (payload w ≡ e .sequences) × (payload w < h .sequences)
-  names-step : kind w ≡ 8 → payload w < h .steps
-  names-sequence : kind w ≡ 9 → payload w < h .sequences
-  fact : isFact w ≡ true → payload w < h .facts
-
-payloads : (h : Head) (e : Earlier) (w : ℕ) → payloadRight h e w ≡ true → Payloads h e w
-payloads h e w s =
-    let p = payload w in
-    let five = eqb p (e .steps) && ltb p (h .steps) in
-    let six = eqb p (e .sequences) && ltb p (h .sequences) in
-    let t =
-    and-six (whereKind (isKind 5 w) five) (whereKind (isKind 6 w) six) (whereKind (isKind 8 w) (ltb p (h .steps)))
-    (whereKind (isKind 9 w) (ltb p (h .sequences))) (whereKind (isFact w) (ltb p (h .facts))) (whereKind (isKind 7 w) (eqb p 0)) s in
-    let opens-step : kind w ≡ 5 → five ≡ true = λ k. rule (isKind 5 w) five (t .0) (is 5 w k) in
-    let opens-sequence : kind w ≡ 6 → six ≡ true = λ k. rule (isKind 6 w) six (t .1) (is 6 w k) in
-    record {
-      step = λ k. (eqb-true _ _ (and-left (eqb p (e .steps)) _ (opens-step k)), ltb-true _ _ (and-right (eqb p (e .steps)) _ (opens-step k)));
-      sequence =
-          λ k. (eqb-true _ _ (and-left (eqb p (e .sequences)) _ (opens-sequence k)), ltb-true _ _ (and-right (eqb p (e .sequences)) _ (opens-sequence k)));
-      names-step = λ k. ltb-true _ _ (rule (isKind 8 w) (ltb p (h .steps)) (t .2) (is 8 w k));
-      names-sequence = λ k. ltb-true _ _ (rule (isKind 9 w) (ltb p (h .sequences)) (t .3) (is 9 w k));
-      fact = λ k. ltb-true _ _ (rule (isFact w) (ltb p (h .facts)) (t .4) k);
-    }
 
 -- ---- the words of the two parts
 
@@ -482,13 +386,14 @@ module _ (image : List ℕ) (h : Head) (a : checked image ≡ Accepted h) where
       }
 
   pub counted : Counted (libraryOf image) h
-  unfolding libraryOf
+  unfolding libraryOf stepsPart
   counted =
       record {
         facts = ap (λ (g : Head). g .facts) (sym head-is);
         steps = steps-length (stepsPart image) ∙ parts .steps-opened;
         sequences = sequences-length (sequencesPart image) ∙ parts .sequences-opened;
         below = steps-below h (stepsPart image) (parts .steps);
+        apart = steps-apart h (opening (firstWord image)) 1 (between image) h walks;
         named = sequences-named h (sequencesPart image) (parts .sequences);
       }
 

@@ -12,14 +12,14 @@ use mathlib.Core.Path.{_≡_, refl, sym, ap, _∙_, subst}
 use mathlib.Core.Bool.{Bool, true, false, cond, _||_}
 use mathlib.Core.List.{List, [], _∷_, _++_}
 use lib.ListN.{length, getD, take, drop}
-use borrow.Author.Tests.{eq-eqb, ne-eqb, eqb-true, eqb-false}
+use borrow.Author.Tests.{eq-eqb, ne-eqb, eqb-true}
 use mir.Val.{boolByte}
-use Rattle.image.specs.Word.{kind, payload, isKind, isFact, isEntry}
+use Rattle.image.specs.Word.{kind, payload, isKind, isEntry}
 use Rattle.rules.specs.Rules.{opened}
 use Rattle.general.specs.Tests.{All}
 use Rattle.library.specs.Library.{has, Step, Entry, step, item, call, factsFrom, stepsFrom, entriesFrom, alternativesFrom, sequencesFrom, beforeSequences, fromSequences}
 use Rattle.library.specs.Walk.{entryOf}
-use Rattle.image.proofs.Entries.{entry-high}
+use Rattle.image.proofs.Words.{fact-of, entry-high}
 
 -- ---- kinds
 
@@ -34,15 +34,6 @@ kind-is k w e = eqb-true (kind w) k e
 
 pub entry-opens-none : (w : ℕ) → isEntry w ≡ true → isKind 7 w ≡ false
 entry-opens-none w e = is-not 7 w (λ q. omega (arith, entry-high w e))
-
-pub fact-of : (w : ℕ) → 2 ≤ kind w → kind w ≤ 4 → isFact w ≡ true
-fact-of w l u = go (isKind 2 w) (isKind 3 w) (isKind 4 w) refl refl refl
-  where
-    go : (a b c : Bool) → isKind 2 w ≡ a → isKind 3 w ≡ b → isKind 4 w ≡ c → a || b || c ≡ true
-    go true b c p q r = refl
-    go false true c p q r = refl
-    go false false true p q r = refl
-    go false false false p q r = absurd (omega (arith, eqb-false (kind w) 2 p, eqb-false (kind w) 3 q, eqb-false (kind w) 4 r))
 
 -- ---- facts of a list
 

@@ -1,4 +1,6 @@
 pub mod Decode
+pub mod Passed
+pub mod Apart
 pub mod Seam
 pub mod Accepted
 pub mod Lookup

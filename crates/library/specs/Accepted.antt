@@ -2,6 +2,7 @@
 -- these records, and `proofs/Accepted` proves each of an accepted image.
 use Prim.Native.Nat.{ℕ, _+_, _-_, _≤_, _<_}
 use mathlib.Core.Path.{_≡_}
+use mathlib.Core.Bool.{false, _&&_}
 use mathlib.Core.List.{List, []}
 use lib.ListN.{length, getD, take}
 use Rattle.general.specs.Tests.{All}
@@ -9,7 +10,7 @@ use Rattle.image.specs.Word.{kind, payload, headOf}
 use Rattle.image.specs.Answer.{headPayload}
 use Rattle.rules.specs.Rules.{opened, earlier, faultAt}
 use Rattle.rules.specs.Checked.{firstWord}
-use Rattle.library.specs.Library.{Step, Entry, step, item, call, Library, stepsPart, sequencesPart}
+use Rattle.library.specs.Library.{Step, has, Entry, step, item, call, Library, stepsPart, sequencesPart}
 use Rattle.image.specs.declared.answer.Head.{Head}
 use Rattle.rules.specs.declared.rules.Fault.the-variants.{Nothing}
 
@@ -61,12 +62,18 @@ Named h (call c) = c < h .sequences
 abbrev pub Below : ℕ → Step → Type 0
 Below n s = All (λ (f : ℕ). f < n) (s .needs) × All (λ (f : ℕ). f < n) (s .sets) × All (λ (f : ℕ). f < n) (s .clears)
 
--- the library has A steps and C sequences, every fact is below F, every entry names something that the head counts
+-- no fact is among a step's sets and its clears: "a step that sets and clears one fact .. is refused"
+abbrev pub Apart : Step → Type 0
+Apart s = (f : ℕ) → has f (s .sets) && has f (s .clears) ≡ false
+
+-- the library has A steps and C sequences, every fact is below F, no step clears what it sets, every entry names something that the
+-- head counts
 pub record Counted (l : Library) (h : Head) : Type 0 where
   pub facts : l .facts ≡ h .facts
   pub steps : length (l .steps) ≡ h .steps
   pub sequences : length (l .sequences) ≡ h .sequences
   pub below : All (Below (h .facts)) (l .steps)
+  pub apart : All Apart (l .steps)
   pub named : All (All (All (Named h))) (l .sequences)
 
 -- no sequence has as many alternatives, and no alternative as many entries, as an image may have words

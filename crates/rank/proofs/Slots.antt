@@ -12,7 +12,7 @@ use borrow.Author.Tests.{eqb-true, eqb-false}
 use Rattle.image.specs.Word.{kind, payload, isKind, isEntry}
 use Rattle.library.specs.Library.{step, item, call}
 use Rattle.library.specs.Walk.{entryOf}
-use Rattle.image.proofs.Entries.{entry-kinds}
+use Rattle.image.proofs.Words.{entry-kinds}
 use Rattle.rank.specs.Tables.{slotOf, rankIn, RankWithin, markOf, stepMark, stepRank, Stepped, Steppable}
 use Rattle.question.specs.declared.asked.Asked.{Asked}
 use Rattle.general.proofs.Scan.{getD-inside}

@@ -1,30 +1,35 @@
 -- Laws of the walk: one word, the way out at a fault, the end.
 -- Assumes nothing.
-use Prim.Native.Nat.{ℕ, _+_, _≤_, _<_}
+use Prim.Native.Nat.{ℕ, _+_, _-_, _*_, _^_, _≤_, _<_}
 use native.Mathlib.Nat.{add-zero}
 use native.Mathlib.Omega.{arith}
 use native.Mathlib.Numerals.{add-one}
 use mathlib.Core.Path.{_≡_, refl, sym, ap, ap₂, _∙_, subst}
 use mathlib.Core.List.{List}
 use lib.ListN.{length, getD, drop}
-use mathlib.Core.Bool.{true}
+use mathlib.Core.Bool.{Bool, true, false, cond}
+use mathlib.Core.Logic.{_⊎_, inl, inr, ⊎-elim}
+use lib.Dec.{eqb}
+use borrow.Author.Tests.{eq-eqb, ne-eqb, eqb-true}
 use lib.Seq.{drop-cons, drop-length}
-use Rattle.image.specs.Word.{isKind}
-use Rattle.rules.specs.Rules.{opened, faultAt}
-use Rattle.rules.specs.Quick.{bodyRight, insideRight, factAbove, after, withLast, inAlternative}
+use Rattle.column.specs.Column.{withFact}
+use Rattle.column.specs.Sets.{inColumn}
+use Rattle.column.proofs.Operations.{in-with}
+use Rattle.image.specs.Word.{kind, payload, isKind}
+use Rattle.rules.specs.Rules.{setsAfter, faultAt}
+use Rattle.rules.specs.Quick.{bodyRight, insideRight, Counts, FactFollows, after, further, withLast, inAlternative}
 use Rattle.rules.specs.Checked.{atWord}
 use Rattle.rules.specs.Walk.{ended, walk}
-use Rattle.reader.specs.Readers.{BodyRead, FourRight}
+use Rattle.reader.specs.Readers.{Unset, Read, KindRead, FourRight}
 use Rattle.image.specs.declared.answer.Head.{Head}
 use Rattle.image.specs.declared.answer.Refusal.{Refusal}
 use Rattle.image.specs.declared.answer.Checked.{Checked}
 use Rattle.image.specs.declared.answer.Checked.the-variants.{Refused}
-use Rattle.reader.specs.declared.check.Body.{Body}
 use Rattle.rules.specs.declared.rules.Earlier.{Earlier}
 use Rattle.rules.specs.declared.rules.Fault.{Fault}
 use Rattle.rules.specs.declared.rules.Fault.the-variants.{Found, Nothing}
-use Rattle.general.proofs.Bools.{byte-le}
-use Rattle.rules.proofs.Right.{Passing, body-passing, body-follows, inside-body, Above, above-fact, fact-passing}
+use Rattle.general.proofs.Bools.{byte-le, or-left, or-right}
+use Rattle.rules.proofs.Right.{Passing, body-passing, body-follows, inside-body, fact-passing}
 
 walk-drop : (h : Head) (e : Earlier) (p i : ℕ) (ws : List ℕ) → i < length ws
     → walk h e p (drop i ws) ≡ atWord (faultAt h e p (getD ws i 0)) (walk h (after e (getD ws i 0)) (p + 1) (drop (i + 1) ws))
@@ -67,56 +72,103 @@ module _ (h : Head) (e₀ : Earlier) (p₀ : ℕ) (part : List ℕ) where
 
 -- ---- a step's or a sequence's words
 
--- what holds at the head of a loop over them
-pub record Skipping (h : Head) (part : List ℕ) (e : Earlier) (at last i : ℕ) : Type 0 where
-  pub low : at ≤ i
-  pub within : i ≤ length part
-  pub same : (p : ℕ) → walk h e (p + at) (drop at part) ≡ walk h (withLast e last) (p + i) (drop i part)
+-- what a reader promises holds at the head of its loop too
+pub read-start : (h : Head) (part : List ℕ) (e : Earlier) (at : ℕ) → at ≤ length part → Read h part e at e at
+read-start h part e at l = record { low = omega arith; within = l; same = λ p. refl }
 
-pub skipping-start : (h : Head) (part : List ℕ) (e : Earlier) (at : ℕ) → at ≤ length part → Skipping h part e at (e .last) at
-skipping-start h part e at l = record { low = omega arith; within = l; same = λ p. refl }
-
-pub skipping-turn : (h : Head) (part : List ℕ) (e : Earlier) (at last i : ℕ) → i < length part → Passing h e last (getD part i 0)
-    → Skipping h part e at last i → Skipping h part e at (getD part i 0) (i + 1)
-skipping-turn h part e at last i l passing here =
+pub read-turn : (h : Head) (part : List ℕ) (e : Earlier) (at : ℕ) (now then : Earlier) (i : ℕ) → i < length part
+    → Passing h now (getD part i 0) then → Read h part e at now i → Read h part e at then (i + 1)
+read-turn h part e at now then i l passing here =
     record {
       low = omega (arith, here .low);
       within = omega arith;
       same = λ p.
           let w = getD part i 0 in
           let next : p + i + 1 ≡ p + (i + 1) = omega arith in
-          here .same p ∙ walk-drop h (withLast e last) (p + i) i part l
-          ∙ ap (λ (f : Fault). atWord f (walk h (after (withLast e last) w) (p + i + 1) (drop (i + 1) part))) (sym (passing .faultless (p + i)))
-          ∙ ap₂ (λ (x : Earlier) (n : ℕ). walk h x n (drop (i + 1) part)) (passing .opens) next;
+          here .same p ∙ walk-drop h now (p + i) i part l
+          ∙ ap (λ (f : Fault). atWord f (walk h (after now w) (p + i + 1) (drop (i + 1) part))) (sym (passing .faultless (p + i)))
+          ∙ ap₂ (λ (x : Earlier) (n : ℕ). walk h x n (drop (i + 1) part)) (passing .past) next;
     }
 
 -- words that another reader passed by, from the loop's place on
-pub skipping-read : (h : Head) (part : List ℕ) (e : Earlier) (at last i : ℕ) (r : Body) → Skipping h part e at last i
-    → BodyRead h part (withLast e last) i r → Skipping h part e at (r .last) (r .next)
-skipping-read h part e at last i r here read =
-    record { low = omega (arith, here .low, read .low); within = read .within; same = λ p. here .same p ∙ read .same p }
+pub read-on : (h : Head) (part : List ℕ) (e : Earlier) (at : ℕ) (now : Earlier) (i : ℕ) (then : Earlier) (j : ℕ)
+    → Read h part e at now i → Read h part now i then j → Read h part e at then j
+read-on h part e at now i then j here more =
+    record { low = omega (arith, here .low, more .low); within = more .within; same = λ p. here .same p ∙ more .same p }
 
-pub skipping-stop : (h : Head) (part : List ℕ) (e : Earlier) (at last i : ℕ) → Skipping h part e at last i
-    → BodyRead h part e at (record { last = last; next = i })
-skipping-stop h part e at last i here = record { low = here .low; within = here .within; same = here .same }
+-- the loop over fact words of kind k: what is promised of them so far, and that a word of that kind above `low` may follow
+pub record KindLoop (h : Head) (part : List ℕ) (k last from at l facts low i : ℕ) : Type 0 where
+  pub read : KindRead h part k last from at (record { last = l; facts = facts; next = i })
+  pub room : k * 2 ^ 28 ≤ low + 1
+  pub above : FactFollows l k ⊎ ((kind l ≡ k) × (l ≡ low))
 
--- the loop over a step's fact words, of which each must be above `low`
-pub record Facts (h : Head) (part : List ℕ) (last at l low i : ℕ) : Type 0 where
-  pub read : (e : Earlier) → Skipping h part (withLast e last) at l i
-  pub above : Above l low
+-- what the step sets at first, and after one fact word more
+sets-first : (k from sets : ℕ) → (k ≡ 3 → sets ≡ from) → sets ≡ cond (eqb k 3) from sets
+sets-first k from sets same = go (eqb k 3) refl
+  where
+    go : (b : Bool) → eqb k 3 ≡ b → sets ≡ cond b from sets
+    go true three = same (eqb-true k 3 three)
+    go false three = refl
 
-pub facts-turn : (h : Head) (part : List ℕ) (last at l low i : ℕ) → i < length part → factAbove h low (getD part i 0) ≡ true
-    → Facts h part last at l low i → Facts h part last at (getD part i 0) (getD part i 0) (i + 1)
-facts-turn h part last at l low i lt right here =
-    let w = getD part i 0 in
-    record {
-      read = λ e. skipping-turn h part (withLast e last) at l i lt (fact-passing h l low w (here .above) right (withLast e last)) (here .read e);
-      above = above-fact h l low w (here .above) right;
-    }
+sets-next : (k facts sets w : ℕ) → k ≤ 4 → kind w ≡ k
+    → setsAfter (cond (eqb k 3) facts sets) w ≡ cond (eqb k 3) (withFact facts (payload w)) sets
+sets-next k facts sets w high is =
+    rw (ne-eqb (kind w) 5 (λ five. omega arith)) (ap (λ (n : ℕ). cond (eqb n 3) (withFact before (payload w)) before) is ∙ go (eqb k 3))
+  where
+    before : ℕ
+    before = cond (eqb k 3) facts sets
+
+    go : (b : Bool) → cond b (withFact (cond b facts sets) (payload w)) (cond b facts sets) ≡ cond b (withFact facts (payload w)) sets
+    go true = refl
+    go false = refl
+
+module _ (h : Head) (part : List ℕ) (k last from at : ℕ) (low : 2 ≤ k) (high : k ≤ 4) where
+  pub kind-start : at ≤ length part → FactFollows last k → KindLoop h part k last from at last from (k * 2 ^ 28 - 1) at
+  kind-start l follows =
+      record {
+        read =
+            record {
+              read = λ e sets same none.
+                  subst (λ (s : ℕ). Read h part (further e last sets) at (further e last s) at) (sets-first k from sets same)
+                  (read-start h part (further e last sets) at l);
+              follows = ⊎-elim inl (λ below. inr (below .0, omega arith)) follows;
+            };
+        room = omega arith;
+        above = inl follows;
+      }
+
+  pub kind-turn : (l facts below i : ℕ) → Counts h → i < length part → below < getD part i 0 → getD part i 0 < k * 2 ^ 28 + h .facts
+      → KindLoop h part k last from at l facts below i
+      → KindLoop h part k last from at (getD part i 0) (withFact facts (getD part i 0 - k * 2 ^ 28)) (getD part i 0) (i + 1)
+  kind-turn l facts below i counts lt more less here =
+      let w = getD part i 0 in
+      let is : kind w ≡ k = omega (arith, counts .facts, here .room) in
+      let fact : w - k * 2 ^ 28 ≡ payload w = omega (arith, counts .facts, here .room) in
+      let counted : payload w < h .facts = omega (arith, counts .facts, here .room) in
+      rw fact
+      (record {
+        read =
+            record {
+              read = λ e sets same none.
+                  let before = cond (eqb k 3) facts sets in
+                  let mine : inColumn (withFact facts (payload w)) (payload w) ≡ true =
+                  in-with facts (payload w) (payload w) ∙ or-left (eqb (payload w) (payload w)) (inColumn facts (payload w)) (eq-eqb (payload w) (payload w) refl) in
+                  let unset : k ≡ 4 → inColumn before (payload w) ≡ false = λ four. rw four (none four (payload w) mine) in
+                  let fewer : Unset sets (withFact facts (payload w)) → Unset sets facts =
+                  λ u f held. u f (in-with facts (payload w) f ∙ or-right (eqb (payload w) f) (inColumn facts f) held) in
+                  let follows : FactFollows l k ⊎ ((kind l ≡ k) × (l < w)) = ⊎-elim inl (λ same. inr (same .0, omega arith)) (here .above) in
+                  subst (λ (s : ℕ). Read h part (further e last sets) at (further e w s) (i + 1)) (sets-next k facts sets w high is)
+                  (read-turn h part (further e last sets) at (further e l before) (further e w (setsAfter before w)) i lt
+                  (fact-passing h k l w low high is counted follows e before unset) (here .read .read e sets same (λ four. fewer (none four))));
+              follows = inr (omega arith);
+            };
+        room = omega arith;
+        above = inr (is, refl);
+      })
 
 -- the loop over a sequence's words, four at a time
 pub record Fours (h : Head) (part : List ℕ) (last at l i : ℕ) : Type 0 where
-  pub read : (e : Earlier) → 0 < e .sequences → Skipping h part (withLast e last) at l i
+  pub read : (e : Earlier) → 0 < e .sequences → Read h part (withLast e last) at (withLast e l) i
   pub follows : inAlternative l ≡ true
 
 module _ (h : Head) (part : List ℕ) (last at : ℕ) where
@@ -125,11 +177,11 @@ module _ (h : Head) (part : List ℕ) (last at : ℕ) where
   one-turn l i j lt next right here =
       let w = getD part i 0 in
       let body : (e : Earlier) → 0 < e .sequences → bodyRight h e l w ≡ true = λ e opened. inside-body h e l w opened (here .follows) right in
-      let one : Earlier = record { steps = 0; sequences = 1; last = l } in
+      let one : Earlier = record { steps = 0; sequences = 1; last = l; sets = 0 } in
       record {
         read = λ e opened.
-            subst (Skipping h part (withLast e last) at w) next
-            (skipping-turn h part (withLast e last) at l i lt (body-passing h (withLast e last) l w (body (withLast e last) opened)) (here .read e opened));
+            subst (Read h part (withLast e last) at (withLast e w)) next
+            (read-turn h part (withLast e last) at (withLast e l) (withLast e w) i lt (body-passing h e l w (body e opened)) (here .read e opened));
         follows = body-follows h one l w (body one (omega arith));
       }
 
@@ -142,9 +194,9 @@ module _ (h : Head) (part : List ℕ) (last at : ℕ) where
       (one-turn l i (i + 1) (omega arith) refl (right .first) here)))
 
 -- a loop that reads on after them
-pub reading-body : (h : Head) (e₀ : Earlier) (p₀ : ℕ) (part : List ℕ) (e : Earlier) (i : ℕ) (r : Body) → Reading h e₀ p₀ part e i
-    → BodyRead h part e i r → Reading h e₀ p₀ part (withLast e (r .last)) (r .next)
-reading-body h e₀ p₀ part e i r here read =
+pub reading-on : (h : Head) (e₀ : Earlier) (p₀ : ℕ) (part : List ℕ) (e : Earlier) (i last sets next : ℕ) → Reading h e₀ p₀ part e i
+    → Read h part e i (further e last sets) next → Reading h e₀ p₀ part (further e last sets) next
+reading-on h e₀ p₀ part e i last sets next here read =
     record {
       within = read .within;
       steps = omega (arith, here .steps, read .low);

@@ -1,12 +1,18 @@
-// The check: refusals 1 to 7. The steps' part and the sequences' part are each read as a part of the image that begins in its middle.
+// The check: refusals 1 to 7 and 13. The steps' part and the sequences' part are each read as a part of the image that begins in its middle.
+use column::sets::apart;
+use column::with_fact;
 use image::answer::Checked;
 use image::answer::Head;
 use image::answer::Refusal;
 use image::word::AT_ONCE;
 use image::word::FEWEST_WORDS;
+use image::word::KIND_CLEARS;
+use image::word::KIND_NEEDS;
 use image::word::KIND_SEQUENCE;
+use image::word::KIND_SETS;
 use image::word::KIND_STEP;
 use image::word::MOST_WORDS;
+use image::word::PAYLOADS;
 use image::word::head_of;
 use image::word::head_right;
 use image::word::is_kind;
@@ -14,20 +20,21 @@ use image::word::sum_right;
 use rules::rules::Earlier;
 use rules::rules::Fault;
 use rules::rules::body_right;
-use rules::rules::fact_above;
+use rules::rules::first_fault;
 use rules::rules::inside_right;
 use rules::rules::past;
+use rules::rules::past_opener;
 use rules::rules::sequence_fault;
-use rules::rules::step_fault;
+use rules::rules::step_right;
 ghost use mathlib.Core.Path.{_≡_};
 ghost use mathlib.Core.Bool.{true};
 ghost use Prim.Native.Nat.{_+_, _≤_, _<_};
 ghost use lib.ListN.{length};
 ghost use Rattle.rules.specs.Checked.{checked};
-ghost use Rattle.rules.specs.Quick.{Counts, withLast, inAlternative};
+ghost use Rattle.rules.specs.Quick.{Counts, FactFollows, further, inAlternative};
 ghost use Rattle.rules.specs.Walk.{walk, ended, opening};
-ghost use Rattle.reader.specs.Readers.{StepsRead, BodyRead, FactsRead, FoursRead, FourRight};
-ghost use Rattle.image.specs.Word.{headOf, mostWords};
+ghost use Rattle.reader.specs.Readers.{StepsRead, BodyRead, KindRead, FactsRead, FoursRead, FourRight};
+ghost use Rattle.image.specs.Word.{isKind, headOf, headRight, mostWords};
 
 // Where the reader of the steps' part stopped: at a refusal, or at the part's word with this index, the first sequence or the part's
 // end, with what the rules ask of the words before it.
@@ -46,69 +53,113 @@ fn ended_at(h: Head, e: Earlier, p: u32) -> Checked
     Checked::Accepted(h)
 }
 
-// What the rules ask of the words before, where the last of them is another.
-fn with_last(e: Earlier, last: u32) -> Earlier
-    ensures { λ r. ⌜ r ≡ withLast e last ⌝ }
+// What the rules ask of the words before, where words that open neither a step nor a sequence follow them.
+fn further_on(e: Earlier, last: u32, sets: u64) -> Earlier
+    ensures { λ r. ⌜ r ≡ further e last sets ⌝ }
 {
     Earlier {
         steps: e.steps,
         sequences: e.sequences,
         last: last,
+        sets: sets,
     }
 }
 
-// Where a reader of a step's or a sequence's words stopped: the word before, and the index.
+// Where a reader of fact words stopped: the word before, a column of facts, and the index.
+pub struct Facts {
+    pub last: u32,
+    pub facts: u64,
+    pub next: usize,
+}
+
+// Where a reader of a sequence's words stopped: the word before, and the index.
 pub struct Body {
     pub last: u32,
     pub next: usize,
 }
 
-// Reads the fact words that stand from index `at` on, after a step's opener `last`, and are right; after another word, none.
-fn read_facts(h: Head, last: u32, part: &[u32], at: usize) -> Body
-    requires { ⌜ at ≤ length (now part) ⌝ }
-    ensures { λ r. ⌜ FactsRead h (now (part .entry)) last at r ⌝ }
+// Reads the fact words of kind `k` that stand from index `at` on, after the word `last`, and are right by 4 to 6, and adds their facts to
+// the column `from`. The words of a kind whose facts the head counts are one range of numbers.
+fn read_kind(h: Head, k: u32, last: u32, from: u64, part: &[u32], at: usize) -> Facts
+    requires { ⌜ (at ≤ length (now part)) × Counts h × (2 ≤ k) × (k ≤ 4) × FactFollows last k ⌝ }
+    ensures { λ r. ⌜ KindRead h (now (part .entry)) k last from at r ⌝ }
 {
+    let start = k * PAYLOADS;
+    let end = start + h.facts;
     let mut l = last;
-    if !is_kind(KIND_STEP, l) {
-        return Body { last: l, next: at };
-    }
-    let mut low = 0;
+    let mut low = start - 1;
+    let mut facts = from;
     let mut i = at;
     while i < part.len() {
         let w = part[i];
-        if !fact_above(h, low, w) {
-            return Body { last: l, next: i };
+        if !((low < w) & (w < end)) {
+            return Facts {
+                last: l,
+                facts: facts,
+                next: i,
+            };
         }
+        facts = with_fact(facts, w - start);
         l = w;
         low = w;
         i += 1;
     }
-    Body { last: l, next: i }
+    Facts {
+        last: l,
+        facts: facts,
+        next: i,
+    }
 }
 
-// Reads the steps' part: the words of `part` up to the first sequence. The part begins at position 1, after the head.
+// Reads the fact words that stand from index `at` on, after a step's opener, and are right. It stops before the clear words of a step that
+// clears what it sets.
+fn read_facts(h: Head, e: Earlier, part: &[u32], at: usize) -> Facts
+    requires { ⌜ (at ≤ length (now part)) × Counts h × (isKind 5 (e .last) ≡ true) ⌝ }
+    ensures { λ r. ⌜ FactsRead h (now (part .entry)) e at r ⌝ }
+{
+    let needs = read_kind(h, KIND_NEEDS, e.last, 0, part, at);
+    let sets = read_kind(h, KIND_SETS, needs.last, e.sets, part, needs.next);
+    let clears = read_kind(h, KIND_CLEARS, sets.last, 0, part, sets.next);
+    if !apart(clears.facts, sets.facts) {
+        return sets;
+    }
+    Facts {
+        last: clears.last,
+        facts: sets.facts,
+        next: clears.next,
+    }
+}
+
+// Reads the steps' part: the words of `part` up to the first sequence. The part begins at position 1, after the head. A step is read at
+// once, and a word that its reader does not pass by itself.
 fn read_steps(h: Head, first: u32, part: &[u32]) -> Steps
-    requires { ⌜ length (now part) < mostWords ⌝ }
+    requires { ⌜ (length (now part) < mostWords) × Counts h ⌝ }
     ensures { λ r. ⌜ StepsRead h first (now (part .entry)) r ⌝ }
 {
     let mut e = Earlier {
         steps: 0,
         sequences: 0,
         last: first,
+        sets: 0,
     };
     let mut i = 0;
     while i < part.len() {
         let w = part[i];
-        if is_kind(KIND_SEQUENCE, w) {
-            return Steps::End(e, i);
+        if step_right(h, e, w) {
+            e = past_opener(e, w);
+            let facts = read_facts(h, e, part, i + 1);
+            e = further_on(e, facts.last, facts.facts);
+            i = facts.next;
+        } else {
+            if is_kind(KIND_SEQUENCE, w) {
+                return Steps::End(e, i);
+            }
+            if let Fault::Found(r) = first_fault(h, e, (1 + i) as u32, w) {
+                return Steps::Refused(r);
+            }
+            e = past(e, w);
+            i += 1;
         }
-        if let Fault::Found(r) = step_fault(h, e, (1 + i) as u32, w) {
-            return Steps::Refused(r);
-        }
-        e = past(e, w);
-        let facts = read_facts(h, w, part, i + 1);
-        e = with_last(e, facts.last);
-        i = facts.next;
     }
     Steps::End(e, i)
 }
@@ -180,15 +231,15 @@ fn read_sequences(h: Head, before: Earlier, at: usize, part: &[u32]) -> Checked
         }
         e = past(e, w);
         let body = read_body(h, e, part, i + 1);
-        e = with_last(e, body.last);
+        e = further_on(e, body.last, e.sets);
         i = body.next;
     }
     ended_at(h, e, (at + i) as u32)
 }
 
-// Reads the words between head and sum word: refusals 4 to 7, or acceptance.
+// Reads the words between head and sum word: refusals 4 to 7 and 13, or acceptance.
 fn read(first: u32, between: &[u32]) -> Checked
-    requires { ⌜ length (now between) < 8191 ⌝ }
+    requires { ⌜ (length (now between) < 8191) × (headRight first ≡ true) ⌝ }
     ensures { λ r. ⌜ r ≡ walk (headOf first) (opening first) 1 (now (between .entry)) ⌝ }
 {
     let h = head_of(first);
@@ -198,7 +249,7 @@ fn read(first: u32, between: &[u32]) -> Checked
     }
 }
 
-// What document 01 answers for an image: the head's counts, or the first of the refusals 1 to 7 that applies.
+// What the documents answer for an image: the head's counts, or the first of the refusals 1 to 7 and 13 that applies.
 pub fn check(image: &[u32]) -> Checked
     ensures { λ r. ⌜ r ≡ checked (now (image .entry)) ⌝ }
 {

@@ -1,2 +1,2 @@
-// The reader: the check of an image, refusals 1 to 7.
+// The reader: the check of an image, refusals 1 to 7 and 13.
 pub mod check;

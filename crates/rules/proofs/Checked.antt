@@ -14,11 +14,12 @@ use Rattle.image.specs.declared.answer.Head.{Head}
 use Rattle.image.specs.declared.answer.Refusal.the-variants.{Length, SumWord, HeadWord}
 use Rattle.image.specs.declared.answer.Checked.the-variants.{Refused}
 use Rattle.general.proofs.Bools.{and-left}
-use Rattle.rules.specs.Rules.{opened, lastOf, earlier, faultAt}
+use Rattle.rules.specs.Rules.{opened, lastOf, setsAfter, setsOf, earlier, faultAt}
 use Rattle.rules.specs.Quick.{after}
 use Rattle.rules.specs.Checked.{atWord, scan, allButLast, between, firstWord, lastWord, checked}
 use Rattle.rules.specs.Walk.{walk, opening}
 use Rattle.rules.specs.declared.rules.Earlier.{Earlier}
+use Rattle.rules.proofs.Sets.{sets-append}
 
 -- ---- the walk is the scan
 
@@ -33,8 +34,13 @@ last-snoc w [] = refl
 last-snoc w (v ∷ []) = refl
 last-snoc w (v ∷ u ∷ ws) = last-snoc w (u ∷ ws)
 
+sets-snoc : (w : ℕ) (ws : List ℕ) → setsOf 0 (ws ++ (w ∷ [])) ≡ setsAfter (setsOf 0 ws) w
+unfolding setsOf
+sets-snoc w ws = sets-append 0 ws (w ∷ [])
+
 earlier-snoc : (w : ℕ) (ws : List ℕ) → earlier (ws ++ (w ∷ [])) ≡ after (earlier ws) w
-earlier-snoc w ws i = record { steps = opened-snoc 5 w ws i; sequences = opened-snoc 6 w ws i; last = last-snoc w ws i }
+earlier-snoc w ws i =
+    record { steps = opened-snoc 5 w ws i; sequences = opened-snoc 6 w ws i; last = last-snoc w ws i; sets = sets-snoc w ws i }
 
 length-snoc : (w : ℕ) (ws : List ℕ) → length (ws ++ (w ∷ [])) ≡ suc (length ws)
 length-snoc w ws = length-append ws (w ∷ []) ∙ add-one (length ws)
@@ -48,13 +54,17 @@ scan-walk h before (w ∷ ws) =
 
 -- ---- the cases
 
--- the head opens nothing
+-- the head opens nothing and sets nothing
 not-kind : (k j w : ℕ) → isKind k w ≡ true → (k ≡ j → ⊥) → isKind j w ≡ false
 not-kind k j w e d = ne-eqb (kind w) j (λ q. d (sym (eqb-true (kind w) k e) ∙ q))
 
 opens-none : (k w : ℕ) → isKind k w ≡ false → opened k (w ∷ []) ≡ 0
 unfolding opened
 opens-none k w e = simp e
+
+sets-none : (w : ℕ) → isKind 3 w ≡ false → isKind 5 w ≡ false → setsOf 0 (w ∷ []) ≡ 0
+unfolding setsOf
+sets-none w three five = rw (three, five)
 
 head-opens : (w : ℕ) → headRight w ≡ true → earlier (w ∷ []) ≡ opening w
 unfolding lastOf
@@ -64,6 +74,7 @@ head-opens w e i =
       steps = opens-none 5 w (not-kind 1 5 w one (omega arith)) i;
       sequences = opens-none 6 w (not-kind 1 6 w one (omega arith)) i;
       last = w;
+      sets = sets-none w (not-kind 1 3 w one (omega arith)) (not-kind 1 5 w one (omega arith)) i;
     }
 
 take-one : (image : List ℕ) → 1 ≤ length image → take 1 image ≡ firstWord image ∷ []

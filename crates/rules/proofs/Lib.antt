@@ -1,2 +1,4 @@
 pub mod Checked
+pub mod Faultless
 pub mod Right
+pub mod Sets

@@ -1,22 +1,25 @@
 -- A word that is right by the rules of its kind alone has no fault.
--- It has: a law for each kind of word, and what a reader needs of the words that it passes by (`Passing`, `Above`). That the walk over the
+-- It has: a law for each kind of word, and what a reader needs of the words that it passes by (`Passing`). That the walk over the
 -- words is the scan of document 01 is in Checked.
 -- Assumes nothing.
 use Prim.Native.Nat.{ℕ, _+_, _*_, _%_, _^_, _≤_, _<_}
 use native.Mathlib.Omega.{arith}
-use mathlib.Core.Path.{_≡_, ap}
-use mathlib.Core.Bool.{true, _&&_, _||_}
+use mathlib.Core.Path.{_≡_, sym, ap, _∙_}
+use mathlib.Core.Bool.{true, false, not, _&&_, _||_}
 use mathlib.Core.Logic.{_⊎_, inl, inr, ⊎-elim}
 use lib.Dec.{eqb, leb, ltb}
 use borrow.Author.Tests.{eqb-true, ne-eqb, eq-eqb, ltb-true, lt-ltb}
 use mir.Val.{boolByte}
+use Rattle.column.specs.Sets.{inColumn}
 use Rattle.image.specs.Word.{kind, payload, isKind, isFact, isEntry}
-use Rattle.rules.specs.Rules.{faultAt}
-use Rattle.rules.specs.Quick.{entryRight, alternativeRight, bodyRight, insideRight, Counts, stepRight, sequenceRight, factRight, factAbove, after, withLast, inAlternative}
+use Rattle.rules.specs.Rules.{setsAfter, clearsUnset, faultAt}
+use Rattle.rules.specs.Quick.{entryRight, alternativeRight, bodyRight, insideRight, Counts, stepRight, sequenceRight, factRight, FactFollows, after, further, withLast, inAlternative}
 use Rattle.image.specs.declared.answer.Head.{Head}
 use Rattle.rules.specs.declared.rules.Earlier.{Earlier}
 use Rattle.rules.specs.declared.rules.Fault.the-variants.{Nothing}
 use Rattle.general.proofs.Bools.{and-left, and-right, or-left, or-right, or-cases}
+use Rattle.image.proofs.Words.{fact-of}
+use Rattle.rules.proofs.Faultless.{where-kind, kind-where}
 
 -- a fact word by its kind
 by-fact : {P : Type 0} (w : ℕ) → isFact w ≡ true → (kind w ≡ 2 → P) → (kind w ≡ 3 → P) → (kind w ≡ 4 → P) → P
@@ -70,8 +73,9 @@ module _ (h : Head) (e : Earlier) (p w : ℕ) where
       let late = and-right (isKind 6 w) (leb (h .steps) (e .steps)) one in
       rw (k, late, next, low)
 
-  pub fact-faultless : factRight h (e .last) w ≡ true → Nothing ≡ faultAt h e p w
-  fact-faultless right =
+  pub fact-faultless : factRight h (e .last) w ≡ true → clearsUnset (e .sets) w ≡ true → Nothing ≡ faultAt h e p w
+  fact-faultless right unset =
+      let free : kind w ≡ 4 → not (inColumn (e .sets) (payload w)) ≡ true = λ k. where-kind (isKind 4 w) _ unset (eq-eqb (kind w) 4 k) in
       let named = and-left (isFact w && ltb (payload w) (h .facts)) _ right in
       let follows = and-right (isFact w && ltb (payload w) (h .facts)) (isKind 5 (e .last) || isFact (e .last) && ltb (e .last) w) right in
       let fact = and-left (isFact w) (ltb (payload w) (h .facts)) named in
@@ -79,28 +83,49 @@ module _ (h : Head) (e : Earlier) (p w : ℕ) where
       ⊎-elim
       (λ (opener : isKind 5 (e .last) ≡ true).
       let l = eqb-true (kind (e .last)) 5 opener in
-      by-fact w fact (λ k. rw (k, l, low)) (λ k. rw (k, l, low)) (λ k. rw (k, l, low)))
+      by-fact w fact (λ k. rw (k, l, low)) (λ k. rw (k, l, low)) (λ k. rw (k, l, low, free k)))
       (λ (greater : isFact (e .last) && ltb (e .last) w ≡ true).
       let before = and-left (isFact (e .last)) (ltb (e .last) w) greater in
       let more = and-right (isFact (e .last)) (ltb (e .last) w) greater in
       by-fact (e .last) before
-      (λ l. by-fact w fact (λ k. rw (k, l, low, more)) (λ k. rw (k, l, low, more)) (λ k. rw (k, l, low, more)))
-      (λ l. by-fact w fact (λ k. rw (k, l, low, more)) (λ k. rw (k, l, low, more)) (λ k. rw (k, l, low, more)))
-      (λ l. by-fact w fact (λ k. rw (k, l, low, more)) (λ k. rw (k, l, low, more)) (λ k. rw (k, l, low, more))))
+      (λ l. by-fact w fact (λ k. rw (k, l, low, more)) (λ k. rw (k, l, low, more)) (λ k. rw (k, l, low, more, free k)))
+      (λ l. by-fact w fact (λ k. rw (k, l, low, more)) (λ k. rw (k, l, low, more)) (λ k. rw (k, l, low, more, free k)))
+      (λ l. by-fact w fact (λ k. rw (k, l, low, more)) (λ k. rw (k, l, low, more)) (λ k. rw (k, l, low, more, free k))))
       (or-cases (isKind 5 (e .last)) (isFact (e .last) && ltb (e .last) w) follows)
 
 -- ---- words that a reader passes by
 
--- a word that has no fault after the word `last`, wherever they stand, and opens neither a step nor a sequence
-pub record Passing (h : Head) (e : Earlier) (last w : ℕ) : Type 0 where
-  pub faultless : (p : ℕ) → Nothing ≡ faultAt h (withLast e last) p w
-  pub opens : after (withLast e last) w ≡ withLast e w
+-- the next step's opener, and what the rules ask of the words up to it
+pub step-opens : (h : Head) (e : Earlier) (w : ℕ) → stepRight h e w ≡ true → isKind 5 w ≡ true
+step-opens h e w right =
+    and-left (isKind 5 w) (eqb (e .sequences) 0)
+    (and-left (isKind 5 w && eqb (e .sequences) 0) (eqb (payload w) (e .steps))
+    (and-left (isKind 5 w && eqb (e .sequences) 0 && eqb (payload w) (e .steps)) (ltb (payload w) (h .steps)) right))
 
-opens-nothing : (e : Earlier) (last w : ℕ) → (kind w ≡ 5 → ⊥) → (kind w ≡ 6 → ⊥) → after (withLast e last) w ≡ withLast e w
-opens-nothing e last w five six =
+pub past-step : (e : Earlier) (w : ℕ) → isKind 5 w ≡ true
+    → record { steps = e .steps + 1; sequences = e .sequences; last = w; sets = 0 } ≡ after e w
+past-step e w five =
+    let k = eqb-true (kind w) 5 five in
+    let s : e .steps + 1 ≡ e .steps + boolByte (isKind 5 w) = omega (arith, ap boolByte five) in
+    let c : e .sequences ≡ e .sequences + boolByte (isKind 6 w) = omega (arith, ap boolByte (ne-eqb (kind w) 6 (λ q. omega arith))) in
+    let none : 0 ≡ setsAfter (e .sets) w = rw k in
+    λ i. record { steps = s i; sequences = c i; last = w; sets = none i }
+
+-- a word that has no fault after the words before it, wherever it stands, and what the rules ask of the words up to it
+pub record Passing (h : Head) (e : Earlier) (w : ℕ) (then : Earlier) : Type 0 where
+  pub faultless : (p : ℕ) → Nothing ≡ faultAt h e p w
+  pub past : after e w ≡ then
+
+-- a word that opens neither a step nor a sequence
+opens-nothing : (e : Earlier) (w : ℕ) → (kind w ≡ 5 → ⊥) → (kind w ≡ 6 → ⊥) → after e w ≡ further e w (setsAfter (e .sets) w)
+opens-nothing e w five six =
     let s : e .steps + boolByte (isKind 5 w) ≡ e .steps = omega (arith, ap boolByte (ne-eqb (kind w) 5 five)) in
     let c : e .sequences + boolByte (isKind 6 w) ≡ e .sequences = omega (arith, ap boolByte (ne-eqb (kind w) 6 six)) in
-    λ i. record { steps = s i; sequences = c i; last = w }
+    λ i. record { steps = s i; sequences = c i; last = w; sets = setsAfter (e .sets) w }
+
+-- a word that neither sets a fact nor opens a step
+sets-nothing : (sets w : ℕ) → (kind w ≡ 3 → ⊥) → (kind w ≡ 5 → ⊥) → setsAfter sets w ≡ sets
+sets-nothing sets w three five = rw (ne-eqb (kind w) 3 three, ne-eqb (kind w) 5 five)
 
 -- a word of a sequence's body
 module _ (h : Head) (e : Earlier) (last w : ℕ) (right : bodyRight h e last w ≡ true) where
@@ -120,13 +145,16 @@ module _ (h : Head) (e : Earlier) (last w : ℕ) (right : bodyRight h e last w �
   body-high : 7 ≤ kind w
   body-high = ⊎-elim (λ k. omega arith) (λ k. ⊎-elim (λ l. omega arith) (λ l. omega arith) k) body-kind
 
-  pub body-passing : Passing h e last w
+  pub body-passing : Passing h (withLast e last) w (withLast e w)
   body-passing =
+      let high = body-high in
       record {
         faultless = λ p.
             ⊎-elim (entry-faultless h (withLast e last) p w) (alternative-faultless h (withLast e last) p w)
             (or-cases (entryRight h last w) (alternativeRight e w) right);
-        opens = opens-nothing e last w (λ q. omega (arith, body-high)) (λ q. omega (arith, body-high));
+        past =
+            opens-nothing (withLast e last) w (λ q. omega arith) (λ q. omega arith)
+            ∙ ap (further e w) (sets-nothing (e .sets) w (λ q. omega arith) (λ q. omega arith));
       }
 
   pub body-follows : inAlternative w ≡ true
@@ -166,28 +194,29 @@ inside-ranges h w a b bound counts from-eight from-nine tested =
     (or-right (step || call) (eqb w (7 * 2 ^ 28)))
     (or-cases (ltb a (h .steps) || ltb b (h .sequences)) (eqb w (7 * 2 ^ 28)) tested)
 
--- a step's fact words: each fact word above `low` may stand after the word `last`
-abbrev pub Above : ℕ → ℕ → Type 0
-Above last low = (w : ℕ) → ltb low w ≡ true → isKind 5 last || isFact last && ltb last w ≡ true
+-- a fact word of kind k: it follows a word that it may follow, or another of its kind that is less
+module _ (h : Head) (k last w : ℕ) (low : 2 ≤ k) (high : k ≤ 4) (is : kind w ≡ k) (counted : payload w < h .facts)
+    (follows : FactFollows last k ⊎ ((kind last ≡ k) × (last < w))) where
+  fact-right : factRight h last w ≡ true
+  fact-right =
+      let named : isFact w && ltb (payload w) (h .facts) ≡ true = rw (fact-of w (omega arith) (omega arith), lt-ltb (payload w) (h .facts) counted) in
+      let after-fact : 2 ≤ kind last → kind last ≤ 4 → last < w → isKind 5 last || isFact last && ltb last w ≡ true =
+      λ l u less. or-right (isKind 5 last) (isFact last && ltb last w) (rw (fact-of last l u, lt-ltb last w less)) in
+      let may : isKind 5 last || isFact last && ltb last w ≡ true =
+      ⊎-elim
+      (λ (f : FactFollows last k).
+      ⊎-elim (λ five. or-left (isKind 5 last) (isFact last && ltb last w) (eq-eqb (kind last) 5 five))
+      (λ below. after-fact (below .0) (omega arith) (omega arith)) f)
+      (λ same. after-fact (omega arith) (omega arith) (same .1)) follows in
+      rw (named, may)
 
-pub above-opener : (last : ℕ) → isKind 5 last ≡ true → Above last 0
-above-opener last opener = λ w more. or-left (isKind 5 last) (isFact last && ltb last w) opener
-
-module _ (h : Head) (last low w : ℕ) (above : Above last low) (right : factAbove h low w ≡ true) where
-  named : isFact w && ltb (payload w) (h .facts) ≡ true
-  named = and-left (isFact w && ltb (payload w) (h .facts)) (ltb low w) right
-
-  fact : isFact w ≡ true
-  fact = and-left (isFact w) (ltb (payload w) (h .facts)) named
-
-  pub above-fact : Above w w
-  above-fact = λ v more. or-right (isKind 5 w) (isFact w && ltb w v) (rw (fact, more))
-
-  pub fact-passing : (e : Earlier) → Passing h e last w
-  fact-passing e =
-      let follows = above w (and-right (isFact w && ltb (payload w) (h .facts)) (ltb low w) right) in
-      let small : kind w ≤ 4 = by-fact w fact (λ k. omega arith) (λ k. omega arith) (λ k. omega arith) in
+  pub fact-passing : (e : Earlier) (sets : ℕ) → (k ≡ 4 → inColumn sets (payload w) ≡ false)
+      → Passing h (further e last sets) w (further e w (setsAfter sets w))
+  fact-passing e sets unset =
       record {
-        faultless = λ p. fact-faultless h (withLast e last) p w (rw (named, follows));
-        opens = opens-nothing e last w (λ q. omega arith) (λ q. omega arith);
+        faultless = λ p. fact-faultless h (further e last sets) p w fact-right free;
+        past = opens-nothing (further e last sets) w (λ q. omega arith) (λ q. omega arith);
       }
+    where
+      free : clearsUnset sets w ≡ true
+      free = kind-where (isKind 4 w) (not (inColumn sets (payload w))) (λ four. ap not (unset (sym is ∙ eqb-true (kind w) 4 four)))

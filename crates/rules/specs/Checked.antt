@@ -1,5 +1,5 @@
--- The check's answer: refusals 1 to 7 in their order, with their positions, or acceptance (document 01, "Turned down, in
--- checking order").
+-- The check's answer: refusals 1 to 7, with 13 beside 4 to 6, in their order and with their positions, or acceptance (document 01,
+-- "Turned down, in checking order"; document 02, request 1).
 use Prim.Native.Nat.{ℕ, _+_, _-_}
 use mathlib.Core.Path.{_≡_}
 use mathlib.Core.Bool.{cond, _&&_, _||_}
@@ -27,7 +27,7 @@ counted h words =
     (Refused (Missing (length words)))
     (Accepted h)
 
--- "In 4 to 6 the earliest word decides": the words are looked at in order, each after those before it
+-- "In 4 to 6 the earliest word decides"; 13 "joins 4 to 6": the words are looked at in order, each after those before it
 unfoldable pub scan : Head → List ℕ → List ℕ → Checked
 scan h before [] = counted h before
 scan h before (w ∷ ws) = atWord (faultAt h (earlier before) (length before) w) (scan h (before ++ (w ∷ [])) ws)

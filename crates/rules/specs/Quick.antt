@@ -1,9 +1,12 @@
 -- The rules in the form that the check's loops follow: quick tests of a word by the rules of its kind alone, and what is carried from word to word.
-use Prim.Native.Nat.{ℕ, _+_, _*_, _^_, _<_}
+use Prim.Native.Nat.{ℕ, _+_, _*_, _^_, _≤_, _<_}
+use mathlib.Core.Path.{_≡_}
+use mathlib.Core.Logic.{_⊎_}
 use mathlib.Core.Bool.{Bool, _&&_, _||_}
 use lib.Dec.{leb, ltb, eqb}
 use mir.Val.{boolByte}
-use Rattle.image.specs.Word.{payload, isKind, isFact, isEntry}
+use Rattle.image.specs.Word.{mostFacts, kind, payload, isKind, isFact, isEntry}
+use Rattle.rules.specs.Rules.{setsAfter}
 use Rattle.image.specs.declared.answer.Head.{Head}
 use Rattle.rules.specs.declared.rules.Earlier.{Earlier}
 
@@ -29,26 +32,37 @@ sequenceRight h e w = isKind 6 w && leb (h .steps) (e .steps) && eqb (payload w)
 abbrev pub factRight : Head → ℕ → ℕ → Bool
 factRight h last w = isFact w && ltb (payload w) (h .facts) && (isKind 5 last || isFact last && ltb last w)
 
--- the same where what a fact word is held against is a number: the fact word before it, or 0 after a step's opener
-abbrev pub factAbove : Head → ℕ → ℕ → Bool
-factAbove h low w = isFact w && ltb (payload w) (h .facts) && ltb low w
+-- a fact word of kind k may follow the word `last`, whatever its fact: that opens a step, or is a fact word of a kind below k
+abbrev pub FactFollows : ℕ → ℕ → Type 0
+FactFollows last k = (kind last ≡ 5) ⊎ ((2 ≤ kind last) × (kind last < k))
 
 -- an entry or an alternative's opener, where the word before is one too
 abbrev pub insideRight : Head → ℕ → Bool
 insideRight h w = isKind 8 w && ltb (payload w) (h .steps) || isKind 9 w && ltb (payload w) (h .sequences) || eqb w (7 * 2 ^ 28)
 
--- what the head counts is below what a payload may be
+-- what the head counts: no more facts than a column holds, and fewer steps and sequences than a payload may be
 pub record Counts (h : Head) : Type 0 where
+  pub facts : h .facts ≤ mostFacts
   pub steps : h .steps < 2 ^ 28
   pub sequences : h .sequences < 2 ^ 28
 
 -- what the rules ask of the words before the next word
 abbrev pub after : Earlier → ℕ → Earlier
-after e w = record { steps = e .steps + boolByte (isKind 5 w); sequences = e .sequences + boolByte (isKind 6 w); last = w }
+after e w =
+    record {
+      steps = e .steps + boolByte (isKind 5 w);
+      sequences = e .sequences + boolByte (isKind 6 w);
+      last = w;
+      sets = setsAfter (e .sets) w;
+    }
 
--- the words before, where the last of them is another
+-- the words before, where words that open neither a step nor a sequence follow them: the last of these, and what the step sets with them
+abbrev pub further : Earlier → ℕ → ℕ → Earlier
+further e last sets = record { steps = e .steps; sequences = e .sequences; last = last; sets = sets }
+
+-- and where these are no fact words
 abbrev pub withLast : Earlier → ℕ → Earlier
-withLast e last = record { steps = e .steps; sequences = e .sequences; last = last }
+withLast e last = further e last (e .sets)
 
 -- an alternative's opener or an entry: what an entry may follow
 abbrev pub inAlternative : ℕ → Bool

@@ -1,15 +1,19 @@
--- The rules for a word between head and sum word: what may stand where (refusal 4), the payloads (5) and the order of fact
--- words (6). Each is a rule on the word and on the words before it, the head among them (document 01, "The image").
+-- The rules for a word between head and sum word: what may stand where (refusal 4), the payloads (5), the order of fact words (6)
+-- and that no step clears what it sets (13). Each is a rule on the word and on the words before it, the head among them (document 01,
+-- "The image"; document 02, request 1).
 use Prim.Native.Nat.{ℕ, _+_}
+use mathlib.Core.Path.{_≡_}
 use mathlib.Core.Bool.{Bool, cond, not, _&&_, _||_}
-use mathlib.Core.List.{List, [], _∷_}
+use mathlib.Core.List.{List, [], _∷_, _++_}
 use lib.Dec.{leb, ltb, eqb}
 use mir.Val.{boolByte}
-use Rattle.image.specs.Word.{payload, isKind, isFact, isEntry}
+use Rattle.column.specs.Column.{withFact}
+use Rattle.column.specs.Sets.{inColumn}
+use Rattle.image.specs.Word.{kind, payload, isKind, isFact, isEntry}
 use Rattle.image.specs.declared.answer.Head.{Head}
 use Rattle.rules.specs.declared.rules.Earlier.{Earlier}
 use Rattle.rules.specs.declared.rules.Fault.{Fault}
-use Rattle.image.specs.declared.answer.Refusal.the-variants.{Kind, Payload, FactOrder}
+use Rattle.image.specs.declared.answer.Refusal.the-variants.{Kind, Payload, FactOrder, SetAndCleared}
 use Rattle.rules.specs.declared.rules.Fault.the-variants.{Found, Nothing}
 
 -- how many of the words are of a kind
@@ -23,9 +27,30 @@ lastOf [] = 0
 lastOf (w ∷ []) = w
 lastOf (w ∷ v ∷ ws) = lastOf (v ∷ ws)
 
--- what the rules ask of the words before a word: how many steps and sequences they open, and the word right before it
+-- the column of the facts that a step sets, with one word more: a set word adds its fact, and a step's opener begins anew
+abbrev pub setsAfter : ℕ → ℕ → ℕ
+setsAfter sets w = cond (isKind 3 w) (withFact sets (payload w)) (cond (isKind 5 w) 0 sets)
+
+-- and with all these words
+unfoldable pub setsOf : ℕ → List ℕ → ℕ
+setsOf sets [] = sets
+setsOf sets (w ∷ ws) = setsOf (setsAfter sets w) ws
+
+-- "an earlier word of the same step sets" the fact: a set word that names it stands among the words, and no step is opened after it.
+-- `sets-iff` (proofs/Sets) proves that `setsOf 0` is the column of these facts
+pub record SetBefore (f : ℕ) (before : List ℕ) : Type 0 where
+  pub until : List ℕ
+  pub word : ℕ
+  pub since : List ℕ
+  pub stands : before ≡ until ++ (word ∷ since)
+  pub sets : kind word ≡ 3
+  pub names : payload word ≡ f
+  pub same-step : opened 5 since ≡ 0
+
+-- what the rules ask of the words before a word: how many steps and sequences they open, the word right before it, and what the step
+-- sets that they opened last
 abbrev pub earlier : List ℕ → Earlier
-earlier before = record { steps = opened 5 before; sequences = opened 6 before; last = lastOf before }
+earlier before = record { steps = opened 5 before; sequences = opened 6 before; last = lastOf before; sets = setsOf 0 before }
 
 -- "A kind 2, 3 or 4 word stands only after a step's opener or another such word."
 -- "A kind 5 word stands only before the first kind 6, a kind 6 word only once A steps have been opened."
@@ -59,7 +84,17 @@ payloadRight h e w =
 abbrev pub inOrder : Earlier → ℕ → Bool
 inOrder e w = whereKind (isFact w && isFact (e .last)) (ltb (e .last) w)
 
--- the fault of a word at position p: "in one word the lower number"
+-- 13: "a clear word naming a fact that an earlier word of the same step sets"; the column has those facts
+abbrev pub clearsUnset : ℕ → ℕ → Bool
+clearsUnset sets w = whereKind (isKind 4 w) (not (inColumn sets (payload w)))
+
+-- the fault of a word at position p: "in one word the lower number"; 13 "joins 4 to 6 .. and comes last within one word"
 abbrev pub faultAt : Head → Earlier → ℕ → ℕ → Fault
 faultAt h e p w =
-    cond (mayStand h e w) (cond (payloadRight h e w) (cond (inOrder e w) Nothing (Found (FactOrder p))) (Found (Payload p))) (Found (Kind p))
+    cond (mayStand h e w)
+    (cond (payloadRight h e w)
+    (cond (inOrder e w)
+    (cond (clearsUnset (e .sets) w) Nothing (Found (SetAndCleared p)))
+    (Found (FactOrder p)))
+    (Found (Payload p)))
+    (Found (Kind p))

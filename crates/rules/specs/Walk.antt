@@ -23,4 +23,4 @@ walk h e p (w ∷ ws) = atWord (faultAt h e p w) (walk h (after e w) (suc p) ws)
 
 -- what the rules ask of the head alone, the word before the first step
 abbrev pub opening : ℕ → Earlier
-opening first = record { steps = 0; sequences = 0; last = first }
+opening first = record { steps = 0; sequences = 0; last = first; sets = 0 }

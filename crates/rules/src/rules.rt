@@ -1,4 +1,6 @@
-// The rules for a word between head and sum word: refusals 4, 5 and 6.
+// The rules for a word between head and sum word: refusals 4, 5, 6 and 13.
+use column::sets::holds;
+use column::with_fact;
 use image::answer::Head;
 use image::answer::Refusal;
 use image::word::ALTERNATIVE_WORD;
@@ -10,26 +12,30 @@ use image::word::KIND_SEQUENCE_ENTRY;
 use image::word::KIND_SETS;
 use image::word::KIND_STEP;
 use image::word::KIND_STEP_ENTRY;
+use image::word::MOST_FACTS;
 use image::word::PAYLOADS;
 ghost use mathlib.Core.Path.{_≡_};
 ghost use mathlib.Core.Bool.{true};
 ghost use Prim.Native.Nat.{_+_, _<_};
-ghost use Rattle.rules.specs.Rules.{mayStand, payloadRight, inOrder, faultAt};
-ghost use Rattle.rules.specs.Quick.{entryRight, alternativeRight, bodyRight, insideRight, Counts, stepRight, sequenceRight, factAbove, after};
+ghost use Rattle.image.specs.Word.{mostFacts, payload, isKind};
+ghost use Rattle.rules.specs.Rules.{mayStand, payloadRight, inOrder, setsAfter, clearsUnset, faultAt};
+ghost use Rattle.rules.specs.Quick.{entryRight, alternativeRight, bodyRight, insideRight, Counts, stepRight, sequenceRight, after};
 
 // Added with wrap, these take 8 × 2^28 and 9 × 2^28 away: what is left of an entry is its payload.
 const LESS_STEP_ENTRY: u32 = 0x80000000;
 
 const LESS_SEQUENCE_ENTRY: u32 = 0x70000000;
 
-// What the rules ask of the words before a word: how many steps and sequences they open, and the word right before it.
+// What the rules ask of the words before a word: how many steps and sequences they open, the word right before it, and the column of
+// the facts that the step sets that they opened last.
 pub struct Earlier {
     pub steps: u32,
     pub sequences: u32,
     pub last: u32,
+    pub sets: u64,
 }
 
-// What is wrong with a word: refusal 4, 5 or 6 with its position, or nothing.
+// What is wrong with a word: refusal 4, 5, 6 or 13 with its position, or nothing.
 pub enum Fault {
     Found(Refusal),
     Nothing,
@@ -75,6 +81,18 @@ fn in_order(e: Earlier, w: u32) -> bool
         | (e.last < w)
 }
 
+// Refusal 13: whether a clear word names a fact that is not in the column of those that its step sets. No fact from 64 on is in one.
+fn clears_unset(sets: u64, w: u32) -> bool
+    ensures { λ r. ⌜ r ≡ clearsUnset sets w ⌝ }
+{
+    let p = w % PAYLOADS;
+    if MOST_FACTS <= p {
+        return true;
+    }
+    let set = holds(sets, p);
+    !(w / PAYLOADS == KIND_CLEARS) | !set
+}
+
 // Whether a word of kind 8 or 9 is right: an entry after a kind 7 or another entry that names what the head counts.
 fn entry_right(h: Head, last: u32, w: u32) -> bool
     ensures { λ r. ⌜ r ≡ entryRight h last w ⌝ }
@@ -104,7 +122,7 @@ pub fn body_right(h: Head, e: Earlier, last: u32, w: u32) -> bool
 }
 
 // Whether a word of kind 5 is right.
-fn step_right(h: Head, e: Earlier, w: u32) -> bool
+pub fn step_right(h: Head, e: Earlier, w: u32) -> bool
     ensures { λ r. ⌜ r ≡ stepRight h e w ⌝ }
 {
     let k = w / PAYLOADS;
@@ -121,15 +139,6 @@ fn sequence_right(h: Head, e: Earlier, w: u32) -> bool
     (k == KIND_SEQUENCE) & (h.steps <= e.steps) & (p == e.sequences) & (p < h.sequences)
 }
 
-// Whether a word is a fact word of a fact that the head counts, and greater than `low`.
-pub fn fact_above(h: Head, low: u32, w: u32) -> bool
-    ensures { λ r. ⌜ r ≡ factAbove h low w ⌝ }
-{
-    let k = w / PAYLOADS;
-    let p = w % PAYLOADS;
-    ((k == KIND_NEEDS) | (k == KIND_SETS) | (k == KIND_CLEARS)) & (p < h.facts) & (low < w)
-}
-
 // Whether a word of kind 7, 8 or 9 is right after another such word. Counts below 2^28 leave a kind's payloads in one range of numbers.
 pub fn inside_right(h: Head, w: u32) -> bool
     requires { ⌜ Counts h ⌝ }
@@ -140,8 +149,8 @@ pub fn inside_right(h: Head, w: u32) -> bool
     (step < h.steps) | (sequence < h.sequences) | (w == ALTERNATIVE_WORD)
 }
 
-// The lowest refusal of 4 to 6 that a word at position `p` meets, by each rule.
-fn first_fault(h: Head, e: Earlier, p: u32, w: u32) -> Fault
+// The first refusal of 4, 5, 6 and 13 that a word at position `p` meets, by each rule.
+pub fn first_fault(h: Head, e: Earlier, p: u32, w: u32) -> Fault
     ensures { λ r. ⌜ r ≡ faultAt h e p w ⌝ }
 {
     if !may_stand(h, e, w) {
@@ -153,20 +162,13 @@ fn first_fault(h: Head, e: Earlier, p: u32, w: u32) -> Fault
     if !in_order(e, w) {
         return Fault::Found(Refusal::FactOrder(p));
     }
+    if !clears_unset(e.sets, w) {
+        return Fault::Found(Refusal::SetAndCleared(p));
+    }
     Fault::Nothing
 }
 
-// The lowest refusal of 4 to 6 that a word at position `p` meets, quickly where it opens the next step.
-pub fn step_fault(h: Head, e: Earlier, p: u32, w: u32) -> Fault
-    ensures { λ r. ⌜ r ≡ faultAt h e p w ⌝ }
-{
-    if step_right(h, e, w) {
-        return Fault::Nothing;
-    }
-    first_fault(h, e, p, w)
-}
-
-// The lowest refusal of 4 to 6 that a word at position `p` meets, quickly where it opens the next sequence.
+// The first refusal of 4, 5, 6 and 13 that a word at position `p` meets, quickly where it opens the next sequence.
 pub fn sequence_fault(h: Head, e: Earlier, p: u32, w: u32) -> Fault
     ensures { λ r. ⌜ r ≡ faultAt h e p w ⌝ }
 {
@@ -176,14 +178,42 @@ pub fn sequence_fault(h: Head, e: Earlier, p: u32, w: u32) -> Fault
     first_fault(h, e, p, w)
 }
 
+// The column of the facts that a step sets, with one word more.
+fn sets_after(sets: u64, w: u32) -> u64
+    requires { ⌜ (isKind 3 w ≡ true → payload w < mostFacts) ⌝ }
+    ensures { λ r. ⌜ r ≡ setsAfter sets w ⌝ }
+{
+    if w / PAYLOADS == KIND_SETS {
+        return with_fact(sets, w % PAYLOADS);
+    }
+    if w / PAYLOADS == KIND_STEP {
+        return 0;
+    }
+    sets
+}
+
 // What the rules ask of the words up to and with `w`.
 pub fn past(e: Earlier, w: u32) -> Earlier
-    requires { ⌜ (e .steps + 1 < 4294967296) × (e .sequences + 1 < 4294967296) ⌝ }
+    requires { ⌜ (e .steps + 1 < 4294967296) × (e .sequences + 1 < 4294967296) × (isKind 3 w ≡ true → payload w < mostFacts) ⌝ }
     ensures { λ r. ⌜ r ≡ after e w ⌝ }
 {
     Earlier {
         steps: e.steps + ((w / PAYLOADS == KIND_STEP) as u32),
         sequences: e.sequences + ((w / PAYLOADS == KIND_SEQUENCE) as u32),
         last: w,
+        sets: sets_after(e.sets, w),
+    }
+}
+
+// The same where `w` opens a step.
+pub fn past_opener(e: Earlier, w: u32) -> Earlier
+    requires { ⌜ (e .steps + 1 < 4294967296) × (isKind 5 w ≡ true) ⌝ }
+    ensures { λ r. ⌜ r ≡ after e w ⌝ }
+{
+    Earlier {
+        steps: e.steps + 1,
+        sequences: e.sequences,
+        last: w,
+        sets: 0,
     }
 }

@@ -8,3 +8,4 @@ pub mod Rows
 pub mod Columns
 pub mod Execution
 pub mod Published
+pub mod Clears

@@ -16,7 +16,8 @@ pub data Side : Type 0 where
 pub data Mark : Type 0 where
   present absent untouched : Mark
 
--- "Last side: a step touches a fact if it sets or clears it", and "a step that sets and clears a fact sets it".
+-- "Last side: a step touches a fact if it sets or clears it"; "a step's clears are .. simply its clear words". No step of an accepted
+-- library does both, so the order of the two tests decides nothing there (`cleared-iff`, proofs/Clears).
 -- "First side: a step touches a fact if it needs or sets it; .. a step that does both needs it. Earlier clears don't matter there".
 abbrev pub touch : Side → Step → ℕ → Mark
 touch last a f = cond (has f (a .sets)) present (cond (has f (a .clears)) absent untouched)

@@ -5,7 +5,7 @@ use borrow.Author.Tests.{eqb-true, eqb-false}
 use mathlib.Core.Path.{sym, _∙_, ap}
 use Rattle.image.specs.Word.{kind}
 use Rattle.row.specs.Words.{rowIn}
-use Rattle.image.proofs.Entries.{entry-kinds}
+use Rattle.image.proofs.Words.{entry-kinds}
 use Rattle.outcome.proofs.read.entry_row.Statement.{statement}
 use Rattle.outcome.proofs.read.entry_row.Tie as tie
 use Rattle.outcome.proofs.read.entry_row.Reads as reads

@@ -5,7 +5,7 @@ use borrow.Author.Tests.{not-true, not-false}
 use native.Mathlib.Omega.{arith}
 use mathlib.Core.Path.{_≡_, sym, ap, _∙_}
 use Prim.Native.Nat.{ℕ, _-_}
-use lib.ListN.{length, take, drop}
+use lib.ListN.{length, take, drop, length-take}
 use lib.Seq.{length-take-le}
 use Rattle.image.specs.Word.{headOf}
 use Rattle.rules.specs.Checked.{firstWord}
@@ -73,7 +73,10 @@ part-read-end : tie.Need-part-read-end
 part-read-end c = search needs
 
 read-requires : tie.Need-read-requires
-read-requires c κs = search needs
+read-requires c κs =
+    let else4 = c .before in
+    let image = else4 .before .before .before .before .before .before .before .before .before .before .args .image .now in
+    (omega (arith, length-take (length image - 1 - 1) (drop 1 image)), sym (else4 .before .head-right .ensures) ∙ not-false _ (else4 .if4 .left))
 
 returns-5 : tie.Need-returns-5
 returns-5 c =

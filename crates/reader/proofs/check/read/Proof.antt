@@ -22,7 +22,11 @@ head-of-requires : tie.Need-head-of-requires
 head-of-requires c κs = search needs
 
 read-steps-requires : tie.Need-read-steps-requires
-read-steps-requires c κs = search needs
+read-steps-requires c κs =
+    let start = c .before .before in (
+      omega (arith, start .pre .0),
+      subst Counts (sym (c .head-of .ensures)) (head-counts (start .args .first) (start .pre .1)),
+    )
 
 enum-known-r : tie.Need-enum-known-r
 enum-known-r c = search needs
@@ -56,7 +60,8 @@ read-sequences-requires c κs =
     let i = c .before .before .e .given .0 .1 .0 in
     let ws = c .before .before .before .before .before .before .before .args .between .now in
     let stopped = c .before .before .before .before in
-    let counts = subst Counts (sym (stopped .before .head-of .ensures)) (head-counts (stopped .before .before .before .args .first)) in
+    let start = stopped .before .before .before in
+    let counts = subst Counts (sym (stopped .before .head-of .ensures)) (head-counts (start .args .first) (start .pre .1)) in
     let within = left-within (c .before) in
     rw (whole-rest i ws) (omega (arith, within, length-drop i ws), omega (arith, within), omega (arith, within), counts)
 

@@ -6,8 +6,10 @@ use native.Mathlib.Omega.{arith}
 use mathlib.Core.Path.{sym, _∙_}
 use Prim.Native.Nat.{_+_, _-_}
 use lib.ListN.{length, getD}
+use Rattle.rules.specs.Quick.{withLast}
+use Rattle.reader.specs.Readers.{Read}
 use Rattle.rules.proofs.Right.{body-passing, body-follows}
-use Rattle.reader.proofs.Walk.{Skipping, skipping-start, skipping-stop, skipping-turn, skipping-read}
+use Rattle.reader.proofs.Walk.{read-start, read-turn, read-on}
 use Rattle.reader.proofs.check.read_body.Statement.{statement}
 use Rattle.reader.proofs.check.read_body.Tie as tie
 use Rattle.reader.proofs.check.read_body.Reads as reads
@@ -16,7 +18,7 @@ use Rattle.reader.proofs.check.read_fours.Reads as read-fours-reads
 use Rattle.rules.proofs.rules.body_right.Reads as body-right-reads
 
 abbrev Inv-loop : tie.InvT-loop
-Inv-loop h e part at l₀ i₀ l i = Skipping h part e at l i
+Inv-loop h e part at l₀ i₀ l i = Read h part e at (withLast e l) i
 
 abbrev μ-loop : tie.MeasureT-loop
 μ-loop h e part at l₀ i₀ l i = length part - i
@@ -25,13 +27,13 @@ returns : tie.Need-returns Inv-loop μ-loop
 returns c =
     let start = c .before .before .before in
     let a = start .args in
-    skipping-stop (a .h) (a .part .now) (a .e) (a .at) (a .e .last) (a .at) (skipping-start (a .h) (a .part .now) (a .e) (a .at) (start .pre .0))
+    read-start (a .h) (a .part .now) (a .e) (a .at) (start .pre .0)
 
 loop-holds : tie.Need-loop-holds Inv-loop μ-loop
 loop-holds c =
     let start = c .before .before .before in
     let a = start .args in
-    skipping-start (a .h) (a .part .now) (a .e) (a .at) (start .pre .0)
+    read-start (a .h) (a .part .now) (a .e) (a .at) (start .pre .0)
 
 mul-w : tie.Need-mul-w Inv-loop μ-loop
 mul-w c = search needs
@@ -43,10 +45,7 @@ body-right-requires : tie.Need-body-right-requires Inv-loop μ-loop
 body-right-requires c κs = search needs
 
 returns-2 : tie.Need-returns-2 Inv-loop μ-loop
-returns-2 c =
-    let at-loop = c .before .before .before .before in
-    let a = at-loop .before .before .before .before .args in
-    skipping-stop (a .h) (a .part .now) (a .e) (a .at) (at-loop .loop .l) (at-loop .loop .i) (at-loop .loop .inv)
+returns-2 c = c .before .before .before .before .loop .inv
 
 add-read-fours : tie.Need-add-read-fours Inv-loop μ-loop
 add-read-fours c = search needs
@@ -79,15 +78,13 @@ loop-again c =
     let i = at-loop .loop .i in
     let w = getD (a .part .now) i 0 in
     let right = sym (word .body-right .ensures) ∙ not-false _ (told .if2 .left) in
-    skipping-read (a .h) (a .part .now) (a .e) (a .at) w (i + 1) (c .read-fours .result)
-    (skipping-turn (a .h) (a .part .now) (a .e) (a .at) l i (turn .loop-test .taken) (body-passing (a .h) (a .e) l w right) (at-loop .loop .inv))
+    let fours = c .read-fours .result in
+    read-on (a .h) (a .part .now) (a .e) (a .at) (withLast (a .e) w) (i + 1) (withLast (a .e) (fours .last)) (fours .next)
+    (read-turn (a .h) (a .part .now) (a .e) (a .at) (withLast (a .e) l) (withLast (a .e) w) i (turn .loop-test .taken) (body-passing (a .h) (a .e) l w right) (at-loop .loop .inv))
     (c .read-fours .ensures (a .e) (omega (arith, opened .if1 .left)))
 
 returns-3 : tie.Need-returns-3 Inv-loop μ-loop
-returns-3 c =
-    let at-loop = c .before in
-    let a = at-loop .before .before .before .before .args in
-    skipping-stop (a .h) (a .part .now) (a .e) (a .at) (at-loop .loop .l) (at-loop .loop .i) (at-loop .loop .inv)
+returns-3 c = c .before .loop .inv
 
 pub read-body-spec : {M : Type 1} → statement M
 read-body-spec =

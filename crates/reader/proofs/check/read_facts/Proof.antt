@@ -1,98 +1,91 @@
--- `reader::check::read_facts` meets its contract: the answer from here is the answer from where it began.
+-- `reader::check::read_facts` meets its contract: the three kinds of fact words, one after the other.
 -- Assumes nothing.
 use borrow.Author.Needs.{needs}
-use borrow.Author.Tests.{not-false}
+use borrow.Author.Tests.{not-false, eqb-true}
 use native.Mathlib.Omega.{arith}
-use Prim.Native.Nat.{_-_, _^_, _<_}
-use mathlib.Core.Path.{sym, _∙_}
-use lib.ListN.{length}
-use Rattle.rules.specs.Quick.{withLast}
-use Rattle.rules.proofs.Right.{above-opener}
-use Rattle.reader.proofs.Walk.{Facts, skipping-start, skipping-stop, facts-turn}
+use mathlib.Core.Path.{refl, sym, _∙_}
+use mathlib.Core.Logic.{inl}
+use Rattle.image.specs.Word.{kind}
+use Rattle.column.proofs.Operations.{disjoint-in}
+use Rattle.rules.specs.Quick.{further}
+use Rattle.reader.specs.Readers.{Read}
+use Rattle.reader.proofs.Walk.{read-on}
 use Rattle.reader.proofs.check.read_facts.Statement.{statement}
 use Rattle.reader.proofs.check.read_facts.Tie as tie
 use Rattle.reader.proofs.check.read_facts.Reads as reads
 use Rattle.reader.proofs.check.read_facts.Lts as lts
-use Rattle.rules.proofs.rules.fact_above.Reads as fact-above-reads
-use Rattle.image.proofs.word.is_kind.Reads as is-kind-reads
+use Rattle.reader.proofs.check.read_kind.Reads as read-kind-reads
+use Rattle.column.proofs.sets.apart.Reads as apart-reads
 
-abbrev Inv-loop : tie.InvT-loop
-Inv-loop h last part at l₀ low₀ i₀ l low i = Facts h part last at l low i × (low < 2 ^ 32)
+-- the need words and the set words
+needs-read : (c : tie.After-read-kind)
+    → let a = c .before .before .args in
+    Read (a .h) (a .part .now) (a .e) (a .at) (further (a .e) (c .read-kind .result .last) (a .e .sets)) (c .read-kind .result .next)
+needs-read c =
+    let a = c .before .before .args in
+    c .read-kind .ensures .read (a .e) (a .e .sets) (λ q. absurd (omega arith)) (λ q. absurd (omega arith))
 
-abbrev μ-loop : tie.MeasureT-loop
-μ-loop h last part at l₀ low₀ i₀ l low i = length part - i
-
-is-kind-requires : tie.Need-is-kind-requires Inv-loop μ-loop
-is-kind-requires c κs = search needs
-
-returns : tie.Need-returns Inv-loop μ-loop
-returns c =
+sets-read : (c : tie.After-read-kind2)
+    → let a = c .before .before .before .args in
+    let needs = c .before .read-kind .result in
+    let sets = c .read-kind2 .result in
+    Read (a .h) (a .part .now) (further (a .e) (needs .last) (a .e .sets)) (needs .next) (further (a .e) (sets .last) (sets .facts)) (sets .next)
+sets-read c =
     let a = c .before .before .before .args in
-    λ e. skipping-stop (a .h) (a .part .now) (withLast e (a .last)) (a .at) (a .last) (a .at)
-    (skipping-start (a .h) (a .part .now) (withLast e (a .last)) (a .at) (c .before .before .before .pre))
+    c .read-kind2 .ensures .read (a .e) (a .e .sets) (λ q. refl) (λ q. absurd (omega arith))
 
-loop-holds : tie.Need-loop-holds Inv-loop μ-loop
-loop-holds c =
-    let a = c .before .before .before .args in (
-      record {
-        read = λ e. skipping-start (a .h) (a .part .now) (withLast e (a .last)) (a .at) (c .before .before .before .pre);
-        above = above-opener (a .last) (sym (c .before .is-kind .ensures) ∙ not-false _ (c .if1 .left));
-      },
-      omega arith,
-    )
+read-kind-requires : tie.Need-read-kind-requires
+read-kind-requires c κs =
+    let start = c .before in
+    (start .pre .0, start .pre .1, omega arith, omega arith, inl (eqb-true (kind (start .args .e .last)) 5 (start .pre .2)))
 
-mul-w : tie.Need-mul-w Inv-loop μ-loop
-mul-w c = search needs
+read-kind-requires-2 : tie.Need-read-kind-requires-2
+read-kind-requires-2 c κs =
+    let start = c .before .before in
+    let read = c .read-kind .ensures in
+    (needs-read c .within, start .pre .1, omega arith, omega arith, read .follows)
 
-shared-slice-read-w : tie.Need-shared-slice-read-w Inv-loop μ-loop
-shared-slice-read-w c = search needs
+read-kind-requires-3 : tie.Need-read-kind-requires-3
+read-kind-requires-3 c κs =
+    let start = c .before .before .before in
+    let read = c .read-kind2 .ensures in
+    (sets-read c .within, start .pre .1, omega arith, omega arith, read .follows)
 
-fact-above-requires : tie.Need-fact-above-requires Inv-loop μ-loop
-fact-above-requires c κs = search needs
+apart-requires : tie.Need-apart-requires
+apart-requires c κs = search needs
 
-returns-2 : tie.Need-returns-2 Inv-loop μ-loop
+returns : tie.Need-returns
+returns c =
+    let start = c .before .before .before .before .before .before in
+    let a = start .args in
+    let read = c .before .before .before in
+    let needs = read .before .read-kind .result in
+    let sets = read .read-kind2 .result in
+    read-on (a .h) (a .part .now) (a .e) (a .at) (further (a .e) (needs .last) (a .e .sets)) (needs .next) (further (a .e) (sets .last) (sets .facts)) (sets .next)
+    (needs-read (read .before)) (sets-read read)
+
+returns-2 : tie.Need-returns-2
 returns-2 c =
-    let at-loop = c .before .before .before .before in
-    let a = at-loop .before .before .before .before .args in
-    λ e. skipping-stop (a .h) (a .part .now) (withLast e (a .last)) (a .at) (at-loop .loop .l) (at-loop .loop .i) (at-loop .loop .inv .0 .read e)
-
-add-i : tie.Need-add-i Inv-loop μ-loop
-add-i c = search needs
-
-loop-less : tie.Need-loop-less Inv-loop μ-loop
-loop-less c = search needs
-
-loop-again : tie.Need-loop-again Inv-loop μ-loop
-loop-again c =
-    let word = c .before in
-    let turn = word .before .before in
-    let at-loop = turn .before in
-    let a = at-loop .before .before .before .before .args in (
-      facts-turn (a .h) (a .part .now) (a .last) (a .at) (at-loop .loop .l) (at-loop .loop .low) (at-loop .loop .i) (turn .loop-test .taken)
-          (sym (word .fact-above .ensures) ∙ not-false _ (c .if2 .left)) (at-loop .loop .inv .0),
-      omega (arith, word .before .shared-slice-known2 .given (at-loop .loop .i)),
-    )
-
-returns-3 : tie.Need-returns-3 Inv-loop μ-loop
-returns-3 c =
-    let at-loop = c .before in
-    let a = at-loop .before .before .before .before .args in
-    λ e. skipping-stop (a .h) (a .part .now) (withLast e (a .last)) (a .at) (at-loop .loop .l) (at-loop .loop .i) (at-loop .loop .inv .0 .read e)
+    let start = c .before .before .before .before .before .before in
+    let a = start .args in
+    let last = c .before .before in
+    let read = last .before in
+    let needs = read .before .read-kind .result in
+    let sets = read .read-kind2 .result in
+    let clears = last .read-kind3 .result in
+    let apart = sym (c .before .apart .ensures) ∙ not-false _ (c .if1 .left) in
+    read-on (a .h) (a .part .now) (a .e) (a .at) (further (a .e) (sets .last) (sets .facts)) (sets .next) (further (a .e) (clears .last) (sets .facts)) (clears .next)
+    (read-on (a .h) (a .part .now) (a .e) (a .at) (further (a .e) (needs .last) (a .e .sets)) (needs .next) (further (a .e) (sets .last) (sets .facts)) (sets .next)
+    (needs-read (read .before)) (sets-read read))
+    (last .read-kind3 .ensures .read (a .e) (sets .facts) (λ q. absurd (omega arith)) (λ q f held. disjoint-in (clears .facts) (sets .facts) f apart held))
 
 pub read-facts-spec : {M : Type 1} → statement M
 read-facts-spec =
     tie.close
     (tie.spec
-    Inv-loop
-    μ-loop
-    is-kind-requires
+    read-kind-requires
+    read-kind-requires-2
+    read-kind-requires-3
+    apart-requires
     returns
-    loop-holds
-    mul-w
-    shared-slice-read-w
-    fact-above-requires
-    returns-2
-    add-i
-    loop-less
-    loop-again
-    returns-3)
+    returns-2)

@@ -6,7 +6,7 @@ use native.Mathlib.Omega.{arith}
 use Prim.Native.Nat.{_-_, _≤_}
 use lib.ListN.{length}
 use Rattle.rules.specs.Quick.{withLast}
-use Rattle.reader.proofs.Walk.{Fours, skipping-start, skipping-stop, fours-turn}
+use Rattle.reader.proofs.Walk.{Fours, read-start, fours-turn}
 use Rattle.reader.proofs.check.read_fours.Statement.{statement}
 use Rattle.reader.proofs.check.read_fours.Tie as tie
 use Rattle.reader.proofs.check.read_fours.Reads as reads
@@ -25,7 +25,7 @@ loop-holds c =
     let a = start .args in (
       start .pre .0,
       record {
-        read = λ e opened. skipping-start (a .h) (a .part .now) (withLast e (a .last)) (a .at) (start .pre .0);
+        read = λ e opened. read-start (a .h) (a .part .now) (withLast e (a .last)) (a .at) (start .pre .0);
         follows = start .pre .2;
       },
     )
@@ -38,9 +38,7 @@ four-right-requires c κs = search needs
 
 returns : tie.Need-returns Inv-loop μ-loop
 returns c =
-    let at-loop = c .before .before .before in
-    let a = at-loop .before .before .args in
-    λ e opened. skipping-stop (a .h) (a .part .now) (withLast e (a .last)) (a .at) (at-loop .loop .l) (at-loop .loop .i) (at-loop .loop .inv .1 .read e opened)
+    c .before .before .before .loop .inv .1 .read
 
 add-l : tie.Need-add-l Inv-loop μ-loop
 add-l c = search needs
@@ -70,9 +68,7 @@ loop-again c =
 
 returns-2 : tie.Need-returns-2 Inv-loop μ-loop
 returns-2 c =
-    let at-loop = c .before in
-    let a = at-loop .before .before .args in
-    λ e opened. skipping-stop (a .h) (a .part .now) (withLast e (a .last)) (a .at) (at-loop .loop .l) (at-loop .loop .i) (at-loop .loop .inv .1 .read e opened)
+    c .before .loop .inv .1 .read
 
 pub read-fours-spec : {M : Type 1} → statement M
 read-fours-spec =

@@ -6,14 +6,15 @@ use Prim.Native.Nat.{_+_, _-_}
 use mathlib.Core.Path.{sym, _∙_}
 use lib.ListN.{length, getD}
 use Rattle.rules.specs.Quick.{after}
-use Rattle.reader.proofs.Walk.{Reading, reading-start, reading-turn, reading-refused, reading-end, reading-body}
+use Rattle.rules.proofs.Faultless.{set-low}
+use Rattle.reader.proofs.Walk.{Reading, reading-start, reading-turn, reading-refused, reading-end, reading-on}
 use Rattle.reader.proofs.check.read_sequences.Statement.{statement}
 use Rattle.reader.proofs.check.read_sequences.Tie as tie
 use Rattle.reader.proofs.check.read_sequences.Reads as reads
 use Rattle.reader.proofs.check.read_sequences.Lts as lts
 use Rattle.reader.proofs.check.ended_at.Reads as ended-at-reads
 use Rattle.reader.proofs.check.read_body.Reads as read-body-reads
-use Rattle.reader.proofs.check.with_last.Reads as with-last-reads
+use Rattle.reader.proofs.check.further_on.Reads as further-on-reads
 use Rattle.rules.proofs.rules.sequence_fault.Reads as sequence-fault-reads
 use Rattle.rules.proofs.rules.past.Reads as past-reads
 
@@ -57,7 +58,16 @@ enum-told : tie.Need-enum-told Inv-loop μ-loop
 enum-told c = search needs
 
 past-requires : tie.Need-past-requires Inv-loop μ-loop
-past-requires c κs = search needs
+past-requires c κs =
+    let judged = c .before .before in
+    let at-loop = judged .before .before .before in
+    let start = at-loop .before .before in
+    let w = getD (start .args .part .now) (at-loop .loop .i) 0 in
+    let none = sym (sym (c .enum-told .given .1) ∙ judged .sequence-fault .ensures) in (
+      omega (arith, at-loop .loop .inv .steps),
+      omega (arith, at-loop .loop .inv .sequences),
+      set-low (start .args .h) (at-loop .loop .e) _ w (start .pre .3) none,
+    )
 
 add-read-body : tie.Need-add-read-body Inv-loop μ-loop
 add-read-body c = search needs
@@ -65,8 +75,8 @@ add-read-body c = search needs
 read-body-requires : tie.Need-read-body-requires Inv-loop μ-loop
 read-body-requires c κs = omega (arith, c .before .before .before .before .before .loop-test .taken)
 
-with-last-requires : tie.Need-with-last-requires Inv-loop μ-loop
-with-last-requires c κs = search needs
+further-on-requires : tie.Need-further-on-requires Inv-loop μ-loop
+further-on-requires c κs = search needs
 
 loop-less : tie.Need-loop-less Inv-loop μ-loop
 loop-less c =
@@ -84,8 +94,10 @@ loop-again c =
     let next =
     reading-turn (a .h) (a .before) (a .at) (a .part .now) (at-loop .loop .e) (at-loop .loop .i) (omega arith) (at-loop .loop .inv)
     (sym (told .enum-told .given .1) ∙ judged .sequence-fault .ensures) in
-    rw (c .with-last .ensures, read .before .past .ensures)
-    (reading-body (a .h) (a .before) (a .at) (a .part .now) (after (at-loop .loop .e) w) (at-loop .loop .i + 1) (read .read-body .result) next
+    let body = read .read-body .result in
+    let e = after (at-loop .loop .e) w in
+    rw (c .further-on .ensures, read .before .past .ensures)
+    (reading-on (a .h) (a .before) (a .at) (a .part .now) e (at-loop .loop .i + 1) (body .last) (e .sets) (body .next) next
     (rw (read .before .past .ensures) at (read .read-body .ensures)))
 
 add-ended-at : tie.Need-add-ended-at Inv-loop μ-loop
@@ -122,7 +134,7 @@ read-sequences-spec =
     past-requires
     add-read-body
     read-body-requires
-    with-last-requires
+    further-on-requires
     loop-less
     loop-again
     add-ended-at

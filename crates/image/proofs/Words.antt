@@ -1,0 +1,35 @@
+-- The kinds of fact words and of entries.
+-- Assumes nothing.
+use Prim.Native.Nat.{ℕ, _≤_}
+use native.Mathlib.Omega.{arith}
+use mathlib.Core.Path.{_≡_, refl}
+use mathlib.Core.Bool.{Bool, true, false, _||_}
+use mathlib.Core.Logic.{⊎-elim}
+use borrow.Author.Tests.{eqb-true, eqb-false}
+use Rattle.image.specs.Word.{kind, isKind, isFact, isEntry}
+use Rattle.general.proofs.Bools.{or-cases}
+
+-- a fact word is of kind 2, 3 or 4
+pub fact-of : (w : ℕ) → 2 ≤ kind w → kind w ≤ 4 → isFact w ≡ true
+fact-of w l u = go (isKind 2 w) (isKind 3 w) (isKind 4 w) refl refl refl
+  where
+    go : (a b c : Bool) → isKind 2 w ≡ a → isKind 3 w ≡ b → isKind 4 w ≡ c → a || b || c ≡ true
+    go true b c p q r = refl
+    go false true c p q r = refl
+    go false false true p q r = refl
+    go false false false p q r = absurd (omega (arith, eqb-false (kind w) 2 p, eqb-false (kind w) 3 q, eqb-false (kind w) 4 r))
+
+pub fact-kind : (w : ℕ) → isFact w ≡ true → (2 ≤ kind w) × (kind w ≤ 4)
+fact-kind w s =
+    ⊎-elim
+    (λ s. ⊎-elim (λ s. omega (arith, eqb-true (kind w) 2 s)) (λ s. omega (arith, eqb-true (kind w) 3 s)) (or-cases (isKind 2 w) (isKind 3 w) s))
+    (λ s. omega (arith, eqb-true (kind w) 4 s))
+    (or-cases (isKind 2 w || isKind 3 w) (isKind 4 w) s)
+
+-- an entry is of kind 8 or 9
+pub entry-kinds : (w : ℕ) → isEntry w ≡ true → (kind w ≡ 8 → ⊥) → kind w ≡ 9
+entry-kinds w e d = ⊎-elim (λ p. absurd (d (eqb-true (kind w) 8 p))) (λ p. eqb-true (kind w) 9 p) (or-cases (isKind 8 w) (isKind 9 w) e)
+
+pub entry-high : (w : ℕ) → isEntry w ≡ true → 8 ≤ kind w
+entry-high w e =
+    ⊎-elim (λ p. omega (arith, eqb-true (kind w) 8 p)) (λ p. omega (arith, eqb-true (kind w) 9 p)) (or-cases (isKind 8 w) (isKind 9 w) e)
