@@ -112,7 +112,7 @@ fn read_kind(h: Head, k: u32, last: u32, from: u64, part: &[u32], at: usize) -> 
 }
 
 // Reads the fact words that stand from index `at` on, after a step's opener, and are right. It stops before the clear words of a step that
-// clears what it sets.
+// clears what it sets; these are judged one by one.
 fn read_facts(h: Head, e: Earlier, part: &[u32], at: usize) -> Facts
     requires { ⌜ (at ≤ length (now part)) × Counts h × (isKind 5 (e .last) ≡ true) ⌝ }
     ensures { λ r. ⌜ FactsRead h (now (part .entry)) e at r ⌝ }
@@ -130,8 +130,8 @@ fn read_facts(h: Head, e: Earlier, part: &[u32], at: usize) -> Facts
     }
 }
 
-// Reads the steps' part: the words of `part` up to the first sequence. The part begins at position 1, after the head. A step is read at
-// once, and a word that its reader does not pass by itself.
+// Reads the steps' part: the words of `part` up to the first sequence. The part begins at position 1, after the head. A step's
+// words are read together; a word at which that ends, and which opens no step as it must, is judged by each rule.
 fn read_steps(h: Head, first: u32, part: &[u32]) -> Steps
     requires { ⌜ (length (now part) < mostWords) × Counts h ⌝ }
     ensures { λ r. ⌜ StepsRead h first (now (part .entry)) r ⌝ }
