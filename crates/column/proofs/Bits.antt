@@ -100,7 +100,7 @@ column-is n a p l same = bits-equal n a (column n p) l (column-lt n p) (λ k u. 
 pub column-same : (n : ℕ) (p q : ℕ → Bool) → ((k : ℕ) → k < n → p k ≡ q k) → column n p ≡ column n q
 column-same n p q same = column-is n (column n p) q (column-lt n p) (λ k l. bit-column n p k l ∙ ap boolByte (same k l))
 
-byte-or : (a b : Bool) → boolByte (a || b) ≡ max (boolByte a) (boolByte b)
+pub byte-or : (a b : Bool) → boolByte (a || b) ≡ max (boolByte a) (boolByte b)
 byte-or true true = refl
 byte-or true false = refl
 byte-or false true = refl

@@ -1,7 +1,7 @@
 -- Columns as sets of facts, over the width: what each operation gives of the columns of two tests, the count of a column's facts,
 -- and a column read one fact at a time.
 -- Assumes nothing.
-use Prim.Native.Nat.{ℕ, zero, suc, _+_, _-_, _*_, _/_, _%_, _^_, _≤_, _<_, max, min}
+use Prim.Native.Nat.{ℕ, zero, suc, _+_, _-_, _*_, _/_, _%_, _^_, _≤_, _<_, min}
 use native.Mathlib.Nat.{pow-suc}
 use native.Mathlib.Omega.{arith}
 use mathlib.Core.Path.{_≡_, refl, sym, ap, ap₂, _∙_}
@@ -10,24 +10,14 @@ use mathlib.Core.Bool.{Bool, true, false, not, _&&_, _||_, false≢true, true≢
 use lib.Bits.{bitAnd, bitOr, or-lt, and-le-l}
 use lib.Count.{ones, ones-step}
 use lib.Dec.{eqb}
-use borrow.Author.Tests.{eqb-true, ne-eqb}
+use borrow.Author.Tests.{eqb-true, eq-eqb, ne-eqb}
 use lib.Pow.{pow-mono, pow-pos}
 use mir.Val.{boolByte}
 use Rattle.column.specs.Column.{bit, column, withFact}
 use Rattle.column.specs.Sets.{difference, disjoint, inColumn, countBelow}
-use Rattle.column.proofs.Bits.{bit-le, bit-none, bit-or, bit-and, bit-not, bit-pow, bit-high, column-lt, bit-column, column-is, column-same}
+use Rattle.column.proofs.Bits.{bit-le, bit-none, byte-le, byte-or, bit-or, bit-and, bit-not, bit-pow, bit-high, column-lt, bit-column, column-is, column-same}
 
 -- ---- tests as bits
-
-byte-bound : (a : Bool) → boolByte a ≤ 1
-byte-bound true = omega arith
-byte-bound false = omega arith
-
-byte-or : (a b : Bool) → boolByte (a || b) ≡ max (boolByte a) (boolByte b)
-byte-or true true = refl
-byte-or true false = refl
-byte-or false true = refl
-byte-or false false = refl
 
 byte-and : (a b : Bool) → boolByte (a && b) ≡ min (boolByte a) (boolByte b)
 byte-and true true = refl
@@ -71,15 +61,15 @@ unfolding column countBelow ones
 ones-column zero p = refl
 ones-column (suc n) p =
     let rest = column n (λ (k : ℕ). p (suc k)) in
-    let low : (boolByte (p 0) + 2 * rest) % 2 ≡ boolByte (p 0) = omega (arith, byte-bound (p 0)) in
-    let high : (boolByte (p 0) + 2 * rest) / 2 ≡ rest = omega (arith, byte-bound (p 0)) in
+    let low : (boolByte (p 0) + 2 * rest) % 2 ≡ boolByte (p 0) = omega (arith, byte-le (p 0)) in
+    let high : (boolByte (p 0) + 2 * rest) / 2 ≡ rest = omega (arith, byte-le (p 0)) in
     ones-step (boolByte (p 0) + 2 * rest) ∙ ap₂ (λ (a b : ℕ). a + ones b) low high
     ∙ ap (λ (m : ℕ). boolByte (p 0) + m) (ones-column n (λ (k : ℕ). p (suc k)))
 
 pub count-le : (n : ℕ) (p : ℕ → Bool) → countBelow n p ≤ n
 unfolding countBelow
 count-le zero p = omega arith
-count-le (suc n) p = omega (arith, byte-bound (p 0), count-le n (λ (k : ℕ). p (suc k)))
+count-le (suc n) p = omega (arith, byte-le (p 0), count-le n (λ (k : ℕ). p (suc k)))
 
 -- ---- one fact
 
@@ -124,6 +114,17 @@ in-with c f k =
 
     bit-byte : bit c k ≡ boolByte (eqb (bit c k) 1)
     bit-byte = low (bit c k) (bit-le c k)
+
+-- that fact is in it, and so are those that were in it before
+pub in-own : (c f : ℕ) → inColumn (withFact c f) f ≡ true
+in-own c f = in-with c f f ∙ ap (λ (b : Bool). b || inColumn c f) (eq-eqb f f refl)
+
+pub in-more : (c f k : ℕ) → inColumn c k ≡ true → inColumn (withFact c f) k ≡ true
+in-more c f k held = in-with c f k ∙ ap (λ (b : Bool). eqb f k || b) held ∙ or-true (eqb f k)
+  where
+    or-true : (b : Bool) → b || true ≡ true
+    or-true true = refl
+    or-true false = refl
 
 -- a fact of one of two columns without a fact in common is not in the other
 pub disjoint-in : (a b k : ℕ) → disjoint a b ≡ true → inColumn a k ≡ true → inColumn b k ≡ false

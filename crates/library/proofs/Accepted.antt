@@ -5,7 +5,7 @@
 -- `alternatives-named`, which are what other crates cite. What a passed test says stands in Passed, that no step clears what it sets in
 -- Apart, how large a library can be in Sizes, where its parts meet in Seam.
 -- Assumes nothing.
-use Prim.Native.Nat.{ℕ, zero, suc, _+_, _-_, _/_, _^_, _≤_, _<_}
+use Prim.Native.Nat.{ℕ, zero, suc, _+_, _-_, _≤_, _<_}
 use native.Mathlib.Nat.{le-of-suc-le-suc, add-zero, zero-add}
 use native.Mathlib.Omega.{arith}
 use mathlib.Core.Path.{_≡_, refl, sym, ap, ap₂, _∙_}
@@ -31,7 +31,8 @@ use Rattle.image.specs.declared.answer.Refusal.the-variants.{Length, SumWord, H
 use Rattle.image.specs.declared.answer.Checked.the-variants.{Accepted}
 use Rattle.rules.specs.declared.rules.Earlier.{Earlier}
 use Rattle.rules.specs.declared.rules.Fault.the-variants.{Nothing}
-use Rattle.general.proofs.Bools.{and-left, and-right, or-cases, or-five, and-six}
+use Rattle.general.proofs.Bools.{and-left, and-right, or-cases, or-five}
+use Rattle.image.proofs.Head.{HeadRule, head-rule}
 use Rattle.image.proofs.Words.{fact-kind, entry-kinds}
 use Rattle.library.proofs.Decode.{is-not, kind-is, alternatives-all, parts-opened, parts-joined, steps-length, sequences-length}
 use Rattle.rules.proofs.Checked.{checked-walk}
@@ -324,22 +325,8 @@ module _ (image : List ℕ) (h : Head) (a : checked image ≡ Accepted h) where
   scans : scan h (take 1 image) (between image) ≡ Accepted h
   scans = ap (λ (g : Head). scan g (take 1 image) (between image)) head-is ∙ checks image h a .scans
 
-  -- the members of the rule for the head
-  head-rule : (isKind 1 (firstWord image) ≡ true) × (1 ≤ h .facts) × (h .facts ≤ 64) × (h .steps ≤ 1024) × (h .sequences ≤ 256)
-      × (payload (firstWord image) / 2 ^ 27 ≡ 0)
-  head-rule =
-      let w = firstWord image in
-      let g = headOf w in
-      let t =
-      and-six true (isKind 1 w) (leb 1 (g .facts) && leb (g .facts) 64) (leb (g .steps) 1024) (leb (g .sequences) 256)
-      (eqb (payload w / 2 ^ 27) 0) (checks image h a .head) in (
-        t .1,
-        rw head-is (leb-true 1 (g .facts) (and-left (leb 1 (g .facts)) _ (t .2))),
-        rw head-is (leb-true (g .facts) 64 (and-right (leb 1 (g .facts)) _ (t .2))),
-        rw head-is (leb-true (g .steps) 1024 (t .3)),
-        rw head-is (leb-true (g .sequences) 256 (t .4)),
-        eqb-true (payload w / 2 ^ 27) 0 (t .5),
-      )
+  rule : HeadRule (firstWord image)
+  rule = head-rule (firstWord image) (checks image h a .head)
 
   no-fault : (p : ℕ) → 1 ≤ p → p + 1 < length image → faultAt h (earlier (take p image)) p (getD image p 0) ≡ Nothing
   no-fault zero l u = absurd (omega arith)
@@ -352,16 +339,16 @@ module _ (image : List ℕ) (h : Head) (a : checked image ≡ Accepted h) where
   pub faultless : Faultless image h
   faultless =
       let c = checks image h a in
-      let r = head-rule in
+      let r = rule in
       record {
         low = c .low;
         high = c .high;
         head = head-is;
-        facts-low = r .1;
-        facts-high = r .2;
-        steps-high = r .3;
-        sequences-high = r .4;
-        payload = rw head-is (omega (arith, r .5));
+        facts-low = rw head-is (r .facts-low);
+        facts-high = rw head-is (r .facts-high);
+        steps-high = rw head-is (r .steps-high);
+        sequences-high = rw head-is (r .sequences-high);
+        payload = rw head-is (omega (arith, r .spare));
         between = no-fault;
       }
 
@@ -370,7 +357,7 @@ module _ (image : List ℕ) (h : Head) (a : checked image ≡ Accepted h) where
   parts =
       let e = opening (firstWord image) in
       let ws = between image in
-      let one : kind (firstWord image) ≡ 1 = kind-is 1 (firstWord image) (head-rule .0) in
+      let one : kind (firstWord image) ≡ 1 = kind-is 1 (firstWord image) (rule .first) in
       let steps = steps-words h e 1 ws h walks refl (omega arith) in
       let sequences = sequences-words h e 1 ws h walks in
       let n = counts h e 1 ws h walks (omega arith) (omega arith) in

@@ -2,8 +2,8 @@
 -- Assumes nothing.
 use Prim.Native.Nat.{ℕ, suc, _≤_}
 use native.Mathlib.Omega.{arith}
-use mathlib.Core.Path.{_≡_, refl, sym}
-use mathlib.Core.Bool.{Bool, true, false, cond, _||_, false≢true}
+use mathlib.Core.Path.{_≡_, refl}
+use mathlib.Core.Bool.{Bool, true, false, cond, _||_}
 use mathlib.Core.List.{List, [], _∷_}
 use lib.Dec.{ltb}
 use borrow.Author.Tests.{ltb-false}
@@ -19,6 +19,7 @@ use Rattle.image.specs.declared.answer.Checked.the-variants.{Accepted, Refused}
 use Rattle.rules.specs.declared.rules.Earlier.{Earlier}
 use Rattle.rules.specs.declared.rules.Fault.{Fault}
 use Rattle.rules.specs.declared.rules.Fault.the-variants.{Found, Nothing}
+use Rattle.general.proofs.Bools.{nor-left, nor-right}
 
 refused-accepted : {r : Refusal} {h : Head} → Refused r ≡ Accepted h → ⊥
 refused-accepted {r} {h} e = let z : _≡_ {A = ℕ} 0 1 = cc in omega arith
@@ -44,14 +45,11 @@ pub walk-cons : (h : Head) (e : Earlier) (p w : ℕ) (ws : List ℕ) (g : Head) 
 unfolding walk
 walk-cons h e p w ws g a = passed-word (faultAt h e p w) (walk h (after e w) (suc p) ws) g a
 
-or-false : (a b : Bool) → a || b ≡ false → (a ≡ false) × (b ≡ false)
-or-false true b e = absurd (false≢true (sym e))
-or-false false b e = (refl, e)
-
 pub walk-nil : (h : Head) (e : Earlier) (p : ℕ) (g : Head) → walk h e p [] ≡ Accepted g
     → (h ≡ g) × (h .steps ≤ e .steps) × (h .sequences ≤ e .sequences)
 unfolding walk
 walk-nil h e p g a =
     let n = passed-not (ltb (e .steps) (h .steps) || ltb (e .sequences) (h .sequences)) (Missing p) h g a in
-    let o = or-false (ltb (e .steps) (h .steps)) (ltb (e .sequences) (h .sequences)) (n .0) in
-    (n .1, ltb-false _ _ (o .0), ltb-false _ _ (o .1))
+    let steps = ltb (e .steps) (h .steps) in
+    let sequences = ltb (e .sequences) (h .sequences) in
+    (n .1, ltb-false _ _ (nor-left steps sequences (n .0)), ltb-false _ _ (nor-right steps sequences (n .0)))

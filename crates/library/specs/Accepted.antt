@@ -62,7 +62,7 @@ Named h (call c) = c < h .sequences
 abbrev pub Below : ℕ → Step → Type 0
 Below n s = All (λ (f : ℕ). f < n) (s .needs) × All (λ (f : ℕ). f < n) (s .sets) × All (λ (f : ℕ). f < n) (s .clears)
 
--- no fact is among a step's sets and its clears: "a step that sets and clears one fact .. is refused"
+-- no fact is among a step's sets and its clears: "a step that sets and clears one fact": "Such a step is refused."
 abbrev pub Apart : Step → Type 0
 Apart s = (f : ℕ) → has f (s .sets) && has f (s .clears) ≡ false
 

@@ -1,15 +1,13 @@
 -- What follows from where the reader of the steps' part stopped.
 -- Assumes nothing.
-use Prim.Native.Nat.{ℕ, _+_, _-_, _/_, _^_, _≤_}
+use Prim.Native.Nat.{ℕ, _+_, _-_, _≤_}
 use native.Mathlib.Omega.{arith}
 use mathlib.Core.Path.{_≡_, sym, ap, _∙_, subst}
-use mathlib.Core.Bool.{true, _&&_}
+use mathlib.Core.Bool.{true}
 use mathlib.Core.List.{List}
 use lib.ListN.{length, drop}
-use lib.Dec.{leb, eqb}
-use borrow.Author.Tests.{leb-true}
-use Rattle.general.proofs.Bools.{and-left, and-right}
-use Rattle.image.specs.Word.{mostFacts, mostSteps, mostSequences, payload, isKind, headOf, headRight}
+use Rattle.image.specs.Word.{headOf, headRight}
+use Rattle.image.proofs.Head.{head-rule}
 use Rattle.rules.specs.Quick.{Counts}
 use Rattle.rules.specs.Walk.{walk, opening}
 use Rattle.reader.specs.Readers.{resume, StoppedWithin, StepsRead}
@@ -31,14 +29,4 @@ module _ (h : Head) (first : ℕ) (part : List ℕ) (r : Steps) (read : StepsRea
   stopped-within e i q = subst (StoppedWithin part) q (read .left)
 
 pub head-counts : (w : ℕ) → headRight w ≡ true → Counts (headOf w)
-head-counts w right =
-    let h = headOf w in
-    let facts = leb 1 (h .facts) && leb (h .facts) mostFacts in
-    let four = and-left (isKind 1 w && facts && leb (h .steps) mostSteps && leb (h .sequences) mostSequences) (eqb (payload w / 2 ^ 27) 0) right in
-    let three = and-left (isKind 1 w && facts && leb (h .steps) mostSteps) (leb (h .sequences) mostSequences) four in
-    let two = and-left (isKind 1 w && facts) (leb (h .steps) mostSteps) three in
-    record {
-      facts = leb-true (h .facts) mostFacts (and-right (leb 1 (h .facts)) (leb (h .facts) mostFacts) (and-right (isKind 1 w) facts two));
-      steps = omega arith;
-      sequences = omega arith;
-    }
+head-counts w right = record { facts = head-rule w right .facts-high; steps = omega arith; sequences = omega arith }

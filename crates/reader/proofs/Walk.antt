@@ -10,17 +10,17 @@ use lib.ListN.{length, getD, drop}
 use mathlib.Core.Bool.{Bool, true, false, cond}
 use mathlib.Core.Logic.{_⊎_, inl, inr, ⊎-elim}
 use lib.Dec.{eqb}
-use borrow.Author.Tests.{eq-eqb, ne-eqb, eqb-true}
+use borrow.Author.Tests.{ne-eqb, eqb-true}
 use lib.Seq.{drop-cons, drop-length}
 use Rattle.column.specs.Column.{withFact}
 use Rattle.column.specs.Sets.{inColumn}
-use Rattle.column.proofs.Operations.{in-with}
+use Rattle.column.proofs.Operations.{in-own, in-more}
 use Rattle.image.specs.Word.{kind, payload, isKind}
 use Rattle.rules.specs.Rules.{setsAfter, faultAt}
 use Rattle.rules.specs.Quick.{bodyRight, insideRight, Counts, FactFollows, after, further, withLast, inAlternative}
 use Rattle.rules.specs.Checked.{atWord}
 use Rattle.rules.specs.Walk.{ended, walk}
-use Rattle.reader.specs.Readers.{Unset, Read, KindRead, FourRight}
+use Rattle.reader.specs.Readers.{Read, KindRead, FourRight}
 use Rattle.image.specs.declared.answer.Head.{Head}
 use Rattle.image.specs.declared.answer.Refusal.{Refusal}
 use Rattle.image.specs.declared.answer.Checked.{Checked}
@@ -28,7 +28,7 @@ use Rattle.image.specs.declared.answer.Checked.the-variants.{Refused}
 use Rattle.rules.specs.declared.rules.Earlier.{Earlier}
 use Rattle.rules.specs.declared.rules.Fault.{Fault}
 use Rattle.rules.specs.declared.rules.Fault.the-variants.{Found, Nothing}
-use Rattle.general.proofs.Bools.{byte-le, or-left, or-right}
+use Rattle.general.proofs.Bools.{byte-le}
 use Rattle.rules.proofs.Right.{Passing, body-passing, body-follows, inside-body, fact-passing}
 
 walk-drop : (h : Head) (e : Earlier) (p i : ℕ) (ws : List ℕ) → i < length ws
@@ -151,15 +151,11 @@ module _ (h : Head) (part : List ℕ) (k last from at : ℕ) (low : 2 ≤ k) (hi
             record {
               read = λ e sets same none.
                   let before = cond (eqb k 3) facts sets in
-                  let mine : inColumn (withFact facts (payload w)) (payload w) ≡ true =
-                  in-with facts (payload w) (payload w) ∙ or-left (eqb (payload w) (payload w)) (inColumn facts (payload w)) (eq-eqb (payload w) (payload w) refl) in
-                  let unset : k ≡ 4 → inColumn before (payload w) ≡ false = λ four. rw four (none four (payload w) mine) in
-                  let fewer : Unset sets (withFact facts (payload w)) → Unset sets facts =
-                  λ u f held. u f (in-with facts (payload w) f ∙ or-right (eqb (payload w) f) (inColumn facts f) held) in
+                  let unset : k ≡ 4 → inColumn before (payload w) ≡ false = λ four. rw four (none four (payload w) (in-own facts (payload w))) in
                   let follows : FactFollows l k ⊎ ((kind l ≡ k) × (l < w)) = ⊎-elim inl (λ same. inr (same .0, omega arith)) (here .above) in
                   subst (λ (s : ℕ). Read h part (further e last sets) at (further e w s) (i + 1)) (sets-next k facts sets w high is)
                   (read-turn h part (further e last sets) at (further e l before) (further e w (setsAfter before w)) i lt
-                  (fact-passing h k l w low high is counted follows e before unset) (here .read .read e sets same (λ four. fewer (none four))));
+                  (fact-passing h k l w low high is counted follows e before unset) (here .read .read e sets same (λ four f held. none four f (in-more facts (payload w) f held))));
               follows = inr (omega arith);
             };
         room = omega arith;

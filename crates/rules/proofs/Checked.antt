@@ -13,7 +13,7 @@ use Rattle.image.specs.Word.{kind, isKind, sumRight, headOf, headRight}
 use Rattle.image.specs.declared.answer.Head.{Head}
 use Rattle.image.specs.declared.answer.Refusal.the-variants.{Length, SumWord, HeadWord}
 use Rattle.image.specs.declared.answer.Checked.the-variants.{Refused}
-use Rattle.general.proofs.Bools.{and-left}
+use Rattle.image.proofs.Head.{head-rule}
 use Rattle.rules.specs.Rules.{opened, lastOf, setsAfter, setsOf, earlier, faultAt}
 use Rattle.rules.specs.Quick.{after}
 use Rattle.rules.specs.Checked.{atWord, scan, allButLast, between, firstWord, lastWord, checked}
@@ -69,7 +69,7 @@ sets-none w three five = rw (three, five)
 head-opens : (w : ℕ) → headRight w ≡ true → earlier (w ∷ []) ≡ opening w
 unfolding lastOf
 head-opens w e i =
-    let one = and-left _ _ (and-left _ _ (and-left _ _ (and-left _ _ e))) in
+    let one = head-rule w e .first in
     record {
       steps = opens-none 5 w (not-kind 1 5 w one (omega arith)) i;
       sequences = opens-none 6 w (not-kind 1 6 w one (omega arith)) i;

@@ -37,6 +37,9 @@ fine h e p w n =
     let k = all-kept (mayStand h e w) (payloadRight h e w) (inOrder e w) (clearsUnset (e .sets) w) _ _ _ _ n in
     record { stands = k .0; pays = k .1; follows = k .2; unset = k .3 }
 
+pub none-found : (h : Head) (e : Earlier) (p w : ℕ) → Fine h e w → Nothing ≡ faultAt h e p w
+none-found h e p w f = rw (f .stands, f .pays, f .follows, f .unset)
+
 -- the rule holds of a word of its kind
 pub where-kind : (b r : Bool) → whereKind b r ≡ true → b ≡ true → r ≡ true
 where-kind true r e q = e

@@ -12,22 +12,14 @@ use borrow.Author.Tests.{eqb-true, ne-eqb, eq-eqb, ltb-true, lt-ltb}
 use mir.Val.{boolByte}
 use Rattle.column.specs.Sets.{inColumn}
 use Rattle.image.specs.Word.{kind, payload, isKind, isFact, isEntry}
-use Rattle.rules.specs.Rules.{setsAfter, clearsUnset, faultAt}
-use Rattle.rules.specs.Quick.{entryRight, alternativeRight, bodyRight, insideRight, Counts, stepRight, sequenceRight, factRight, FactFollows, after, further, withLast, inAlternative}
+use Rattle.rules.specs.Rules.{whereKind, setsAfter, faultAt}
+use Rattle.rules.specs.Quick.{entryRight, alternativeRight, bodyRight, insideRight, Counts, stepRight, sequenceRight, FactFollows, after, further, withLast, inAlternative}
 use Rattle.image.specs.declared.answer.Head.{Head}
 use Rattle.rules.specs.declared.rules.Earlier.{Earlier}
 use Rattle.rules.specs.declared.rules.Fault.the-variants.{Nothing}
-use Rattle.general.proofs.Bools.{and-left, and-right, or-left, or-right, or-cases}
-use Rattle.image.proofs.Words.{fact-of}
-use Rattle.rules.proofs.Faultless.{where-kind, kind-where}
-
--- a fact word by its kind
-by-fact : {P : Type 0} (w : ℕ) → isFact w ≡ true → (kind w ≡ 2 → P) → (kind w ≡ 3 → P) → (kind w ≡ 4 → P) → P
-by-fact w fact two three four =
-    ⊎-elim
-    (λ low. ⊎-elim (λ k. two (eqb-true (kind w) 2 k)) (λ k. three (eqb-true (kind w) 3 k)) (or-cases (isKind 2 w) (isKind 3 w) low))
-    (λ k. four (eqb-true (kind w) 4 k))
-    (or-cases (isKind 2 w || isKind 3 w) (isKind 4 w) fact)
+use Rattle.general.proofs.Bools.{and-left, and-right, or-left, or-right, or-cases, and-six}
+use Rattle.image.proofs.Words.{fact-of, fact-kind}
+use Rattle.rules.proofs.Faultless.{Fine, none-found, kind-where}
 
 module _ (h : Head) (e : Earlier) (p w : ℕ) where
   pub entry-faultless : entryRight h (e .last) w ≡ true → Nothing ≡ faultAt h e p w
@@ -53,54 +45,19 @@ module _ (h : Head) (e : Earlier) (p w : ℕ) where
 
   pub step-faultless : stepRight h e w ≡ true → Nothing ≡ faultAt h e p w
   step-faultless right =
-      let three = isKind 5 w && eqb (e .sequences) 0 && eqb (payload w) (e .steps) in
-      let two = and-left three (ltb (payload w) (h .steps)) right in
-      let low = and-right three (ltb (payload w) (h .steps)) right in
-      let one = and-left (isKind 5 w && eqb (e .sequences) 0) (eqb (payload w) (e .steps)) two in
-      let next = and-right (isKind 5 w && eqb (e .sequences) 0) (eqb (payload w) (e .steps)) two in
-      let k = eqb-true (kind w) 5 (and-left (isKind 5 w) (eqb (e .sequences) 0) one) in
-      let early = and-right (isKind 5 w) (eqb (e .sequences) 0) one in
-      rw (k, early, next, low)
+      let t = and-six true true (isKind 5 w) (eqb (e .sequences) 0) (eqb (payload w) (e .steps)) (ltb (payload w) (h .steps)) right in
+      rw (eqb-true (kind w) 5 (t .2), t .3, t .4, t .5)
 
   pub sequence-faultless : sequenceRight h e w ≡ true → Nothing ≡ faultAt h e p w
   sequence-faultless right =
-      let three = isKind 6 w && leb (h .steps) (e .steps) && eqb (payload w) (e .sequences) in
-      let two = and-left three (ltb (payload w) (h .sequences)) right in
-      let low = and-right three (ltb (payload w) (h .sequences)) right in
-      let one = and-left (isKind 6 w && leb (h .steps) (e .steps)) (eqb (payload w) (e .sequences)) two in
-      let next = and-right (isKind 6 w && leb (h .steps) (e .steps)) (eqb (payload w) (e .sequences)) two in
-      let k = eqb-true (kind w) 6 (and-left (isKind 6 w) (leb (h .steps) (e .steps)) one) in
-      let late = and-right (isKind 6 w) (leb (h .steps) (e .steps)) one in
-      rw (k, late, next, low)
-
-  pub fact-faultless : factRight h (e .last) w ≡ true → clearsUnset (e .sets) w ≡ true → Nothing ≡ faultAt h e p w
-  fact-faultless right unset =
-      let free : kind w ≡ 4 → not (inColumn (e .sets) (payload w)) ≡ true = λ k. where-kind (isKind 4 w) _ unset (eq-eqb (kind w) 4 k) in
-      let named = and-left (isFact w && ltb (payload w) (h .facts)) _ right in
-      let follows = and-right (isFact w && ltb (payload w) (h .facts)) (isKind 5 (e .last) || isFact (e .last) && ltb (e .last) w) right in
-      let fact = and-left (isFact w) (ltb (payload w) (h .facts)) named in
-      let low = and-right (isFact w) (ltb (payload w) (h .facts)) named in
-      ⊎-elim
-      (λ (opener : isKind 5 (e .last) ≡ true).
-      let l = eqb-true (kind (e .last)) 5 opener in
-      by-fact w fact (λ k. rw (k, l, low)) (λ k. rw (k, l, low)) (λ k. rw (k, l, low, free k)))
-      (λ (greater : isFact (e .last) && ltb (e .last) w ≡ true).
-      let before = and-left (isFact (e .last)) (ltb (e .last) w) greater in
-      let more = and-right (isFact (e .last)) (ltb (e .last) w) greater in
-      by-fact (e .last) before
-      (λ l. by-fact w fact (λ k. rw (k, l, low, more)) (λ k. rw (k, l, low, more)) (λ k. rw (k, l, low, more, free k)))
-      (λ l. by-fact w fact (λ k. rw (k, l, low, more)) (λ k. rw (k, l, low, more)) (λ k. rw (k, l, low, more, free k)))
-      (λ l. by-fact w fact (λ k. rw (k, l, low, more)) (λ k. rw (k, l, low, more)) (λ k. rw (k, l, low, more, free k))))
-      (or-cases (isKind 5 (e .last)) (isFact (e .last) && ltb (e .last) w) follows)
+      let t = and-six true true (isKind 6 w) (leb (h .steps) (e .steps)) (eqb (payload w) (e .sequences)) (ltb (payload w) (h .sequences)) right in
+      rw (eqb-true (kind w) 6 (t .2), t .3, t .4, t .5)
 
 -- ---- words that a reader passes by
 
 -- the next step's opener, and what the rules ask of the words up to it
 pub step-opens : (h : Head) (e : Earlier) (w : ℕ) → stepRight h e w ≡ true → isKind 5 w ≡ true
-step-opens h e w right =
-    and-left (isKind 5 w) (eqb (e .sequences) 0)
-    (and-left (isKind 5 w && eqb (e .sequences) 0) (eqb (payload w) (e .steps))
-    (and-left (isKind 5 w && eqb (e .sequences) 0 && eqb (payload w) (e .steps)) (ltb (payload w) (h .steps)) right))
+step-opens h e w right = and-six true true (isKind 5 w) (eqb (e .sequences) 0) (eqb (payload w) (e .steps)) (ltb (payload w) (h .steps)) right .2
 
 pub past-step : (e : Earlier) (w : ℕ) → isKind 5 w ≡ true
     → record { steps = e .steps + 1; sequences = e .sequences; last = w; sets = 0 } ≡ after e w
@@ -197,26 +154,51 @@ inside-ranges h w a b bound counts from-eight from-nine tested =
 -- a fact word of kind k: it follows a word that it may follow, or another of its kind that is less
 module _ (h : Head) (k last w : ℕ) (low : 2 ≤ k) (high : k ≤ 4) (is : kind w ≡ k) (counted : payload w < h .facts)
     (follows : FactFollows last k ⊎ ((kind last ≡ k) × (last < w))) where
-  fact-right : factRight h last w ≡ true
-  fact-right =
-      let named : isFact w && ltb (payload w) (h .facts) ≡ true = rw (fact-of w (omega arith) (omega arith), lt-ltb (payload w) (h .facts) counted) in
-      let after-fact : 2 ≤ kind last → kind last ≤ 4 → last < w → isKind 5 last || isFact last && ltb last w ≡ true =
-      λ l u less. or-right (isKind 5 last) (isFact last && ltb last w) (rw (fact-of last l u, lt-ltb last w less)) in
-      let may : isKind 5 last || isFact last && ltb last w ≡ true =
+  fact : isFact w ≡ true
+  fact = fact-of w (omega arith) (omega arith)
+
+  -- what it follows opens a step, or is a fact word and less
+  before : (isKind 5 last ≡ true) ⊎ ((isFact last ≡ true) × (last < w))
+  before =
       ⊎-elim
       (λ (f : FactFollows last k).
-      ⊎-elim (λ five. or-left (isKind 5 last) (isFact last && ltb last w) (eq-eqb (kind last) 5 five))
-      (λ below. after-fact (below .0) (omega arith) (omega arith)) f)
-      (λ same. after-fact (omega arith) (omega arith) (same .1)) follows in
-      rw (named, may)
+      ⊎-elim (λ five. inl (eq-eqb (kind last) 5 five)) (λ below. inr (fact-of last (below .0) (omega arith), omega arith)) f)
+      (λ same. inr (fact-of last (omega arith) (omega arith), same .1)) follows
+
+  may-stand : isKind 5 last || isFact last ≡ true
+  may-stand = ⊎-elim (or-left (isKind 5 last) (isFact last)) (λ less. or-right (isKind 5 last) (isFact last) (less .0)) before
+
+  in-order : whereKind (isFact w && isFact last) (ltb last w) ≡ true
+  in-order =
+      kind-where (isFact w && isFact last) (ltb last w)
+      (λ both. ⊎-elim (λ five. absurd (omega (arith, eqb-true (kind last) 5 five, fact-kind last (and-right (isFact w) (isFact last) both))))
+      (λ less. lt-ltb last w (less .1)) before)
+
+  other : (j : ℕ) → 5 ≤ j → isKind j w ≡ false
+  other j more = ne-eqb (kind w) j (λ same. omega arith)
 
   pub fact-passing : (e : Earlier) (sets : ℕ) → (k ≡ 4 → inColumn sets (payload w) ≡ false)
       → Passing h (further e last sets) w (further e w (setsAfter sets w))
   fact-passing e sets unset =
       record {
-        faultless = λ p. fact-faultless h (further e last sets) p w fact-right free;
+        faultless = λ p. none-found h (further e last sets) p w fine;
         past = opens-nothing (further e last sets) w (λ q. omega arith) (λ q. omega arith);
       }
     where
-      free : clearsUnset sets w ≡ true
-      free = kind-where (isKind 4 w) (not (inColumn sets (payload w))) (λ four. ap not (unset (sym is ∙ eqb-true (kind w) 4 four)))
+      fine : Fine h (further e last sets) w
+      fine =
+          record {
+            stands = rw (fact, may-stand);
+            pays =
+                rw (
+                  fact,
+                  other 5 (omega arith),
+                  other 6 (omega arith),
+                  other 7 (omega arith),
+                  other 8 (omega arith),
+                  other 9 (omega arith),
+                  lt-ltb (payload w) (h .facts) counted,
+                );
+            follows = in-order;
+            unset = kind-where (isKind 4 w) (not (inColumn sets (payload w))) (λ four. ap not (unset (sym is ∙ eqb-true (kind w) 4 four)));
+          }

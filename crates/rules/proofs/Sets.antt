@@ -11,10 +11,10 @@ use mir.Val.{boolByte}
 use borrow.Author.Tests.{eqb-true, eq-eqb}
 use Rattle.column.specs.Column.{withFact}
 use Rattle.column.specs.Sets.{inColumn}
-use Rattle.column.proofs.Operations.{in-with, in-none}
+use Rattle.column.proofs.Operations.{in-with, in-own, in-more, in-none}
 use Rattle.image.specs.Word.{kind, payload, isKind}
 use Rattle.rules.specs.Rules.{opened, setsAfter, setsOf, SetBefore, earlier}
-use Rattle.general.proofs.Bools.{or-cases, or-left, or-right}
+use Rattle.general.proofs.Bools.{or-cases}
 
 -- ---- one word
 
@@ -34,15 +34,14 @@ set-by sets f w = go (isKind 3 w) (isKind 5 w) refl refl
 
 -- a set word sets its fact
 pub set-word : (sets w : ℕ) → kind w ≡ 3 → inColumn (setsAfter sets w) (payload w) ≡ true
-set-word sets w three =
-    rw three (in-with sets (payload w) (payload w) ∙ or-left (eqb (payload w) (payload w)) (inColumn sets (payload w)) (eq-eqb (payload w) (payload w) refl))
+set-word sets w three = rw three (in-own sets (payload w))
 
 -- a fact that is set stays so, but for a word that opens a step
 pub set-stays : (sets f w : ℕ) → (kind w ≡ 5 → ⊥) → inColumn sets f ≡ true → inColumn (setsAfter sets w) f ≡ true
 set-stays sets f w other e = go (isKind 3 w) (isKind 5 w) refl
   where
     go : (b c : Bool) → isKind 5 w ≡ c → inColumn (cond b (withFact sets (payload w)) (cond c 0 sets)) f ≡ true
-    go true c five = in-with sets (payload w) f ∙ or-right (eqb (payload w) f) (inColumn sets f) e
+    go true c five = in-more sets (payload w) f e
     go false true five = absurd (other (eqb-true (kind w) 5 five))
     go false false five = e
 

@@ -5,14 +5,14 @@ use mathlib.Core.Logic.{_⊎_}
 use mathlib.Core.Bool.{Bool, _&&_, _||_}
 use lib.Dec.{leb, ltb, eqb}
 use mir.Val.{boolByte}
-use Rattle.image.specs.Word.{mostFacts, kind, payload, isKind, isFact, isEntry}
+use Rattle.image.specs.Word.{mostFacts, kind, payload, isKind, isEntry}
 use Rattle.rules.specs.Rules.{setsAfter}
 use Rattle.image.specs.declared.answer.Head.{Head}
 use Rattle.rules.specs.declared.rules.Earlier.{Earlier}
 
 -- A word that is right by the rules of its kind alone has no fault: `proofs/Right` proves it. An entry after a kind 7 or another entry
 -- that names what the head counts; an alternative's opener after the first sequence's; the next step's opener before the first
--- sequence's; the next sequence's opener after all steps; a fact after a step's opener, or greater than the fact word before it
+-- sequence's; the next sequence's opener after all steps
 abbrev pub entryRight : Head → ℕ → ℕ → Bool
 entryRight h last w =
     (isKind 7 last || isEntry last) && (isKind 8 w && ltb (payload w) (h .steps) || isKind 9 w && ltb (payload w) (h .sequences))
@@ -28,9 +28,6 @@ stepRight h e w = isKind 5 w && eqb (e .sequences) 0 && eqb (payload w) (e .step
 
 abbrev pub sequenceRight : Head → Earlier → ℕ → Bool
 sequenceRight h e w = isKind 6 w && leb (h .steps) (e .steps) && eqb (payload w) (e .sequences) && ltb (payload w) (h .sequences)
-
-abbrev pub factRight : Head → ℕ → ℕ → Bool
-factRight h last w = isFact w && ltb (payload w) (h .facts) && (isKind 5 last || isFact last && ltb last w)
 
 -- a fact word of kind k may follow the word `last`, whatever its fact: that opens a step, or is a fact word of a kind below k
 abbrev pub FactFollows : ℕ → ℕ → Type 0
