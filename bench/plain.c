@@ -255,18 +255,26 @@ uint64_t plain_chain(const uint32_t *image, size_t length, uint64_t sequence,
     if (area_length < 2 * (size_t)count)
         return refusal(12);
     for (k = 0; k < count; k++) {
-        uint32_t alternative = 0, at, goal = ask.rank[d] - 1;
-        for (i = lib.place[d]; value(image, i + 1) > goal; alternative++)
-            for (i++; is_entry(image[i]); i++)
-                ;
-        area[2 * k] = choice_word(d, alternative);
+        uint32_t m = 0, newest = 0, at, goal = ask.rank[d] - 1;
+        size_t entries = 0;
+        /* of the alternatives that come to the goal the last stays */
+        for (i = lib.place[d]; in_sequence(image[i]); i++) {
+            if (is_entry(image[i]))
+                continue;
+            if (value(image, i + 1) <= goal) {
+                newest = m;
+                entries = i + 1;
+            }
+            m++;
+        }
+        area[2 * k] = choice_word(d, newest);
         if (ask.mark == 2) {
             area[1] = word_of(KIND_UNTOUCHED, 0);
             break;
         }
-        at = position(image, i + 1, goal);
+        at = position(image, entries, goal);
         area[2 * k + 1] = word_of(KIND_POSITION, at);
-        d = payload_of(image[i + 1 + at]);
+        d = payload_of(image[entries + at]);
     }
     return count;
 }

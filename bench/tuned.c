@@ -576,12 +576,15 @@ static void find_links(const uint32_t *image, uint32_t count, int first,
     }
 }
 
-/* The lowest alternative of c all of whose calls stay untouched below k. */
+/*
+ * The highest alternative of c all of whose calls stay untouched at less depth
+ * than c.
+ */
 static uint32_t quiet_alternative(const uint32_t *image, const uint16_t *depth,
                                   uint32_t c)
 {
     uint32_t m, i;
-    for (m = first_alternative[c];; m++) {
+    for (m = first_alternative[c + 1] - 1u;; m--) {
         int ok = alternatives[m].lacks_quiet == 0;
         for (i = alternatives[m].from; ok && i < alternatives[m].end; i++)
             if (image[i] >= 0x90000000u)
@@ -591,13 +594,14 @@ static uint32_t quiet_alternative(const uint32_t *image, const uint16_t *depth,
     }
 }
 
+/* At each link the highest alternative that fits, and its lowest position. */
 static void write_links(const uint32_t *image, int first, uint32_t mark,
                         const uint16_t *depth, const uint16_t *links,
                         uint32_t c, uint32_t *area)
 {
     uint32_t k, m, i, at = 0;
     for (k = links[c]; k > 0; k--) {
-        for (m = first_alternative[c];; m++) {
+        for (m = first_alternative[c + 1] - 1u;; m--) {
             const struct alternative *alt = &alternatives[m];
             struct window win;
             if (alt->lacks_run != 0)

@@ -32,14 +32,14 @@ extern "C" {
  * The format is how the words of an image and of a card are laid out. Its
  * number rises with every change of either, so that a program that was written
  * for one layout can tell. The version is 1,000 times the format, plus the
- * number of changes since that leave the format as it is, such as a new call or
- * a new refusal.
+ * number of changes since that leave the format as it is, such as a new call, a
+ * new refusal or another choice among chains.
  *
  * The numbers from here to the refusals are plain numbers and no enumerators,
  * since they are multiplied and added with one another.
  */
 #define DULIMOVEN_FORMAT 1
-#define DULIMOVEN_VERSION (DULIMOVEN_FORMAT * 1000 + 1)
+#define DULIMOVEN_VERSION (DULIMOVEN_FORMAT * 1000 + 2)
 
 /* How many words of 64 bits a card has, and how many of 32 bits a link. */
 #define DULIMOVEN_CARD_WORDS 7
@@ -248,10 +248,12 @@ enum dulimoven_link_word {
  * exactly where no run of the sequence has the outcome; every word of the area
  * is as it was then.
  *
- * Questions 0, 1, 3 and 4 get the chain with the fewest links; at each link the
- * lowest alternative, then the lowest position, that keeps it fewest. Questions
- * 2 and 5 get one link, of kind 12: the alternative of the untouched derivation
- * of least nesting depth, the lowest of those.
+ * Questions 0, 1, 3 and 4 get the chain with the fewest links. Questions 2 and
+ * 5 get one link, of kind 12: the alternative of the untouched derivation of
+ * least nesting depth. Among equally good choices a link takes the highest
+ * alternative, then the lowest position; this holds for kind 12 too. So where
+ * alternatives are added at the end, a chain goes through the newest. Fewest
+ * links, and for kind 12 least nesting depth, come first.
  *
  * Otherwise the call answers the first refusal that applies, and every word of
  * the area is as it was. The image is looked at first, as dulimoven_check does,

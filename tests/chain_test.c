@@ -100,6 +100,14 @@ static void none(const char *name, uint64_t sequence, uint64_t question,
     unwritten(name, sequence, question, fact, 0);
 }
 
+/* The six questions about fact 0, of a sequence that has no run. */
+static void all_none(const char *name, uint64_t sequence)
+{
+    uint64_t question;
+    for (question = 0; question < 6; question++)
+        none(name, sequence, question, 0);
+}
+
 /* The chain samples of document 01, their words as printed there. */
 static void samples(void)
 {
@@ -177,8 +185,8 @@ static void samples(void)
  * Nothing touches fact 2.
  *
  * Sequence 0: fact 0 is set by alternative 0 at position 0, and untouched in
- * alternative 1; facts 1 and 2 are untouched in alternative 0, which is as deep
- * (1) as alternative 1 and is the lower.
+ * alternative 1; facts 1 and 2 are untouched in alternative 0 too, which is as
+ * deep (1), and alternative 1 is the higher.
  *
  * Sequence 1, one alternative, so 0 at each link. Fact 0: last set, by the call
  * at position 0, since step 1 neither sets nor clears it, then as in sequence
@@ -197,10 +205,10 @@ static void every_question_of_l(void)
         {0, 2, 0, 1, {CHOICE(0, 1), UNTOUCHED, 0, 0}},
         {0, 4, 0, 1, {CHOICE(0, 0), AT(0), 0, 0}},
         {0, 5, 0, 1, {CHOICE(0, 1), UNTOUCHED, 0, 0}},
-        {0, 2, 1, 1, {CHOICE(0, 0), UNTOUCHED, 0, 0}},
-        {0, 5, 1, 1, {CHOICE(0, 0), UNTOUCHED, 0, 0}},
-        {0, 2, 2, 1, {CHOICE(0, 0), UNTOUCHED, 0, 0}},
-        {0, 5, 2, 1, {CHOICE(0, 0), UNTOUCHED, 0, 0}},
+        {0, 2, 1, 1, {CHOICE(0, 1), UNTOUCHED, 0, 0}},
+        {0, 5, 1, 1, {CHOICE(0, 1), UNTOUCHED, 0, 0}},
+        {0, 2, 2, 1, {CHOICE(0, 1), UNTOUCHED, 0, 0}},
+        {0, 5, 2, 1, {CHOICE(0, 1), UNTOUCHED, 0, 0}},
         {1, 0, 0, 2, {CHOICE(1, 0), AT(0), CHOICE(0, 0), AT(0)}},
         {1, 2, 0, 1, {CHOICE(1, 0), UNTOUCHED, 0, 0}},
         {1, 3, 0, 1, {CHOICE(1, 0), AT(1), 0, 0}},
@@ -341,9 +349,9 @@ static void set_and_cleared(void)
  * Step 0 is set, step 1 clear, step 2 need, step 3 other, step 4 needs and sets
  * fact 0.
  */
-#define STEPS                                                         \
-    STEP(0), SETS(0), STEP(1), CLEARS(0), STEP(2), NEEDS(0), STEP(3), \
-        STEP(4), NEEDS(0), SETS(0)
+#define FOUR_STEPS \
+    STEP(0), SETS(0), STEP(1), CLEARS(0), STEP(2), NEEDS(0), STEP(3)
+#define STEPS FOUR_STEPS, STEP(4), NEEDS(0), SETS(0)
 #define SET DO(0)
 #define CLEAR DO(1)
 #define NEED DO(2)
@@ -414,16 +422,12 @@ static void sides(void)
     BUILD(HEAD(1, 5, 2), STEPS,
           SEQUENCE(0),
           SEQUENCE(1), ALTERNATIVE, SET, CALL(0), NEED);
-    {
-        uint64_t question;
-        for (question = 0; question < 6; question++) {
-            none("no alternative", 0, question, 0);
-            none("<set, no alternative, need>", 1, question, 0);
-        }
-    }
+    all_none("no alternative", 0);
+    all_none("<set, no alternative, need>", 1);
 }
 
-/* "The chain has the fewest links", then lowest alternative and position. */
+/* "The chain has the fewest links", then the highest alternative, and in it the
+ * lowest position. */
 static void fewest(void)
 {
     /* sequence 1 is <set>, <>. Alternative 0 has 2 links, by its call; 1 has 2,
@@ -436,37 +440,53 @@ static void fewest(void)
     SHOWN("fewest, last side", 0, 0, 0, CHOICE(0, 2), AT(1));
     SHOWN("fewest, first side", 0, 4, 0, CHOICE(0, 2), AT(1));
 
-    /* without the step: 2 links in each alternative, so the lowest, 0. Other is
-       at 0, the calls at 1 and 2 have 2 links each: the lowest, 1. Sequence 1
-       is <>, <set>, <set>: the lowest that sets, 1. */
+    /* without the step: 2 links in each alternative, so the highest, 1, by its
+       call at 0. Sequence 1 is <>, <set>, <set>: the highest that sets, 2. */
     BUILD(HEAD(1, 5, 2), STEPS,
           SEQUENCE(0), ALTERNATIVE, OTHER, CALL(1), CALL(1),
               ALTERNATIVE, CALL(1),
           SEQUENCE(1), ALTERNATIVE, ALTERNATIVE, SET, ALTERNATIVE, SET);
-    SHOWN("ties, last side", 0, 0, 0, CHOICE(0, 0), AT(1), CHOICE(1, 1), AT(0));
-    SHOWN("ties, first side", 0, 4, 0, CHOICE(0, 0), AT(1), CHOICE(1, 1),
+    SHOWN("ties, last side", 0, 0, 0, CHOICE(0, 1), AT(0), CHOICE(1, 2), AT(0));
+    SHOWN("ties, first side", 0, 4, 0, CHOICE(0, 1), AT(0), CHOICE(1, 2),
           AT(0));
 
-    /* position before alternative would be wrong: alternative 0 has its step at
-       2, alternative 1 at 0 */
+    /* the highest alternative, wherever its step stands: of <other, other, set>
+       and <set> the second with 0, of <set> and <other, other, set> the second
+       with 2, where position before alternative would be wrong */
     BUILD(HEAD(1, 5, 1), STEPS,
           SEQUENCE(0), ALTERNATIVE, OTHER, OTHER, SET, ALTERNATIVE, SET);
-    SHOWN("the alternative first, last side", 0, 0, 0, CHOICE(0, 0), AT(2));
-    SHOWN("the alternative first, first side", 0, 4, 0, CHOICE(0, 0), AT(2));
+    SHOWN("the alternative first, last side", 0, 0, 0, CHOICE(0, 1), AT(0));
+    SHOWN("the alternative first, first side", 0, 4, 0, CHOICE(0, 1), AT(0));
+    BUILD(HEAD(1, 5, 1), STEPS,
+          SEQUENCE(0), ALTERNATIVE, SET, ALTERNATIVE, OTHER, OTHER, SET);
+    SHOWN("not the position first, last side", 0, 0, 0, CHOICE(0, 1), AT(2));
+    SHOWN("not the position first, first side", 0, 4, 0, CHOICE(0, 1), AT(2));
 
-    /* a lower alternative that the chain could take is passed over where it has
-       more links. By links to a need: sequence 3 has 1, <need>; 2 has 2, <3>; 1
-       has 2, by its alternative 1, <3> (alternative 0, <2>, has 3); 0 has 3, by
-       either alternative: <2> is alternative 1, <1> is alternative 0. */
+    /* by links to a need: sequence 3 has 1, <need>; 2 has 2, <3>; 1 has 2, by
+       its alternative 1, <3> (alternative 0, <2>, has 3); 0 has 3, by either
+       alternative, <1> or <2>: the highest, 1, so that the chain goes by
+       sequence 2 */
     BUILD(HEAD(1, 5, 4), STEPS,
           SEQUENCE(0), ALTERNATIVE, CALL(1), ALTERNATIVE, CALL(2),
           SEQUENCE(1), ALTERNATIVE, CALL(2), ALTERNATIVE, CALL(3),
           SEQUENCE(2), ALTERNATIVE, CALL(3),
           SEQUENCE(3), ALTERNATIVE, NEED);
-    SHOWN("at each link, 0", 0, 3, 0, CHOICE(0, 0), AT(0), CHOICE(1, 1), AT(0),
+    SHOWN("at each link, 0", 0, 3, 0, CHOICE(0, 1), AT(0), CHOICE(2, 0), AT(0),
           CHOICE(3, 0), AT(0));
     SHOWN("at each link, 1", 1, 3, 0, CHOICE(1, 1), AT(0), CHOICE(3, 0), AT(0));
     SHOWN("at each link, 2", 2, 3, 0, CHOICE(2, 0), AT(0), CHOICE(3, 0), AT(0));
+
+    /* a higher alternative that the chain could take is passed over where it
+       has more links: sequence 2 is <set>, 1 is <2>; of sequence 0, <2> has 2
+       links, <1> has 3 */
+    BUILD(HEAD(1, 5, 3), STEPS,
+          SEQUENCE(0), ALTERNATIVE, CALL(2), ALTERNATIVE, CALL(1),
+          SEQUENCE(1), ALTERNATIVE, CALL(2),
+          SEQUENCE(2), ALTERNATIVE, SET);
+    SHOWN("<2>, <1>, last side", 0, 0, 0, CHOICE(0, 0), AT(0), CHOICE(2, 0),
+          AT(0));
+    SHOWN("<2>, <1>, first side", 0, 4, 0, CHOICE(0, 0), AT(0), CHOICE(2, 0),
+          AT(0));
 
     /* calls of itself and in a ring: sequence 0 is <0, need>, <1>; sequence 1
        is <0>, <need, clear>. A chain through <0, need> has one link more than
@@ -508,14 +528,15 @@ static void choices(void)
     SHOWN("choices, 0, question 2", 0, 2, 0, CHOICE(0, 2), UNTOUCHED);
     SHOWN("choices, 0, question 5", 0, 5, 0, CHOICE(0, 2), UNTOUCHED);
 
-    /* sequence 1, last set: the clear after the set rules alternative 0 out; of
-       alternative 1 the first call, since the second can stay untouched */
-    SHOWN("choices, 1, question 0", 1, 0, 0, CHOICE(1, 1), AT(0), CHOICE(2, 0),
+    /* sequence 1, last set: the clear after the set rules alternative 0 out; 1
+       and 2 have two links each, by a call of sequence 2: the highest, 2 */
+    SHOWN("choices, 1, question 0", 1, 0, 0, CHOICE(1, 2), AT(0), CHOICE(2, 0),
           AT(0));
     /* first set: on this side the set decides, whatever clears after it */
     SHOWN("choices, 1, question 4", 1, 4, 0, CHOICE(1, 0), AT(0));
-    /* untouched: alternatives 1 and 2 are equally deep */
-    SHOWN("choices, 1, question 2", 1, 2, 0, CHOICE(1, 1), UNTOUCHED);
+    /* untouched on either side: alternatives 1 and 2 are equally deep */
+    SHOWN("choices, 1, question 2", 1, 2, 0, CHOICE(1, 2), UNTOUCHED);
+    SHOWN("choices, 1, question 5", 1, 5, 0, CHOICE(1, 2), UNTOUCHED);
 
     /* sequence 3, last set: the set ends alternative 1; alternative 0 takes a
        link more, by the sequence itself */
@@ -542,41 +563,41 @@ static void choices(void)
         SEQUENCE(3), ALTERNATIVE
 
 /*
- * Kind 12: "the alternative of the untouched derivation of least nesting depth,
- * ties to the lowest". A step has depth 0, a sequence 1 plus the greatest depth
- * among its entries, or 1 without entries.
+ * Kind 12: "the alternative of the untouched derivation of least nesting
+ * depth", ties to the highest. A step has depth 0, a sequence 1 plus the
+ * greatest depth among its entries, or 1 without entries.
  */
 static void untouched(void)
 {
     /* sequence 1 is <>, depth 1; by alternative 0 sequence 0 has depth 2, by
-       alternative 1 depth 1: not the first that fits */
+       alternative 1 depth 1 */
     BUILD(HEAD(1, 5, 2), STEPS,
           SEQUENCE(0), ALTERNATIVE, CALL(1), ALTERNATIVE,
           SEQUENCE(1), ALTERNATIVE);
     SHOWN("<1>, <>, question 2", 0, 2, 0, CHOICE(0, 1), UNTOUCHED);
     SHOWN("<1>, <>, question 5", 0, 5, 0, CHOICE(0, 1), UNTOUCHED);
 
-    /* other and nothing both have depth 1: the lowest */
+    /* other and nothing both have depth 1: the highest */
     BUILD(HEAD(1, 5, 2), STEPS,
           SEQUENCE(0), ALTERNATIVE, OTHER, OTHER, ALTERNATIVE,
           SEQUENCE(1), ALTERNATIVE, ALTERNATIVE, OTHER);
-    SHOWN("<other, other>, <>", 0, 2, 0, CHOICE(0, 0), UNTOUCHED);
-    SHOWN("<>, <other>", 1, 2, 0, CHOICE(1, 0), UNTOUCHED);
+    SHOWN("<other, other>, <>", 0, 2, 0, CHOICE(0, 1), UNTOUCHED);
+    SHOWN("<>, <other>", 1, 2, 0, CHOICE(1, 1), UNTOUCHED);
 
     /* the greatest depth counts and not the sum: sequence 3 is <>, depth 1; 2
        is <3>, depth 2; 1 is <2>, depth 3. Of sequence 0, alternative 0, <3, 1>,
        has depth 4; alternative 1, <2, 2, 2>, and alternative 2, <2>, have depth
-       3; alternative 3, <3, clear> or <3, need>, is untouched on one side only,
-       and has depth 2 there. */
+       3, and 2 is the higher; alternative 3, <3, clear> or <3, need>, is
+       untouched on one side only, and has depth 2 there. */
     BUILD(DEPTHS(CLEAR));
-    SHOWN("<3, 1>, <2, 2, 2>, <2>, <3, clear>, 2", 0, 2, 0, CHOICE(0, 1),
+    SHOWN("<3, 1>, <2, 2, 2>, <2>, <3, clear>, 2", 0, 2, 0, CHOICE(0, 2),
           UNTOUCHED);
     SHOWN("<3, 1>, <2, 2, 2>, <2>, <3, clear>, 5", 0, 5, 0, CHOICE(0, 3),
           UNTOUCHED);
     BUILD(DEPTHS(NEED));
     SHOWN("<3, 1>, <2, 2, 2>, <2>, <3, need>, 2", 0, 2, 0, CHOICE(0, 3),
           UNTOUCHED);
-    SHOWN("<3, 1>, <2, 2, 2>, <2>, <3, need>, 5", 0, 5, 0, CHOICE(0, 1),
+    SHOWN("<3, 1>, <2, 2, 2>, <2>, <3, need>, 5", 0, 5, 0, CHOICE(0, 2),
           UNTOUCHED);
 
     /* a derivation that leaves the fact untouched may be deeper than one that
@@ -589,6 +610,114 @@ static void untouched(void)
     SHOWN("untouched depth, 2", 0, 2, 0, CHOICE(0, 1), UNTOUCHED);
     SHOWN("untouched depth, 5", 0, 5, 0, CHOICE(0, 1), UNTOUCHED);
     SHOWN("untouched depth, 1", 1, 2, 0, CHOICE(1, 1), UNTOUCHED);
+}
+
+/* The library that was built last ends with this sum word. */
+static void sealed(const char *name, uint32_t sum)
+{
+    hold(name, *word_at(words - 1) == sum);
+}
+
+/*
+ * Document 02, request 2: "Among equally good choices a link takes the highest
+ * alternative, then the lowest position. This holds for kind 12 links too.
+ * Fewest links, and for kind 12 least nesting depth, still come first."
+ */
+static void newest(void)
+{
+    /* last set: alternatives 0 and 1 have one link, 2 has two. So 1, and its
+       set is at 1. First set: the same, though alternative 0 has its set at 0.
+       Only <need> is untouched, on the last side, and needs. */
+    BUILD(HEAD(1, 4, 2), FOUR_STEPS,
+          SEQUENCE(0), ALTERNATIVE, SET, SET, ALTERNATIVE, OTHER, SET,
+              ALTERNATIVE, CALL(1), ALTERNATIVE, NEED,
+          SEQUENCE(1), ALTERNATIVE, SET);
+    sealed("newest first, the sum word", 0xf0080214);
+    SHOWN("newest first, question 0", 0, 0, 0, CHOICE(0, 1), AT(1));
+    none("newest first, question 1", 0, 1, 0);
+    SHOWN("newest first, question 2", 0, 2, 0, CHOICE(0, 3), UNTOUCHED);
+    SHOWN("newest first, question 3", 0, 3, 0, CHOICE(0, 3), AT(0));
+    SHOWN("newest first, question 4", 0, 4, 0, CHOICE(0, 1), AT(1));
+    none("newest first, question 5", 0, 5, 0);
+
+    /* sequence 0: both alternatives have two links, so 1. Its calls at 0, 2 and
+       3 all do, since the others can stay untouched, so 0. Then <set>, <>,
+       <set>, so 2. Untouched, both have depth 2, so 1; of sequence 1 only <>
+       is, alternative 1. */
+    BUILD(HEAD(1, 4, 2), FOUR_STEPS,
+          SEQUENCE(0), ALTERNATIVE, CALL(1), CALL(1),
+              ALTERNATIVE, CALL(1), OTHER, CALL(1), CALL(1),
+          SEQUENCE(1), ALTERNATIVE, SET, ALTERNATIVE, ALTERNATIVE, SET);
+    sealed("lowest of calls, the sum word", 0xf0080212);
+    SHOWN("lowest of calls, 0, question 0", 0, 0, 0, CHOICE(0, 1), AT(0),
+          CHOICE(1, 2), AT(0));
+    SHOWN("lowest of calls, 0, question 2", 0, 2, 0, CHOICE(0, 1), UNTOUCHED);
+    SHOWN("lowest of calls, 0, question 4", 0, 4, 0, CHOICE(0, 1), AT(0),
+          CHOICE(1, 2), AT(0));
+    SHOWN("lowest of calls, 0, question 5", 0, 5, 0, CHOICE(0, 1), UNTOUCHED);
+    SHOWN("lowest of calls, 1, question 0", 1, 0, 0, CHOICE(1, 2), AT(0));
+    SHOWN("lowest of calls, 1, question 2", 1, 2, 0, CHOICE(1, 1), UNTOUCHED);
+
+    /* fewest links first: a set has one, a call of 1 or 2 has more, though it
+       stands in a higher alternative. Untouched: of sequence 0 only <1>; of
+       sequence 1 the two <2> are equally deep; of sequence 2 only <>. */
+    BUILD(HEAD(1, 4, 3), FOUR_STEPS,
+          SEQUENCE(0), ALTERNATIVE, OTHER, SET, ALTERNATIVE, CALL(1),
+          SEQUENCE(1), ALTERNATIVE, CALL(2), ALTERNATIVE, SET,
+              ALTERNATIVE, CALL(2),
+          SEQUENCE(2), ALTERNATIVE, SET, ALTERNATIVE);
+    sealed("fewest first, the sum word", 0xf00c021e);
+    SHOWN("fewest first, 0, question 0", 0, 0, 0, CHOICE(0, 0), AT(1));
+    SHOWN("fewest first, 1, question 0", 1, 0, 0, CHOICE(1, 1), AT(0));
+    SHOWN("fewest first, 0, question 2", 0, 2, 0, CHOICE(0, 1), UNTOUCHED);
+    SHOWN("fewest first, 0, question 5", 0, 5, 0, CHOICE(0, 1), UNTOUCHED);
+    SHOWN("fewest first, 1, question 2", 1, 2, 0, CHOICE(1, 2), UNTOUCHED);
+    SHOWN("fewest first, 1, question 5", 1, 5, 0, CHOICE(1, 2), UNTOUCHED);
+    SHOWN("fewest first, 2, question 2", 2, 2, 0, CHOICE(2, 1), UNTOUCHED);
+    SHOWN("fewest first, 2, question 5", 2, 5, 0, CHOICE(2, 1), UNTOUCHED);
+
+    /* one step, which touches nothing. Least depth first: of <step>, <>, <1>
+       the first two have depth 1, so 1; <1> has depth 3. Of <2>, <2> and of
+       <>, <> the second. */
+    BUILD(HEAD(1, 1, 3), STEP(0),
+          SEQUENCE(0), ALTERNATIVE, DO(0), ALTERNATIVE, ALTERNATIVE, CALL(1),
+          SEQUENCE(1), ALTERNATIVE, CALL(2), ALTERNATIVE, CALL(2),
+          SEQUENCE(2), ALTERNATIVE, ALTERNATIVE);
+    sealed("least depth first, the sum word", 0xf00c0095);
+    SHOWN("least depth first, 0, question 2", 0, 2, 0, CHOICE(0, 1), UNTOUCHED);
+    SHOWN("least depth first, 0, question 5", 0, 5, 0, CHOICE(0, 1), UNTOUCHED);
+    SHOWN("least depth first, 1, question 2", 1, 2, 0, CHOICE(1, 1), UNTOUCHED);
+    SHOWN("least depth first, 1, question 5", 1, 5, 0, CHOICE(1, 1), UNTOUCHED);
+    SHOWN("least depth first, 2, question 2", 2, 2, 0, CHOICE(2, 1), UNTOUCHED);
+    SHOWN("least depth first, 2, question 5", 2, 5, 0, CHOICE(2, 1), UNTOUCHED);
+
+    /* sequence 1 calls itself alone, 2 has no alternative: the two highest
+       alternatives of sequence 0 have no run, so 1. Every run sets. */
+    BUILD(HEAD(1, 4, 3), FOUR_STEPS,
+          SEQUENCE(0), ALTERNATIVE, SET, ALTERNATIVE, SET,
+              ALTERNATIVE, SET, CALL(1), ALTERNATIVE, CALL(2),
+          SEQUENCE(1), ALTERNATIVE, CALL(1),
+          SEQUENCE(2));
+    sealed("newer, no run, the sum word", 0xf00c0214);
+    SHOWN("newer, no run, question 0", 0, 0, 0, CHOICE(0, 1), AT(0));
+    none("newer, no run, question 1", 0, 1, 0);
+    none("newer, no run, question 2", 0, 2, 0);
+    SHOWN("newer, no run, question 4", 0, 4, 0, CHOICE(0, 1), AT(0));
+    all_none("newer, no run, 1", 1);
+    all_none("newer, no run, 2", 2);
+
+    /* sequence 0 has no alternative, and those of the next are not its own. The
+       words of sequence 1 end with the part: <set>, <clear>, <set>. */
+    BUILD(HEAD(1, 4, 2), FOUR_STEPS,
+          SEQUENCE(0),
+          SEQUENCE(1), ALTERNATIVE, SET, ALTERNATIVE, CLEAR, ALTERNATIVE, SET);
+    sealed("last words, the sum word", 0xf0080210);
+    all_none("last words, 0", 0);
+    SHOWN("last words, 1, question 0", 1, 0, 0, CHOICE(1, 2), AT(0));
+    SHOWN("last words, 1, question 1", 1, 1, 0, CHOICE(1, 1), AT(0));
+    none("last words, 1, question 2", 1, 2, 0);
+    SHOWN("last words, 1, question 4", 1, 4, 0, CHOICE(1, 2), AT(0));
+    SHOWN("last words, 1, question 5", 1, 5, 0, CHOICE(1, 1), UNTOUCHED);
 }
 
 /*
@@ -646,7 +775,8 @@ static void longest(void)
     put_sum();
     hold("8,192 words", words == 8192);
     SHOWN("alternative 8,185", 0, 0, 0, 0xa01ff900, 0xb0000000);
-    SHOWN("alternative 0 of 8,186", 0, 2, 0, CHOICE(0, 0), UNTOUCHED);
+    /* the last of the empty ones before it: 8184 is 0x1ff8 */
+    SHOWN("alternative 8,184", 0, 2, 0, 0xa01ff800, 0xc0000000);
 
     /* one alternative of step 1, which does nothing, and step 0 at the end: the
        entries stand from word 6 on, so word 8190 is position 8184 */
@@ -722,6 +852,7 @@ int main(void)
     fewest();
     choices();
     untouched();
+    newest();
     deep("each calls the next", 1);
     deep("each calls the one before", 0);
     longest();

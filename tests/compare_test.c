@@ -6,7 +6,7 @@
  * the algorithms printed in source document 001. The chain call is asked every
  * question (of the largest libraries about some facts and some sequences), and
  * each link is held against the words of the library; plain rounds say how many
- * links are the fewest, what depth is the least and which choice is the lowest.
+ * links are the fewest, what depth is the least and which choice is the newest.
  * The rounds are held against the second engine's columns too. The check is
  * compared with the second engine's over each library, and over the same with
  * some damage. A library with a pulse must get refusal 13 from all calls, at
@@ -18,7 +18,7 @@
  * that does not exist; one whose entry is not a step with the touch or the
  * sequence of the next link, or beside whose entry another touches the fact
  * that must not, or has no run; an untouched link whose alternative cannot stay
- * untouched; more links than the fewest; a choice that is not the lowest; words
+ * untouched; more links than the fewest; a choice that is not the newest; words
  * changed past a chain or on "none"; a library refused, or a damaged one judged
  * otherwise; a pulse that is not refused, or at another word, or with a word of
  * an area changed; a call that does not end.

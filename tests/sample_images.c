@@ -102,7 +102,7 @@ static void write_poll(void)
 
 static void write_calls(void)
 {
-    BUILD(HEAD(3, 5, 13),
+    BUILD(HEAD(3, 5, 14),
           STEP(0), SETS(0),
           STEP(1), CLEARS(0),
           STEP(2), NEEDS(0), SETS(1),
@@ -120,7 +120,8 @@ static void write_calls(void)
           SEQUENCE(9), TAKES(ARM), TAKES(DISARM), ALTERNATIVE,
           SEQUENCE(10), TAKES(LOCK), TAKES(ARM), TAKES(WAIT),
           SEQUENCE(11), TAKES(LOCK), ALTERNATIVE,
-          SEQUENCE(12), TAKES(CALL(11)));
+          SEQUENCE(12), TAKES(CALL(11)),
+          SEQUENCE(13), TAKES(WAIT), TAKES(LOCK), TAKES(ARM));
     write_image("calls");
 }
 

@@ -1,6 +1,7 @@
 /*
- * Document 01, "Chains". A sequence is a compound task of the domain, an
- * alternative a method, an entry a task, a step an action.
+ * Document 01, "Chains", and document 02, request 2. A sequence is a compound
+ * task of the domain, an alternative a method, an entry a task, a step an
+ * action.
  *
  * Ranks are found by rounds. Round r looks at the ranks of the rounds before
  * it alone, and gives rank r to each sequence that has none yet and one of
@@ -21,7 +22,7 @@ static struct domain library;
 static uint32_t first[MOST_SEQUENCES + 1];
 static struct actions actions;
 
-/* A rank for each sequence, with the lowest choice that gives it. */
+/* A rank for each sequence, with the newest choice that gives it. */
 struct ranks {
     uint32_t rank[MOST_SEQUENCES];
     uint32_t alternative[MOST_SEQUENCES];
@@ -185,18 +186,24 @@ static int comes_to(const struct method *m, const struct look *look,
     return *position < entries_of(m);
 }
 
-/* One look at a sequence in a round: its rank after it, 0 where it has none. */
+/*
+ * One look at a sequence in a round: its rank after it, 0 where it has none.
+ * All alternatives that come to it in this round are equally good, and the last
+ * of them stays: "Among equally good choices a link takes the highest
+ * alternative, then the lowest position. This holds for kind 12 links too.
+ * Fewest links, and for kind 12 least nesting depth, still come first."
+ */
 static uint32_t look_at(struct ranks *ranks, uint32_t c,
                         const struct look *look, uint32_t round)
 {
-    uint32_t alternative, position;
+    uint32_t alternative, position, found = 0;
     for (alternative = 0; alternative < alternatives_of(c); alternative++)
         if (comes_to(alternative_of(c, alternative), look, round, &position)) {
             ranks->alternative[c] = alternative;
             ranks->position[c] = position;
-            return round;
+            found = round;
         }
-    return 0;
+    return found;
 }
 
 /* Rounds until one finds nothing. */
@@ -274,7 +281,7 @@ static int unchanged(const uint32_t *area, size_t from, size_t area_len)
 
 /*
  * What is wrong with a kind 12 link: "It names the alternative of the untouched
- * derivation of least nesting depth, ties to the lowest."
+ * derivation of least nesting depth", ties to the highest.
  */
 static enum fault untouched_fault(uint32_t c, uint32_t question,
                                   const uint32_t *link)
@@ -286,7 +293,7 @@ static enum fault untouched_fault(uint32_t c, uint32_t question,
                   touches(question)))
         return FAULT_UNTOUCHED;
     if (alternative != asked[question].alternative[c])
-        return FAULT_NOT_LOWEST;
+        return FAULT_NOT_NEWEST;
     return NO_FAULT;
 }
 
@@ -322,7 +329,7 @@ static enum fault position_fault(uint32_t c, uint32_t question,
         return FAULT_ENTRY;
     if (alternative != asked[question].alternative[c] ||
         position != asked[question].position[c])
-        return FAULT_NOT_LOWEST;
+        return FAULT_NOT_NEWEST;
     return NO_FAULT;
 }
 
@@ -400,6 +407,6 @@ const char *fault_text(enum fault fault)
         "a link's alternative cannot stay untouched",
         "beside a link's entry another touches the fact, or has no run",
         "a link's entry is no step with the touch, or no sequence",
-        "a link is not the lowest choice"};
+        "a link is not the newest choice"};
     return text[fault];
 }

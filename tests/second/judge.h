@@ -1,7 +1,8 @@
 /*
  * What is right of a chain, for tests: each link is held against the words of
  * the library, and plain rounds say how many links are the fewest, what depth
- * is the least and which choice is the lowest. C11 and C++17.
+ * is the least and which choice is the newest, the highest alternative and
+ * there the lowest position. C11 and C++17.
  */
 #ifndef DULIMOVEN_TESTS_JUDGE_H
 #define DULIMOVEN_TESTS_JUDGE_H
@@ -23,7 +24,7 @@ enum fault {
     FAULT_UNTOUCHED,
     FAULT_BESIDE,
     FAULT_ENTRY,
-    FAULT_NOT_LOWEST
+    FAULT_NOT_NEWEST
 };
 
 const char *fault_text(enum fault fault);

@@ -12,7 +12,7 @@ use mathlib.Core.Bool.{Bool, true, false, cond}
 use mathlib.Core.List.{List, [], _∷_}
 use lib.ListN.{length, getD, drop, List·getD-eq-default}
 use lib.Seq.{getD-take, getD-drop}
-use lib.Dec.{eqb, ltb}
+use lib.Dec.{eqb, leb, ltb}
 use borrow.Author.Tests.{ltb-true, lt-ltb, le-ltb}
 use Rattle.column.specs.Sets.{inColumn}
 use Rattle.library.specs.Library.{has, Library, Step, Alternative, Entry, step, item, call, Item}
@@ -28,16 +28,16 @@ use Rattle.chains.specs.Link.{Link, touchLink, untouchedLink, Chain}
 use Rattle.general.specs.Scan.{every}
 use Rattle.chains.specs.Stands.{entryAt}
 use Rattle.chains.specs.Ranks.{Ranks, Attained, Linked, Unlowered, unranked, entryRank, entryPasses, depthLook, passLook, hasMark, aheadOf, behindOf, touchLook, untouchedLook}
-use Rattle.chains.specs.Answer.{Answer, none, shown, chosenAlternative, followed, linksFrom, touchAnswer, untouchedAnswer}
-use Rattle.rank.specs.Walk.{linkFrom, alternativeFrom, depthFrom, fewestFrom}
+use Rattle.chains.specs.Answer.{Answer, none, shown, newest, chosenAlternative, followed, linksFrom, touchAnswer, untouchedAnswer}
+use Rattle.rank.specs.Walk.{newestLink, depthFrom, fewestFrom}
 use Rattle.rank.specs.Tables.{entryNumber, inRanks, rankIn, passIn, depthIn, everyIn, fewestIn, lookIn, stepMark, markIn, stepRank, Stepped}
-use Rattle.link.specs.Choice.{linkIn, linkEntry, linkAt, linksIn, untouchedIn, answerIn}
+use Rattle.link.specs.Choice.{linkIn, alternativeIn, linkEntry, linkAt, linksIn, untouchedIn, answerIn}
 use Rattle.chain.specs.Described.{isFirst, markNumber, Asks, Masked, Placed, StepsBy, Described}
 use Rattle.question.specs.declared.asked.Asked.{Asked}
 use Rattle.chains.proofs.Depth.{step-rank, step-passes}
 use Rattle.chains.proofs.Links.{entriesOf, chosenAt, positionAt, chosen, chosen-rank, ranked-listed}
 use Rattle.general.proofs.Scan.{getD-inside}
-use Rattle.rank.proofs.Walk.{alternative-from, depth-from, fewest-from, link-from}
+use Rattle.rank.proofs.Walk.{depth-from, fewest-from, link-newest}
 
 cond-mark : (x y : Bool) → cond x 0 (cond y 1 2) ≡ markNumber (cond x present (cond y absent untouched))
 cond-mark true y = refl
@@ -212,14 +212,13 @@ module _ (L : Library) (q : Asked) (Q : Question) (asks : Asks L q Q) where
       -- a question that asks for no touch
       pub untouched-answer : Q .mark ≡ untouched → StepsBy (unranked L) 0 (hasMark L Q f) ranks → (c : ℕ) → c < length (L .sequences)
           → answerIn q ahead behind ranks part places c ≡ untouchedAnswer L Q f T c
-      unfolding answerIn untouchedIn untouchedAnswer
+      unfolding answerIn alternativeIn chosenAlternative untouchedIn untouchedAnswer
       untouched-answer marks-none steps c lt =
           let chosen = chosenAlternative (L .sequences) (untouchedLook L Q f) T (pred (T c)) c in
-          let alternative : alternativeFrom (depthIn (q .none) ranks) (pred (getD ranks c (q .none))) 0 (alternativesAt part places c) ≡ chosen =
-          ap₂ (λ (r : ℕ) (alts : List Alternative). alternativeFrom (depthIn (q .none) ranks) (pred r) 0 alts) (own c lt) (placed c lt)
-          ∙ ap (λ (v : Alternative → ℕ). alternativeFrom v (pred (T c)) 0 (alternativesOf (L .sequences) c))
-          (ap (λ (n : ℕ). depthIn n ranks) (asks .none) ∙ depth-is (hasMark L Q f) ranks steps)
-          ∙ sym (alternative-from (L .sequences) (untouchedLook L Q f) T (pred (T c)) c) in
+          let alternative : alternativeIn (q .none) ranks (pred (getD ranks c (q .none))) (alternativesAt part places c) ≡ chosen =
+          ap₂ (λ (r : ℕ) (alts : List Alternative). alternativeIn (q .none) ranks (pred r) alts) (own c lt) (placed c lt)
+          ∙ ap (λ (depth : Alternative → ℕ). newest (λ es. leb (depth es) (pred (T c))) (alternativesOf (L .sequences) c))
+          (ap (λ (n : ℕ). depthIn n ranks) (asks .none) ∙ depth-is (hasMark L Q f) ranks steps) in
           ap (λ (b : Bool). cond (ltb (getD ranks c (q .none)) (q .none)) (shown (cond b (untouchedIn (q .none) ranks part places c ∷ []) (linksIn (q .none) ahead behind ranks part places (getD ranks c (q .none)) c))) none)
           (two-is true (untouched-number (Q .mark) marks-none))
           ∙ ap₂ (λ (r i : ℕ). cond (ltb r (q .none)) (shown (untouchedLink c i ∷ [])) none) (own c lt) alternative
@@ -234,10 +233,10 @@ module _ (L : Library) (q : Asked) (Q : Question) (asks : Asks L q Q) where
         unfolding linkIn
         link-is k c low lt =
             let m = unranked L in
-            ap₂ (λ (n : ℕ) (alts : List Alternative). linkFrom n (rankIn n n ranks) (passIn n ahead) (passIn n behind) c k 0 alts) (asks .none) (placed c lt)
-            ∙ ap (λ (r : Entry → ℕ). linkFrom m r (passIn m ahead) (passIn m behind) c k 0 (alternativesOf (L .sequences) c)) (rank-is m m (hasMark L Q f) ranks steps)
-            ∙ ap₂ (λ (a b : Entry → Bool). linkFrom m (entryRank m (hasMark L Q f) T) a b c k 0 (alternativesOf (L .sequences) c)) (fun-ext (described .by-ahead)) (fun-ext (described .by-behind))
-            ∙ sym (link-from (L .sequences) (unranked L) (hasMark L Q f) (aheadOf L Q f (Q .side)) (behindOf L Q f (Q .side)) T k low c)
+            ap₂ (λ (n : ℕ) (alts : List Alternative). newestLink n (rankIn n n ranks) (passIn n ahead) (passIn n behind) c k alts) (asks .none) (placed c lt)
+            ∙ ap (λ (r : Entry → ℕ). newestLink m r (passIn m ahead) (passIn m behind) c k (alternativesOf (L .sequences) c)) (rank-is m m (hasMark L Q f) ranks steps)
+            ∙ ap₂ (λ (a b : Entry → Bool). newestLink m (entryRank m (hasMark L Q f) T) a b c k (alternativesOf (L .sequences) c)) (fun-ext (described .by-ahead)) (fun-ext (described .by-behind))
+            ∙ sym (link-newest (unranked L) (hasMark L Q f) (aheadOf L Q f (Q .side)) (behindOf L Q f (Q .side)) T k low (L .sequences) c)
 
         -- the links after the one that is chosen
         after-is : (k : ℕ) → k < unranked L → (e : Entry) → entryRank (unranked L) (hasMark L Q f) T e ≡ k

@@ -1,6 +1,6 @@
 -- The answer to a question: a chain that is answered keeps every promise of `Shows`, and "none" is answered exactly when no run has
 -- the outcome.
--- It has: chains chosen by ranks stand for a run and are lowest (`links-stand`, `links-lowest`); for either kind of question what is answered
+-- It has: chains chosen by ranks stand for a run and are the newest (`links-stand`, `links-newest`); for either kind of question what is answered
 -- and when none is (`touch-shows`, `touch-none`, `untouched-shows`, `untouched-none`), and for all (`answer-shows`, `answer-none`); and that
 -- any table of right ranks gives the answer (`touch-table`, `untouched-table`). That there is one such chain is in Unique.
 use Prim.Native.Nat.{ℕ, zero, suc, pred, _≤_, _<_}
@@ -26,8 +26,8 @@ use Rattle.chains.specs.Depth.{deepest}
 use Rattle.chains.specs.Ranks.{Ranks, Unlowered, Attained, Linked, Passing, unranked, entryRank, ranks, hasMark, untouchedLook, touchLook}
 use Rattle.chains.specs.Answer.{Answer, none, shown, chosenAlternative, followed, linksFrom, touchAnswer, untouchedAnswer, ranksIn}
 use Rattle.chains.specs.Answer.{touchShown, untouchedShown, answerFor, answer}
-use Rattle.chains.specs.Shows.{NoHigher, LeastDepth, Shows}
-use Rattle.chains.proofs.Ranks.{Lowest, alternative-lowest, ranks-least, ranks-closed, ranks-capped, ranks-reached}
+use Rattle.chains.specs.Shows.{NoOlder, LeastDepth, Shows}
+use Rattle.chains.proofs.Ranks.{Newest, alternative-newest, ranks-least, ranks-closed, ranks-capped, ranks-reached}
 use Rattle.chains.proofs.Depth.{step-passes, step-rank, Given, given-more, depth-least, depth-given, depth-reached, depth-exact, depth-below, run-ranked}
 use Rattle.chains.proofs.Entries.{passes-untouched}
 use Rattle.chains.proofs.Stands.{stands-run, stands-outcome, run-chain}
@@ -94,19 +94,19 @@ module _ (L : Library) (q : Question) (f : ℕ) (touch : q .mark ≢ untouched) 
       stands-outcome L q f c (chosenAt L q f (unranked L) T c k) (positionAt L q f (unranked L) T c k)
       (followed (entryAt (entriesOf L c (chosenAt L q f (unranked L) T c k)) (positionAt L q f (unranked L) T c k)) (next k)) w stands
 
-  -- no chain with as many links makes a lower choice
-  entry-lowest : (k : ℕ) (ms : Chain) (g : List Item)
-      → ((d : ℕ) → T d ≡ k → About d ms → StandsFor L q f ms g → HasOutcome L q f g → NoHigher (next k d) ms) → (e : Entry)
-      → entryRank (unranked L) (hasMark L q f) T e ≡ k → Touching L q f ms e g → NoHigher (followed e (next k)) ms
-  entry-lowest k ms g rest (item a) e touching = tt
-  entry-lowest k ms g rest (call d) e (about, stands, outcome) = rest d e about stands outcome
+  -- no chain with as many links makes a newer choice
+  entry-newest : (k : ℕ) (ms : Chain) (g : List Item)
+      → ((d : ℕ) → T d ≡ k → About d ms → StandsFor L q f ms g → HasOutcome L q f g → NoOlder (next k d) ms) → (e : Entry)
+      → entryRank (unranked L) (hasMark L q f) T e ≡ k → Touching L q f ms e g → NoOlder (followed e (next k)) ms
+  entry-newest k ms g rest (item a) e touching = tt
+  entry-newest k ms g rest (call d) e (about, stands, outcome) = rest d e about stands outcome
 
-  first-lowest : (k c j r : ℕ) (ms : Chain) (w : List Item) → T c ≡ suc k → suc k < unranked L → j < length (alternativesOf (L .sequences) c)
+  first-newest : (k c j r : ℕ) (ms : Chain) (w : List Item) → T c ≡ suc k → suc k < unranked L → j < length (alternativesOf (L .sequences) c)
       → (s : Choices L q f (entriesOf L c j) r (Touching L q f ms) w) → length ms ≡ k
-      → ((d : ℕ) → T d ≡ k → About d ms → StandsFor L q f ms (s .given) → HasOutcome L q f (s .given) → NoHigher (next k d) ms)
-      → NoHigher (linksFrom L q f T (suc k) c) (touchLink c j r ∷ ms)
+      → ((d : ℕ) → T d ≡ k → About d ms → StandsFor L q f ms (s .given) → HasOutcome L q f (s .given) → NoOlder (next k d) ms)
+      → NoOlder (linksFrom L q f T (suc k) c) (touchLink c j r ∷ ms)
   unfolding linksFrom
-  first-lowest k c j r ms w e lt listed s count rest =
+  first-newest k c j r ms w e lt listed s count rest =
       let ch = chosen L q f (unranked L) touch T reached closed c k e lt in
       let i = chosenAt L q f (unranked L) T c k in
       let p = positionAt L q f (unranked L) T c k in
@@ -116,31 +116,31 @@ module _ (L : Library) (q : Question) (f : ℕ) (touch : q .mark ≢ untouched) 
       let l = look-le L q f (unranked L) T (es j) r (s .listed) in (
         refl,
         ⊎-elim
-            (λ (same : i ≡ j). inr (
+            (λ (e′ : j ≡ i). let same = sym e′ in inr (
               same,
               ⊎-elim
                   (λ (at : p ≡ r). inr (
                     at,
-                    entry-lowest k ms (s .given) rest (entryAt (es i) p) (chosen-rank L q f (unranked L) touch T reached closed c k i p e lt ch)
+                    entry-newest k ms (s .given) rest (entryAt (es i) p) (chosen-rank L q f (unranked L) touch T reached closed c k i p e lt ch)
                         (rw (at, same) (s .touching)),
                   ))
                   inl
                   (eq-or-lt-of-le (ch .first r (rw same (s .listed)) (rw same low))),
             ))
             inl
-            (eq-or-lt-of-le (ch .alternative .lowest j listed (omega arith))),
+            (eq-or-lt-of-le (ch .alternative .highest j listed (omega arith))),
       )
 
-  pub links-lowest : (k c : ℕ) → T c ≡ k → k < unranked L → (ms : Chain) (w : List Item) → About c ms → StandsFor L q f ms w → HasOutcome L q f w
-      → length ms ≡ k → NoHigher (linksFrom L q f T k c) ms
+  pub links-newest : (k c : ℕ) → T c ≡ k → k < unranked L → (ms : Chain) (w : List Item) → About c ms → StandsFor L q f ms w → HasOutcome L q f w
+      → length ms ≡ k → NoOlder (linksFrom L q f T k c) ms
   unfolding linksFrom
-  links-lowest zero c e lt ms w about stands outcome count = tt
-  links-lowest (suc k) c e lt [] w about stands outcome count = absurd about
-  links-lowest (suc k) c e lt (touchLink d j r ∷ ms) w about (listed, s) outcome count =
-      subst (λ x. NoHigher (linksFrom L q f T (suc k) x) (touchLink d j r ∷ ms)) about
-      (first-lowest k d j r ms w (ap T about ∙ e) lt listed s (omega arith)
-      (λ b e′ about′ stands′ outcome′. links-lowest k b e′ (omega arith) ms (s .given) about′ stands′ outcome′ (omega arith)))
-  links-lowest (suc k) c e lt (untouchedLink d j ∷ ms) w about (listed, ends, g, stays) outcome count = absurd (touch (sym outcome ∙ stays))
+  links-newest zero c e lt ms w about stands outcome count = tt
+  links-newest (suc k) c e lt [] w about stands outcome count = absurd about
+  links-newest (suc k) c e lt (touchLink d j r ∷ ms) w about (listed, s) outcome count =
+      subst (λ x. NoOlder (linksFrom L q f T (suc k) x) (touchLink d j r ∷ ms)) about
+      (first-newest k d j r ms w (ap T about ∙ e) lt listed s (omega arith)
+      (λ b e′ about′ stands′ outcome′. links-newest k b e′ (omega arith) ms (s .given) about′ stands′ outcome′ (omega arith)))
+  links-newest (suc k) c e lt (untouchedLink d j ∷ ms) w about (listed, ends, g, stays) outcome count = absurd (touch (sym outcome ∙ stays))
 
   -- the answer by the table: a chain where the sequence has a rank, none elsewhere
   touch-cases : (c : ℕ)
@@ -167,7 +167,7 @@ module _ (L : Library) (q : Question) (f : ℕ) (touch : q .mark ≢ untouched) 
             stands = r .stands;
             runs = λ w stands. (stands-run L q f (linksFrom L q f T (T c) c) c w (r .about) stands, links-outcome (T c) c w stands);
             fewest = λ ms w about stands outcome. let le = links-least L q f (unranked L) touch T closed ms c w about stands outcome in omega arith;
-            lowest = λ t ms w about stands outcome same-count. links-lowest (T c) c refl lt ms w about stands outcome (omega arith);
+            newest = λ t ms w about stands outcome same-count. links-newest (T c) c refl lt ms w about stands outcome (omega arith);
             one = λ no. absurd (touch no);
             few = let le = links-bound L q f (unranked L) touch T reached closed c lt in omega arith;
           }
@@ -198,7 +198,7 @@ module _ (L : Library) (s : Side) (f : ℕ) where
   module _ (T : Ranks) (reached : Attained (Passing (L .sequences) leaves) (unranked L) T)
       (closed : Unlowered (L .sequences) (untouchedLook L staying f) T) where
     -- an alternative that comes to the least depth, with a derivation no deeper
-    least-depth : (c k i : ℕ) → T c ≡ suc k → Lowest (L .sequences) (untouchedLook L staying f) T c k i
+    least-depth : (c k i : ℕ) → T c ≡ suc k → Newest (L .sequences) (untouchedLook L staying f) T c k i
         → Given (L .sequences) (unranked L) leaves (alternativeOf (L .sequences) c i) k → LeastDepth L staying f c i
     least-depth c k i e a g =
         record {
@@ -212,12 +212,12 @@ module _ (L : Library) (s : Side) (f : ℕ) where
         least : (j : ℕ) → j < length (alternativesOf (L .sequences) c) → (w : List Item)
             (h : Gives (L .sequences) (alternativeOf (L .sequences) c j) w) → HasOutcome L staying f w
             → (deepest (L .sequences) (g .derivation) < deepest (L .sequences) h)
-            ⊎ ((deepest (L .sequences) (g .derivation) ≡ deepest (L .sequences) h) × (i ≤ j))
+            ⊎ ((deepest (L .sequences) (g .derivation) ≡ deepest (L .sequences) h) × (j ≤ i))
         least j lt w h o =
             let up = depth-least (L .sequences) (unranked L) leaves T closed h (passes-untouched s (itemTouch L s f) w .1 o) in
             let low = closed c j lt in
             let d = g .depth in
-            ⊎-elim (λ (same : deepest (L .sequences) (g .derivation) ≡ deepest (L .sequences) h). inr (same, a .lowest j lt (omega arith))) inl
+            ⊎-elim (λ (same : deepest (L .sequences) (g .derivation) ≡ deepest (L .sequences) h). inr (same, a .highest j lt (omega arith))) inl
             (eq-or-lt-of-le (omega arith))
 
     -- the alternative of least depth
@@ -229,7 +229,7 @@ module _ (L : Library) (s : Side) (f : ℕ) where
         let r = reached c lt in
         let exact = depth-exact (L .sequences) (unranked L) leaves T reached closed c lt .1 in
         let a =
-        alternative-lowest (L .sequences) (untouchedLook L staying f) T c (pred (T c)) (r .derivation .alternative) (r .derivation .listed) (omega arith) in
+        alternative-newest (L .sequences) (untouchedLook L staying f) T c (pred (T c)) (r .derivation .alternative) (r .derivation .listed) (omega arith) in
         let low = a .keeps in
         let g = depth-given (L .sequences) (unranked L) leaves T reached (alternativeOf (L .sequences) c (shallowest c)) (omega arith) in
         least-depth c (pred (T c)) (shallowest c) (omega arith) a (given-more (L .sequences) (unranked L) leaves g low)
@@ -261,7 +261,7 @@ module _ (L : Library) (s : Side) (f : ℕ) where
               stands = (d .listed, refl, d .derivation, d .leaves);
               runs = λ w stands. (stands-run L staying f (untouchedLink c (shallowest c) ∷ []) c w refl stands, stands .3);
               fewest = λ ms w about stands outcome. about-one ms c about;
-              lowest = λ t ms w about stands outcome count. absurd (t refl);
+              newest = λ t ms w about stands outcome count. absurd (t refl);
               one = λ e. (shallowest c, refl, d);
               few = let below = alternative-below (L .sequences) c (shallowest c) (d .listed) in omega arith;
             }

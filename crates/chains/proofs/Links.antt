@@ -24,7 +24,7 @@ use Rattle.chains.specs.Stands.{About, EntryTouches, entryAt, Choices, S
 use Rattle.chains.specs.Ranks.{Ranks, Look, Unlowered, Attained, Linked, entryRank, candidate, linkLook, hasMark, aheadOf, behindOf}
 use Rattle.chains.specs.Answer.{chosenAlternative, chosenPosition}
 use Rattle.general.proofs.Scan.{least-le, least-cases, first-found, Gapless, gapless-bound}
-use Rattle.chains.proofs.Ranks.{Lowest, alternative-lowest}
+use Rattle.chains.proofs.Ranks.{Newest, alternative-newest}
 use Rattle.chains.proofs.Depth.{step-rank, step-passes}
 use Rattle.chains.proofs.Entries.{beside-given, given-beside}
 use Rattle.chains.proofs.Stands.{stands-outcome}
@@ -117,9 +117,9 @@ module _ (L : Library) (q : Question) (f none : ℕ) where
       let r = reached d lt in
       record { links = r .chain; given = r .run; touching = (r .about, r .stands, r .outcome); fewer = r .links }
 
-  -- the choice of a link: it keeps the number of links fewest, and none lower does
+  -- the choice of a link: it keeps the number of links fewest, and none that comes before it in the order of choices does
   pub record Chosen (T : Ranks) (c k i p : ℕ) : Type 0 where
-    pub alternative : Lowest (L .sequences) look T c k i
+    pub alternative : Newest (L .sequences) look T c k i
     pub inside : p < length (entriesOf L c i)
     pub keeps : after T (entriesOf L c i) p ≤ k
     pub first : (r : ℕ) → r < length (entriesOf L c i) → after T (entriesOf L c i) r ≤ k → p ≤ r
@@ -130,7 +130,7 @@ module _ (L : Library) (q : Question) (f none : ℕ) where
   abbrev pub positionAt : Ranks → ℕ → ℕ → ℕ
   positionAt T c k = chosenPosition (after T (entriesOf L c (chosenAt T c k))) k (entriesOf L c (chosenAt T c k))
 
-  position-chosen : (T : Ranks) (c k i : ℕ) → k < none → Lowest (L .sequences) look T c k i
+  position-chosen : (T : Ranks) (c k i : ℕ) → k < none → Newest (L .sequences) look T c k i
       → Chosen T c k i (chosenPosition (after T (entriesOf L c i)) k (entriesOf L c i))
   unfolding chosenPosition
   position-chosen T c k i lt a =
@@ -229,7 +229,7 @@ module _ (L : Library) (q : Question) (f none : ℕ) where
       pub chosen : (c k : ℕ) → T c ≡ suc k → suc k < none → Chosen T c k (chosenAt T c k) (positionAt T c k)
       chosen c k e lt =
           let a = rank-alternative c k e lt in
-          position-chosen T c k (chosenAt T c k) (omega arith) (alternative-lowest (L .sequences) look T c k (a .0) (a .1) (a .2))
+          position-chosen T c k (chosenAt T c k) (omega arith) (alternative-newest (L .sequences) look T c k (a .0) (a .1) (a .2))
 
       -- the entry of the choice has the rank below
       pub chosen-rank : (c k i p : ℕ) → T c ≡ suc k → suc k < none → Chosen T c k i p → entryRank none (hasMark L q f) T (entryAt (entriesOf L c i) p) ≡ k

@@ -17,26 +17,26 @@ use Rattle.general.proofs.Bools.{passes-or-not}
 use Rattle.general.specs.Scan.{listBelow}
 use Rattle.general.specs.Numbers.{total}
 use Rattle.chains.specs.Ranks.{Ranks, Look, lowered, Unlowered, round, rounds, ranks, Attained}
-use Rattle.chains.specs.Answer.{chosenAlternative}
-use Rattle.general.proofs.Scan.{first-found, least-start, least-le, least-cases, length-listBelow, getD-listBelow, total-constant, total-same}
+use Rattle.chains.specs.Answer.{newest, chosenAlternative}
+use Rattle.general.proofs.Scan.{last-found, least-start, least-le, least-cases, length-listBelow, getD-listBelow, total-constant, total-same}
 
--- the alternative that is chosen comes to no more than k, and no lower one does
-pub record Lowest (S : List Sequence) (look : Look) (T : Ranks) (c k i : ℕ) : Type 0 where
+-- the alternative that is chosen comes to no more than k, and no higher one does
+pub record Newest (S : List Sequence) (look : Look) (T : Ranks) (c k i : ℕ) : Type 0 where
   pub listed : i < length (alternativesOf S c)
   pub keeps : look T (alternativeOf S c i) ≤ k
-  pub lowest : (j : ℕ) → j < length (alternativesOf S c) → look T (alternativeOf S c j) ≤ k → i ≤ j
+  pub highest : (j : ℕ) → j < length (alternativesOf S c) → look T (alternativeOf S c j) ≤ k → j ≤ i
 
-pub alternative-lowest : (S : List Sequence) (look : Look) (T : Ranks) (c k j : ℕ) → j < length (alternativesOf S c)
-    → look T (alternativeOf S c j) ≤ k → Lowest S look T c k (chosenAlternative S look T k c)
-unfolding chosenAlternative
-alternative-lowest S look T c k j lt low =
-    let least = first-found (λ i. leb (look T (alternativeOf S c i)) k) (length (alternativesOf S c)) in
-    let r = least j lt (le-leb (look T (alternativeOf S c j)) k low) in
-    let le = r .0 in
+pub alternative-newest : (S : List Sequence) (look : Look) (T : Ranks) (c k j : ℕ) → j < length (alternativesOf S c)
+    → look T (alternativeOf S c j) ≤ k → Newest S look T c k (chosenAlternative S look T k c)
+unfolding newest chosenAlternative
+alternative-newest S look T c k j lt low =
+    let n = length (alternativesOf S c) in
+    let found = last-found (λ i. leb (look T (alternativeOf S c i)) k) n n in
+    let r = found j lt (le-leb (look T (alternativeOf S c j)) k low) in
     record {
-      listed = omega arith;
-      keeps = leb-true (look T (alternativeOf S c (chosenAlternative S look T k c))) k (r .1);
-      lowest = λ i l h. least i l (le-leb (look T (alternativeOf S c i)) k h) .0;
+      listed = r .1;
+      keeps = leb-true (look T (alternativeOf S c (chosenAlternative S look T k c))) k (r .2);
+      highest = λ i l h. found i l (le-leb (look T (alternativeOf S c i)) k h) .0;
     }
 
 -- Ranks that are reached, and that are no higher than what anything reaches, are the least ones: no table whose ranks are reached has a

@@ -10,37 +10,37 @@ use Rattle.runs.specs.Touch.{Mark, present, absent, untouched, Question}
 use Rattle.runs.proofs.Outcome.{present≢untouched, absent≢untouched}
 use Rattle.chains.specs.Link.{touchLink, untouchedLink, Chain}
 use Rattle.chains.specs.Answer.{Answer, none, shown, answer}
-use Rattle.chains.specs.Shows.{NoHigher, LeastDepth, Shows}
+use Rattle.chains.specs.Shows.{NoOlder, LeastDepth, Shows}
 use Rattle.chains.proofs.Answers.{answer-shows, answer-none}
 
--- two chains of as many links, neither of which makes a higher choice, are equal
-no-higher-same : (ls ms : Chain) → length ls ≡ length ms → NoHigher ls ms → NoHigher ms ls → ls ≡ ms
-no-higher-same [] [] count h k = refl
-no-higher-same [] (m ∷ ms) count h k = absurd (omega arith)
-no-higher-same (touchLink c i p ∷ ls) [] count h k = absurd h
-no-higher-same (untouchedLink c i ∷ ls) ms count h k = absurd h
-no-higher-same (touchLink c i p ∷ ls) (untouchedLink d j ∷ ms) count h k = absurd h
-no-higher-same (touchLink c i p ∷ ls) (touchLink d j r ∷ ms) count (e, h) (e′, k) =
-    alternatives h k (no-higher-same ls ms (omega arith))
+-- two chains of as many links, neither of which makes an older choice, are equal
+no-older-same : (ls ms : Chain) → length ls ≡ length ms → NoOlder ls ms → NoOlder ms ls → ls ≡ ms
+no-older-same [] [] count h k = refl
+no-older-same [] (m ∷ ms) count h k = absurd (omega arith)
+no-older-same (touchLink c i p ∷ ls) [] count h k = absurd h
+no-older-same (untouchedLink c i ∷ ls) ms count h k = absurd h
+no-older-same (touchLink c i p ∷ ls) (untouchedLink d j ∷ ms) count h k = absurd h
+no-older-same (touchLink c i p ∷ ls) (touchLink d j r ∷ ms) count (e, h) (e′, k) =
+    alternatives h k (no-older-same ls ms (omega arith))
   where
     Same : Type 0
     Same = touchLink c i p ∷ ls ≡ touchLink d j r ∷ ms
 
-    positions : i ≡ j → (p < r) ⊎ ((p ≡ r) × NoHigher ls ms) → (r < p) ⊎ ((r ≡ p) × NoHigher ms ls) → (NoHigher ls ms → NoHigher ms ls → ls ≡ ms)
+    positions : i ≡ j → (p < r) ⊎ ((p ≡ r) × NoOlder ls ms) → (r < p) ⊎ ((r ≡ p) × NoOlder ms ls) → (NoOlder ls ms → NoOlder ms ls → ls ≡ ms)
         → Same
     positions x (inl lt) (inl lt′) rest = absurd (omega arith)
     positions x (inl lt) (inr (y, k)) rest = absurd (omega arith)
     positions x (inr (y, h)) (inl lt) rest = absurd (omega arith)
     positions x (inr (y, h)) (inr (y′, k)) rest = let z = rest h k in cc
 
-    alternatives : (i < j) ⊎ ((i ≡ j) × ((p < r) ⊎ ((p ≡ r) × NoHigher ls ms)))
-        → (j < i) ⊎ ((j ≡ i) × ((r < p) ⊎ ((r ≡ p) × NoHigher ms ls))) → (NoHigher ls ms → NoHigher ms ls → ls ≡ ms) → Same
+    alternatives : (j < i) ⊎ ((i ≡ j) × ((p < r) ⊎ ((p ≡ r) × NoOlder ls ms)))
+        → (i < j) ⊎ ((j ≡ i) × ((r < p) ⊎ ((r ≡ p) × NoOlder ms ls))) → (NoOlder ls ms → NoOlder ms ls → ls ≡ ms) → Same
     alternatives (inl lt) (inl lt′) rest = absurd (omega arith)
     alternatives (inl lt) (inr (x, k)) rest = absurd (omega arith)
     alternatives (inr (x, h)) (inl lt) rest = absurd (omega arith)
     alternatives (inr (x, h)) (inr (x′, k)) rest = positions x h k rest
 
--- two alternatives of least depth, ties to the lowest, are one
+-- two alternatives of least depth, ties to the highest, are one
 least-same : (L : Library) (q : Question) (f c i j : ℕ) → LeastDepth L q f c i → LeastDepth L q f c j → i ≡ j
 least-same L q f c i j a b =
     ⊎-elim
@@ -61,9 +61,9 @@ module _ (L : Library) (q : Question) (c f : ℕ) where
 
       touching : q .mark ≢ untouched → ls ≡ ms
       touching touch =
-          no-higher-same ls ms count
-          (a .lowest touch ms (b .run) (b .about) (b .stands) (b .runs (b .run) (b .stands) .1) (sym count))
-          (b .lowest touch ls (a .run) (a .about) (a .stands) (a .runs (a .run) (a .stands) .1) count)
+          no-older-same ls ms count
+          (a .newest touch ms (b .run) (b .about) (b .stands) (b .runs (b .run) (b .stands) .1) (sym count))
+          (b .newest touch ls (a .run) (a .about) (a .stands) (a .runs (a .run) (a .stands) .1) count)
 
       go : (m : Mark) → q .mark ≡ m → ls ≡ ms
       go present e = touching (λ h. present≢untouched (sym e ∙ h))

@@ -1,13 +1,13 @@
 -- The answer to a question, as a function: none, or a chain (document 01, "Chains").
 use Prim.Native.Nat.{ℕ, zero, suc, pred}
-use mathlib.Core.Bool.{true, false}
+use mathlib.Core.Bool.{Bool, true, false}
 use mathlib.Core.List.{List, [], _∷_}
 use lib.ListN.{length, getD}
 use lib.Dec.{leb, ltb}
 use Rattle.library.specs.Library.{Library, Alternative, Sequence, Entry, item, call}
 use Rattle.runs.specs.Run.{alternativesOf, alternativeOf}
 use Rattle.runs.specs.Touch.{Mark, present, absent, untouched, Question}
-use Rattle.general.specs.Scan.{firstIndex}
+use Rattle.general.specs.Scan.{firstIndex, lastIndex}
 use Rattle.chains.specs.Link.{touchLink, untouchedLink, Chain}
 use Rattle.chains.specs.Stands.{entryAt}
 use Rattle.chains.specs.Ranks.{Ranks, Look, ranks, unranked, candidate, hasMark, aheadOf, behindOf, untouchedLook, touchLook}
@@ -17,12 +17,17 @@ pub data Answer : Type 0 where
   none : Answer
   shown : Chain → Answer
 
--- "the lowest alternative .. that keeps it fewest", "ties to the lowest": the first one that comes to no more than k
-unfoldable pub chosenAlternative : List Sequence → Look → Ranks → ℕ → ℕ → ℕ
-unfolding firstIndex
-chosenAlternative S look T k c = firstIndex (λ i. leb (look T (alternativeOf S c i)) k) (length (alternativesOf S c))
+-- "the highest alternative" of those that pass a test: the last one that does. Where none does, the number of alternatives
+unfoldable pub newest : (Alternative → Bool) → List Alternative → ℕ
+unfolding lastIndex
+newest test alts = lastIndex (λ i. test (getD alts i [])) (length alts) (length alts)
 
--- "then the lowest position, that keeps it fewest", for the value that each position has
+-- "Among equally good choices a link takes the highest alternative": the newest that comes to no more than k
+unfoldable pub chosenAlternative : List Sequence → Look → Ranks → ℕ → ℕ → ℕ
+unfolding newest
+chosenAlternative S look T k c = newest (λ es. leb (look T es) k) (alternativesOf S c)
+
+-- "then the lowest position": the first that comes to no more than k, for the value that each position has
 unfoldable pub chosenPosition : (ℕ → ℕ) → ℕ → Alternative → ℕ
 unfolding firstIndex
 chosenPosition value k es = firstIndex (λ p. leb (value p) k) (length es)
@@ -37,8 +42,8 @@ module _ (L : Library) (q : Question) (f : ℕ) where
   abbrev pub linksAfter : Ranks → Alternative → ℕ → ℕ
   linksAfter = candidate (unranked L) (hasMark L q f) (aheadOf L q f (q .side)) (behindOf L q f (q .side))
 
-  -- the n links of a chain about sequence c, where c has rank n: "at each link the choice is the lowest alternative, then the lowest
-  -- position, that keeps it fewest"
+  -- the n links of a chain about sequence c, where c has rank n: "Among equally good choices a link takes the highest alternative, then
+  -- the lowest position."
   unfoldable pub linksFrom : Ranks → ℕ → ℕ → Chain
   unfolding chosenAlternative chosenPosition
   linksFrom T zero c = []
@@ -53,8 +58,8 @@ module _ (L : Library) (q : Question) (f : ℕ) where
   unfolding linksFrom
   touchAnswer T c = elim (ltb (T c) (unranked L)) [ true ↦ shown (linksFrom T (T c) c) | false ↦ none ]
 
-  -- "Questions 2 and 5: one link with kind 12. It names the alternative of the untouched derivation of least nesting depth, ties to
-  -- the lowest."
+  -- "Questions 2 and 5: one link with kind 12. It names the alternative of the untouched derivation of least nesting depth", ties to the
+  -- highest: "This holds for kind 12 links too."
   unfoldable pub untouchedAnswer : Ranks → ℕ → Answer
   unfolding chosenAlternative
   untouchedAnswer T c =

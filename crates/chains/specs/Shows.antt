@@ -1,4 +1,4 @@
--- What is promised of a chain that answers a question (document 01, "Chains"; demand 3).
+-- What is promised of a chain that answers a question (document 01, "Chains", with item 2 of document 02; demand 3).
 use Prim.Native.Nat.{ℕ, _≤_, _<_}
 use mathlib.Core.Path.{_≡_}
 use mathlib.Core.Logic.{_⊎_, _≢_}
@@ -11,18 +11,19 @@ use Rattle.chains.specs.Link.{touchLink, untouchedLink, Chain}
 use Rattle.chains.specs.Stands.{About, StandsFor}
 use Rattle.chains.specs.Depth.{deepest}
 
--- "at each link the choice is the lowest alternative, then the lowest position": where two chains first differ, the first one has the
--- lower alternative, or the same and the lower position
-abbrev pub NoHigher : Chain → Chain → Type 0
-NoHigher [] ms = Unit {0}
-NoHigher (touchLink c i p ∷ ls) [] = ⊥
-NoHigher (touchLink c i p ∷ ls) (touchLink d j r ∷ ms) =
-    (c ≡ d) × ((i < j) ⊎ ((i ≡ j) × ((p < r) ⊎ ((p ≡ r) × NoHigher ls ms))))
-NoHigher (touchLink c i p ∷ ls) (untouchedLink d j ∷ ms) = ⊥
-NoHigher (untouchedLink c i ∷ ls) ms = ⊥
+-- "Among equally good choices a link takes the highest alternative, then the lowest position.": where two chains first differ, the first
+-- one has the higher alternative, or the same and the lower position
+abbrev pub NoOlder : Chain → Chain → Type 0
+NoOlder [] ms = Unit {0}
+NoOlder (touchLink c i p ∷ ls) [] = ⊥
+NoOlder (touchLink c i p ∷ ls) (touchLink d j r ∷ ms) =
+    (c ≡ d) × ((j < i) ⊎ ((i ≡ j) × ((p < r) ⊎ ((p ≡ r) × NoOlder ls ms))))
+NoOlder (touchLink c i p ∷ ls) (untouchedLink d j ∷ ms) = ⊥
+NoOlder (untouchedLink c i ∷ ls) ms = ⊥
 
--- "the alternative of the untouched derivation of least nesting depth, ties to the lowest": alternative i of sequence c has an
--- untouched derivation, and each untouched derivation of an alternative j is deeper, or as deep and j is no lower
+-- "the alternative of the untouched derivation of least nesting depth", and among equally deep ones "the highest alternative": "This
+-- holds for kind 12 links too." "for kind 12 least nesting depth" comes first. Alternative i of sequence c has an untouched derivation, and
+-- each untouched derivation of an alternative j is deeper, or as deep and j is no higher
 pub record LeastDepth (L : Library) (q : Question) (f c i : ℕ) : Type 0 where
   pub listed : i < length (alternativesOf (L .sequences) c)
   pub run : List Item
@@ -30,7 +31,7 @@ pub record LeastDepth (L : Library) (q : Question) (f c i : ℕ) : Type 0 where
   pub leaves : HasOutcome L (untouchedOn q) f run
   pub least : (j : ℕ) → j < length (alternativesOf (L .sequences) c) → (w : List Item) (g : Gives (L .sequences) (alternativeOf (L .sequences) c j) w)
       → HasOutcome L (untouchedOn q) f w
-      → (deepest (L .sequences) derivation < deepest (L .sequences) g) ⊎ ((deepest (L .sequences) derivation ≡ deepest (L .sequences) g) × (i ≤ j))
+      → (deepest (L .sequences) derivation < deepest (L .sequences) g) ⊎ ((deepest (L .sequences) derivation ≡ deepest (L .sequences) g) × (j ≤ i))
 
 -- the chain ls answers question q of sequence c for fact f
 pub record Shows (L : Library) (q : Question) (c f : ℕ) (ls : Chain) : Type 0 where
@@ -43,9 +44,9 @@ pub record Shows (L : Library) (q : Question) (c f : ℕ) (ls : Chain) : Type 0 
   pub runs : (w : List Item) → StandsFor L q f ls w → Run L c w × HasOutcome L q f w
   -- "The chain has the fewest links"
   pub fewest : (ms : Chain) (w : List Item) → About c ms → StandsFor L q f ms w → HasOutcome L q f w → length ls ≤ length ms
-  -- "at each link the choice is the lowest alternative, then the lowest position, that keeps it fewest"
-  pub lowest : q .mark ≢ untouched → (ms : Chain) (w : List Item) → About c ms → StandsFor L q f ms w → HasOutcome L q f w
-      → length ms ≡ length ls → NoHigher ls ms
+  -- "Fewest links .. still come first." "Among equally good choices a link takes the highest alternative, then the lowest position."
+  pub newest : q .mark ≢ untouched → (ms : Chain) (w : List Item) → About c ms → StandsFor L q f ms w → HasOutcome L q f w
+      → length ms ≡ length ls → NoOlder ls ms
   -- "Questions 2 and 5: one link with kind 12."
   pub one : q .mark ≡ untouched → (i : ℕ) × (ls ≡ untouchedLink c i ∷ []) × LeastDepth L q f c i
   -- "a chain of no more links than the library has sequences"

@@ -1,7 +1,7 @@
--- Laws of the scans: of every element, of the least and the greatest value, of the first index, of lists by their indices; and a
--- count, by which numbers without a gap are bounded.
--- It has: `every`, `leastBelow`, `greatest`, `firstIndex`, `listBelow` and `total`, some laws each; `count-all` and `count-more`; `gapless-
--- bound`. Laws of Booleans are in Bools, of tests over a list in Tests.
+-- Laws of the scans: of every element, of the least and the greatest value, of the first and the last index, of lists by their indices;
+-- and a count, by which numbers without a gap are bounded.
+-- It has: `every`, `leastBelow`, `greatest`, `firstIndex`, `lastIndex`, `listBelow` and `total`, some laws each; `count-all` and `count-more`;
+-- `gapless-bound`. Laws of Booleans are in Bools, of tests over a list in Tests.
 use Prim.Native.Nat.{ℕ, zero, suc, _+_, _*_, _≤_, _<_, min}
 use mathlib.Core.Path.{_≡_, refl, sym, _∙_, ap}
 use mathlib.Core.Logic.{_⊎_, inl, inr, ⊎-elim}
@@ -13,7 +13,7 @@ use lib.ListN.{length, getD, set}
 use lib.Dec.{leb}
 use borrow.Author.Tests.{leb-true, le-leb, lt-leb, leb-false}
 use Rattle.general.proofs.Bools.{passes-or-not}
-use Rattle.general.specs.Scan.{every, leastBelow, greatest, firstIndex, listBelow}
+use Rattle.general.specs.Scan.{every, leastBelow, greatest, firstIndex, lastIndex, listBelow}
 use Rattle.general.specs.Numbers.{total}
 
 pub every-append : {A : Type 0} (p : A → Bool) (xs ys : List A) → every p (xs ++ ys) ≡ (every p xs && every p ys)
@@ -91,6 +91,20 @@ unfolding firstIndex
 first-same p q zero same = refl
 first-same p q (suc n) same =
     rw (same 0 (omega arith), first-same (λ j. p (suc j)) (λ j. q (suc j)) n (λ i lt. same (suc i) (omega arith)))
+
+-- where an index passes, the last one does, and is no lower
+pub last-found : (p : ℕ → Bool) (d n i : ℕ) → i < n → p i ≡ true
+    → (i ≤ lastIndex p d n) × (lastIndex p d n < n) × (p (lastIndex p d n) ≡ true)
+unfolding lastIndex
+last-found p d zero i lt h = absurd (omega arith)
+last-found p d (suc n) i lt h = go (p n) refl (last-found p d n i) (eq-or-lt-of-le (le-of-suc-le-suc lt))
+  where
+    go : (b : Bool) → p n ≡ b → (i < n → p i ≡ true → (i ≤ lastIndex p d n) × (lastIndex p d n < n) × (p (lastIndex p d n) ≡ true))
+        → (i ≡ n) ⊎ (i < n)
+        → (i ≤ cond b n (lastIndex p d n)) × (cond b n (lastIndex p d n) < suc n) × (p (cond b n (lastIndex p d n)) ≡ true)
+    go true e rest below = (omega (arith, lt), omega arith, e)
+    go false e rest (inl same) = absurd (false≢true (sym e ∙ rw same at h))
+    go false e rest (inr l) = let r = rest l h in (r .0, omega (arith, r .1), r .2)
 
 -- a list by its indices
 pub length-listBelow : (v : ℕ → ℕ) (n : ℕ) → length (listBelow v n) ≡ n

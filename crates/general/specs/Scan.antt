@@ -1,4 +1,4 @@
--- Scans: a test of every element, the least of some numbers, the first index that passes a test, a list by its indices.
+-- Scans: a test of every element, the least of some numbers, the first and the last index that passes a test, a list by its indices.
 use Prim.Native.Nat.{ℕ, zero, suc, min, max}
 use mathlib.Core.Bool.{Bool, true, cond, _&&_}
 use mathlib.Core.List.{List, [], _∷_}
@@ -22,6 +22,11 @@ greatest v (x ∷ xs) = max (v x) (greatest v xs)
 unfoldable pub firstIndex : (ℕ → Bool) → ℕ → ℕ
 firstIndex p zero = 0
 firstIndex p (suc n) = let later : ℕ = suc (firstIndex (λ i. p (suc i)) n) in cond (p 0) 0 later
+
+-- the highest index below n that passes the test, d where none does
+unfoldable pub lastIndex : (ℕ → Bool) → ℕ → ℕ → ℕ
+lastIndex p d zero = d
+lastIndex p d (suc n) = let lower : ℕ = lastIndex p d n in cond (p n) n lower
 
 -- the values at the indices below n
 unfoldable pub listBelow : (ℕ → ℕ) → ℕ → List ℕ

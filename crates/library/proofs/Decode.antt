@@ -135,6 +135,17 @@ entries-short (w ∷ ws) = go (isEntry w) refl (entries-short ws)
     go true e l = omega (arith, ap (λ (es : List Entry). length es) (entries-cons w ws true e))
     go false e l = omega (arith, ap (λ (es : List Entry). length es) (entries-cons w ws false e))
 
+pub alternatives-short : (ws : List ℕ) → length (alternativesFrom ws) ≤ length ws
+unfolding alternativesFrom
+alternatives-short [] = omega arith
+alternatives-short (w ∷ ws) = go (isKind 7 w) (isEntry w) (alternatives-short ws)
+  where
+    go : (a b : Bool) → length (alternativesFrom ws) ≤ length ws
+        → length (cond a (entriesFrom ws ∷ alternativesFrom ws) (cond b (alternativesFrom ws) [])) ≤ suc (length ws)
+    go true b l = omega arith
+    go false true l = omega arith
+    go false false l = omega arith
+
 -- ---- the two parts
 
 pub parts-opened : (k : ℕ) (ws : List ℕ) → opened k (beforeSequences ws) + opened k (fromSequences ws) ≡ opened k ws

@@ -7,3 +7,4 @@ pub mod Lookup
 pub mod Rows
 pub mod Sizes
 pub mod Walking
+pub mod Before

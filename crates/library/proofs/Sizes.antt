@@ -12,19 +12,8 @@ use Rattle.rules.specs.Checked.{checked}
 use Rattle.library.specs.Accepted.{Small}
 use Rattle.image.specs.declared.answer.Head.{Head}
 use Rattle.image.specs.declared.answer.Checked.the-variants.{Accepted}
-use Rattle.library.proofs.Decode.{entries-short}
+use Rattle.library.proofs.Decode.{entries-short, alternatives-short}
 use Rattle.library.proofs.Accepted.{faultless, parts, counted}
-
-alternatives-short : (ws : List ℕ) → length (alternativesFrom ws) ≤ length ws
-unfolding alternativesFrom
-alternatives-short [] = omega arith
-alternatives-short (w ∷ ws) = go (isKind 7 w) (isEntry w) (alternatives-short ws)
-  where
-    go : (a b : Bool) → length (alternativesFrom ws) ≤ length ws
-        → length (cond a (entriesFrom ws ∷ alternativesFrom ws) (cond b (alternativesFrom ws) [])) ≤ suc (length ws)
-    go true b l = omega arith
-    go false true l = omega arith
-    go false false l = omega arith
 
 -- each alternative of a sequence
 entries-in : (ws : List ℕ) (i : ℕ) → length (getD (alternativesFrom ws) i []) ≤ length ws

@@ -117,7 +117,8 @@ folding-start {part} {at} l same =
     let none : at - at ≡ 0 = omega arith in
     record { low = omega arith; within = l; same = same; passed = ap (λ (n : ℕ). drop n (entriesFrom (drop at part))) none; ends = refl }
 
-drop-next : (l : List Entry) (n : ℕ) (x : Entry) (xs : List Entry) → drop n l ≡ x ∷ xs → (drop (suc n) l ≡ xs) × ((d : Entry) → getD l n d ≡ x)
+-- the element at an index, and those after it
+pub drop-next : {A : Type 0} (l : List A) (n : ℕ) (x : A) (xs : List A) → drop n l ≡ x ∷ xs → (drop (suc n) l ≡ xs) × ((d : A) → getD l n d ≡ x)
 drop-next [] zero x xs e = let z : _≡_ {A = ℕ} 0 1 = cc in absurd (omega arith)
 drop-next [] (suc n) x xs e = let z : _≡_ {A = ℕ} 0 1 = cc in absurd (omega arith)
 drop-next (y ∷ ys) zero x xs e = (cc, λ d. cc)

@@ -1,9 +1,18 @@
-// The words of a sequence, walked from left to right.
+// The words of a sequence: walked from left to right, and back from one alternative to the one before it.
+use image::word::KIND_ALTERNATIVE;
 use image::word::is_entry;
+use image::word::is_kind;
 ghost use mathlib.Core.Path.{_≡_};
 ghost use Prim.Native.Nat.{_≤_};
 ghost use lib.ListN.{length, getD};
-ghost use Rattle.library.specs.Walk.{entriesEnd};
+ghost use Rattle.image.specs.Word.{mostWords};
+ghost use Rattle.library.specs.Walk.{entriesEnd, Spans, openerBefore};
+
+// How many alternatives a sequence has, and the index after its words.
+pub struct Span {
+    pub count: u32,
+    pub end: usize,
+}
 
 // The word at an index; past the words 0, which is of no kind.
 pub fn word_at(part: &[u32], i: usize) -> u32
@@ -25,4 +34,40 @@ pub fn entries_end(part: &[u32], at: usize) -> usize
         i += 1;
     }
     i
+}
+
+// The alternatives that stand from index `at` on.
+pub fn alternatives_of(part: &[u32], at: usize) -> Span
+    requires { ⌜ (at ≤ length (now part)) × (length (now part) ≤ mostWords) ⌝ }
+    ensures { λ r. ⌜ Spans (now (part .entry)) at r ⌝ }
+{
+    let mut count = 0;
+    let mut i = at;
+    loop {
+        let w = word_at(part, i);
+        let opens = is_kind(KIND_ALTERNATIVE, w);
+        if !(opens | is_entry(w)) {
+            return Span {
+                count: count,
+                end: i,
+            };
+        }
+        count += opens as u32;
+        i += 1;
+    }
+}
+
+// The index of the last opener of an alternative before index `end`, 0 where there is none.
+pub fn opener_before(part: &[u32], end: usize) -> usize
+    requires { ⌜ end ≤ length (now part) ⌝ }
+    ensures { λ r. ⌜ r ≡ openerBefore (now (part .entry)) end ⌝ }
+{
+    let mut i = end;
+    while 0 < i {
+        i -= 1;
+        if is_kind(KIND_ALTERNATIVE, part[i]) {
+            return i;
+        }
+    }
+    0
 }

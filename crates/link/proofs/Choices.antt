@@ -1,31 +1,79 @@
 -- The loops that choose: what holds at the head of each, a turn, and the ways out.
--- It has: the index from which on all entries pass (`tail-cons`); the first position of an alternative (`placing-` start, turn, found, out)
--- and the first alternative with one (`Choosing`); the first alternative of no greater depth (`Picking`).
+-- It has: the newest alternative that passes a test, from the last one back (`seeking-` start, turn, found, out); the index from which on all
+-- entries pass (`tail-cons`); the first position of an alternative (`placing-` start, turn, found, out); and the link that both make
+-- (`choosing-turn`, `chosen-found`, `chosen-out`).
 -- Assumes nothing.
 use Prim.Native.Nat.{ℕ, suc, _+_, _-_, _≤_, _<_}
 use native.Mathlib.Omega.{arith}
 use native.Mathlib.Numerals.{add-one}
-use mathlib.Core.Path.{_≡_, refl, sym, ap, ap₂, _∙_}
+use mathlib.Core.Path.{_≡_, refl, sym, ap, ap₂, _∙_, subst}
 use mathlib.Core.Bool.{Bool, true, false, cond, _&&_}
-use mathlib.Core.List.{List, [], _∷_, _++_, append-assoc}
-use lib.ListN.{length, getD, drop, length-append}
-use lib.Seq.{getD-append-add}
-use lib.Dec.{leb}
-use borrow.Author.Tests.{le-leb, lt-leb, lt-ltb, le-ltb}
+use mathlib.Core.List.{List, [], _∷_}
+use lib.ListN.{length, getD, drop, List·getD-eq-default}
+use lib.Dec.{leb, ltb}
+use borrow.Author.Tests.{lt-ltb, le-ltb}
 use Rattle.image.specs.Word.{payload, isKind, isEntry}
 use Rattle.library.specs.Library.{Entry, step, item, call, Alternative, entriesFrom, alternativesFrom}
-use Rattle.library.specs.Walk.{entryOf}
-use Rattle.general.specs.Scan.{every}
-use Rattle.chains.specs.Link.{Link, touchLink}
+use Rattle.library.specs.Walk.{entryOf, Before, Spans, openerBefore}
+use Rattle.general.specs.Scan.{every, lastIndex}
+use Rattle.chains.specs.Link.{touchLink}
 use Rattle.chains.specs.Stands.{entryAt}
-use Rattle.rank.specs.Walk.{tailFrom, positionFrom, linkFrom, alternativeFrom}
-use Rattle.rank.specs.Tables.{entryNumber, rankIn, passIn, traitsIn, AlternativeRanked}
+use Rattle.chains.specs.Answer.{newest}
+use Rattle.rank.specs.Walk.{tailFrom, positionFrom, newestLink}
+use Rattle.rank.specs.Tables.{entryNumber, rankIn, passIn, traitsIn}
 use Rattle.link.specs.Choice.{linkIn, Chosen}
+use Rattle.library.specs.declared.walk.Span.{Span}
 use Rattle.rank.specs.declared.entry.Traits.{Traits}
-use Rattle.rank.specs.declared.read.Read.{Read}
-use Rattle.library.proofs.Walking.{Folding, folding-start, folding-inside, folding-turn, folding-read, folding-entry, folding-out, folding-end}
-use Rattle.library.proofs.Walking.{Walking, walking-start, walking-opener-inside, walking-here, walking-turn, walking-skip, walking-out}
+use Rattle.library.proofs.Walking.{Folding, folding-start, folding-inside, folding-turn, folding-read, folding-entry, folding-out}
+use Rattle.library.proofs.Before.{before-few, Back, before-back}
 use Rattle.rank.proofs.Walk.{tail-from}
+
+-- ---- the newest alternative that passes a test
+
+module _ (test : Alternative → Bool) (part : List ℕ) (at : ℕ) where
+  abbrev alternatives : List Alternative
+  alternatives = alternativesFrom (drop at part)
+
+  -- the newest among those below n
+  abbrev below : ℕ → ℕ
+  below n = lastIndex (λ i. test (getD alternatives i [])) (length alternatives) n
+
+  -- at the head: n alternatives open before the index, and the newest of all is the newest of these
+  pub record Seeking (n i : ℕ) : Type 0 where
+    pub before : Before part at n i
+    pub same : below n ≡ newest test alternatives
+
+  pub seeking-start : (all : Span) → Spans part at all → Seeking (all .count) (all .end)
+  unfolding newest
+  seeking-start all spans = record { before = spans .before; same = ap below (spans .all) }
+
+  -- none passes
+  pub seeking-out : (n i : ℕ) → Seeking n i → n ≡ 0 → length alternatives ≡ newest test alternatives
+  unfolding lastIndex
+  seeking-out n i here over = ap below (sym over) ∙ here .same
+
+  -- the last alternative before the index, where one is left: o is the index of its opener
+  module _ (n i : ℕ) (here : Seeking n i) (some : 0 < n) (o : ℕ) (opener : o ≡ openerBefore part i) where
+    pub last-before : Back part at (n - 1) i o
+    last-before =
+        let one : n ≡ suc (n - 1) = omega arith in
+        rw opener (before-back part at (n - 1) i (subst (λ (m : ℕ). Before part at m i) one (here .before)))
+
+    by-last : (b : Bool) → test (entriesFrom (drop (o + 1) part)) ≡ b → cond b (n - 1) (below (n - 1)) ≡ newest test alternatives
+    unfolding lastIndex
+    by-last b e =
+        let one : suc (n - 1) ≡ n = omega arith in
+        ap (λ (x : Bool). cond x (n - 1) (below (n - 1))) (sym e ∙ ap test (sym (last-before .entries))) ∙ ap below one ∙ here .same
+
+    pub seeking-turn : test (entriesFrom (drop (o + 1) part)) ≡ false → Seeking (n - 1) o
+    seeking-turn e = record { before = last-before .before; same = by-last false e }
+
+    pub seeking-found : test (entriesFrom (drop (o + 1) part)) ≡ true → n - 1 ≡ newest test alternatives
+    seeking-found e = by-last true e
+
+    -- its entries stand within the words
+    pub last-within : o + 1 ≤ length part
+    last-within = omega (arith, last-before .lower, here .before .within)
 
 -- ---- the index from which on all entries pass
 
@@ -51,9 +99,6 @@ module _ (none : ℕ) (ahead behind ranks part : List ℕ) (k : ℕ) where
 
   abbrev position : Bool → ℕ → List Entry → ℕ
   position = positionFrom none rank (passIn none ahead) (passIn none behind) k
-
-  abbrev link : ℕ → ℕ → List Alternative → Link
-  link c = linkFrom none rank (passIn none ahead) (passIn none behind) c k
 
   module _ (s : ℕ) where
     abbrev entries : List Entry
@@ -130,156 +175,62 @@ module _ (none : ℕ) (ahead behind ranks part : List ℕ) (k : ℕ) where
         let count : i - s + 0 ≡ length entries = ap (λ (p : ℕ × ℕ). p .1) h in
         sym (ap (λ (p : ℕ × ℕ). p .0) h) ∙ omega arith
 
-  -- ---- the first alternative that has such a position
-
-  -- an alternative without one, and one with it
-  link-next : (c n : ℕ) (es : Alternative) (alts : List Alternative) → position true 0 es ≡ length es → link c n (es ∷ alts) ≡ link c (suc n) alts
-  unfolding linkFrom
-  link-next c n es alts none =
-      ap (λ (b : Bool). cond b (touchLink c n (position true 0 es)) (link c (suc n) alts)) (le-ltb (position true 0 es) (length es) (omega arith))
-
-  link-here : (c n p : ℕ) (es : Alternative) (alts : List Alternative) → position true 0 es ≡ p → p < length es → link c n (es ∷ alts) ≡ touchLink c n p
-  unfolding linkFrom
-  link-here c n p es alts found lt =
-      ap (λ (b : Bool). cond b (touchLink c n (position true 0 es)) (link c (suc n) alts)) (lt-ltb (position true 0 es) (length es) (omega arith))
-      ∙ ap (touchLink c n) found
+  -- ---- the link
 
   module _ (at : ℕ) where
-    abbrev alternatives : List Alternative
-    alternatives = alternativesFrom (drop at part)
+    -- an alternative has a position that is chosen
+    abbrev pub placed : Alternative → Bool
+    placed es = ltb (position true 0 es) (length es)
 
-    abbrev all : ℕ → List Alternative × Link
-    all c = (alternatives, link c 0 alternatives)
+    abbrev pub Choosing : ℕ → ℕ → Type 0
+    Choosing = Seeking placed part at
 
-    abbrev left : List Alternative → ℕ → List Alternative → List Alternative × Link
-    left read c alts = (read ++ alts, link c (length read) alts)
+    abbrev all : List Alternative
+    all = alternativesFrom (drop at part)
 
-    -- at the head: the alternatives read so far, and the link by those that are left
-    pub record Choosing (alternative i : ℕ) : Type 0 where
-      pub read : List Alternative
-      pub count : length read ≡ alternative
-      pub low : alternative ≤ i
-      pub walk : (c : ℕ) → Walking part (all c) (left read c) i
+    -- no alternative has one
+    pub chosen-out : (span : Span) → Spans part at span → (n i : ℕ) → Choosing n i → n ≡ 0
+        → Chosen none ahead behind ranks part at k (record { alternative = span .count; position = 0; entry = 0 })
+    unfolding linkIn newestLink positionFrom
+    chosen-out span spans n i here over =
+        let past : getD all (span .count) [] ≡ [] = List·getD-eq-default all [] {n = span .count} (omega (arith, spans .all)) in
+        let last = spans .all ∙ seeking-out placed part at n i here over in
+        record {
+          link = λ c.
+              ap₂ (touchLink c) last
+              (sym (ap (position true 0) (sym (ap (λ (n : ℕ). getD all n []) last) ∙ past)));
+          entry = ap (λ (es : Alternative). entryNumber (entryAt es 0)) (sym past);
+          alternative-low = before-few part at _ _ (spans .before);
+          position-low = omega arith;
+        }
 
-    pub choosing-start : at ≤ length part → Choosing 0 at
-    choosing-start l = record { read = []; count = refl; low = omega arith; walk = λ c. walking-start l refl }
+    -- the last alternative before the index has none, or has one
+    module _ (n i : ℕ) (here : Choosing n i) (some : 0 < n) (o : ℕ) (opener : o ≡ openerBefore part i) where
+      abbrev entriesThere : Alternative
+      entriesThere = entriesFrom (drop (o + 1) part)
 
-    module _ (alternative i : ℕ) (here : Choosing alternative i) where
-      pub choosing-skip : isKind 7 (getD part i 0) ≡ false → isEntry (getD part i 0) ≡ true → Choosing alternative (i + 1)
-      choosing-skip e f =
-          record {
-            read = here .read;
-            count = here .count;
-            low = omega (arith, here .low);
-            walk = λ c. walking-skip (here .walk c) e f;
-          }
+      pub choosing-turn : (ok : Bool) (j : ℕ) → Placing (o + 1) ok j → isEntry (getD part j 0) ≡ false → Choosing (n - 1) o
+      choosing-turn ok j placing out =
+          seeking-turn placed part at n i here some o opener
+          (le-ltb (position true 0 entriesThere) (length entriesThere) (omega (arith, placing-out (o + 1) ok j placing out)))
 
-      -- an alternative with no such position
-      pub choosing-turn : isKind 7 (getD part i 0) ≡ true → (ok : Bool) (j : ℕ) → Placing (i + 1) ok j → isEntry (getD part j 0) ≡ false
-          → Choosing (alternative + 1) j
-      choosing-turn e ok j placed out =
-          let es = entriesFrom (drop (i + 1) part) in
-          let more = alternativesFrom (drop (i + 1) part) in
-          let read = here .read in
-          let counted : length (read ++ es ∷ []) ≡ length read + 1 = length-append read (es ∷ []) in
-          record {
-            read = read ++ es ∷ [];
-            count = omega (arith, counted, here .count);
-            low = omega (arith, here .low, placed .low);
-            walk = λ c.
-                walking-turn (here .walk c) e (folding-end placed out)
-                (ap₂ (λ (x : List Alternative) (y : Link). (x, y)) (sym (append-assoc read (es ∷ []) more))
-                (link-next c (length read) es more (placing-out (i + 1) ok j placed out) ∙ ap (λ (n : ℕ). link c n more) (omega (arith, counted))));
-          }
-
-      -- what stands at the alternative's number is the first that is left
-      listed : (alts : List Alternative) → left (here .read) 0 alts ≡ all 0 → getD alternatives alternative [] ≡ getD alts 0 []
-      listed alts h =
-          let n : alternative ≡ length (here .read) + 0 = omega (arith, here .count) in
-          sym (ap (λ (x : List Alternative × Link). getD (x .0) alternative []) h) ∙ ap (λ (m : ℕ). getD (here .read ++ alts) m []) n
-          ∙ getD-append-add (here .read) alts 0 []
-
-      -- no alternative
-      pub choosing-out : isKind 7 (getD part i 0) ≡ false → isEntry (getD part i 0) ≡ false
-          → Chosen none ahead behind ranks part at k (record { alternative = alternative; position = 0; entry = 0 })
-      unfolding linkFrom linkIn
-      choosing-out e f =
-          let h : (c : ℕ) → left (here .read) c [] ≡ all c = λ c. walking-out (here .walk c) e f in
-          record {
-            link = λ c. ap (λ (n : ℕ). touchLink c n 0) (sym (here .count)) ∙ ap (λ (x : List Alternative × Link). x .1) (h c);
-            entry = ap (λ (es : Alternative). entryNumber (entryAt es 0)) (sym (listed [] (h 0)));
-            alternative-low = omega (arith, here .low, here .walk 0 .within);
-            position-low = omega arith;
-          }
-
-      -- an alternative with such a position
-      pub choosing-found : isKind 7 (getD part i 0) ≡ true → (tail : ℕ)
-          → tail ≡ tailFrom (passIn none behind) (i + 1) (i + 1) (entriesFrom (drop (i + 1) part)) → (ok : Bool) (j : ℕ)
-          → Placing (i + 1) ok j → isEntry (getD part j 0) ≡ true → (t : Traits)
-          → t ≡ traitsIn none ahead behind ranks (entryOf (getD part j 0)) → (ok && leb tail (j + 1)) && leb (t .rank) k ≡ true
-          → Chosen none ahead behind ranks part at k (record { alternative = alternative; position = j - (i + 1); entry = payload (getD part j 0) })
-      unfolding linkIn
-      choosing-found e tail tailed ok j placed e′ t traits taken =
-          let es = entriesFrom (drop (i + 1) part) in
-          let more = alternativesFrom (drop (i + 1) part) in
-          let l = walking-opener-inside (here .walk 0) e in
-          let l′ = folding-inside placed e′ in
-          let found = placing-found (i + 1) tail tailed ok j placed e′ t traits taken in
-          let opened : (c : ℕ) → left (here .read) c (es ∷ more) ≡ all c = λ c. walking-here (here .walk c) e in
+      pub chosen-found : (tail : ℕ) → tail ≡ tailFrom (passIn none behind) (o + 1) (o + 1) entriesThere → (ok : Bool) (j : ℕ) → Placing (o + 1) ok j
+          → isEntry (getD part j 0) ≡ true → (t : Traits) → t ≡ traitsIn none ahead behind ranks (entryOf (getD part j 0))
+          → (ok && leb tail (j + 1)) && leb (t .rank) k ≡ true
+          → Chosen none ahead behind ranks part at k (record { alternative = n - 1; position = j - (o + 1); entry = payload (getD part j 0) })
+      unfolding linkIn newestLink
+      chosen-found tail tailed ok j placing e t traits taken =
+          let found = placing-found (o + 1) tail tailed ok j placing e t traits taken in
+          let entries = last-before placed part at n i here some o opener .entries in
+          let last = seeking-found placed part at n i here some o opener (lt-ltb (position true 0 entriesThere) (length entriesThere) (omega (arith, found .0, found .1))) in
           record {
             link = λ c.
-                ap (λ (n : ℕ). touchLink c n (j - (i + 1))) (sym (here .count))
-                ∙ sym (link-here c (length (here .read)) (j - (i + 1)) es more (found .0) (found .1))
-                ∙ ap (λ (x : List Alternative × Link). x .1) (opened c);
+                ap₂ (touchLink c) last
+                (sym (found .0) ∙ ap (position true 0) (sym entries ∙ ap (λ (m : ℕ). getD all m []) last));
             entry =
                 sym (entry-number (getD part j 0))
-                ∙ ap entryNumber (sym (folding-entry placed e′ (item (step 0))))
-                ∙ ap (λ (xs : Alternative). entryNumber (entryAt xs (j - (i + 1)))) (sym (listed (es ∷ more) (opened 0)));
-            alternative-low = omega (arith, here .low);
-            position-low = omega arith;
+                ∙ ap entryNumber (sym (folding-entry placing e (item (step 0))))
+                ∙ ap (λ (xs : Alternative). entryNumber (entryAt xs (j - (o + 1)))) (sym entries);
+            alternative-low = omega (arith, before-few part at n i (here .before));
+            position-low = omega (arith, folding-inside placing e);
           }
-
--- ---- the first alternative that comes to no more than k
-
-module _ (value : Alternative → ℕ) (part : List ℕ) (k at : ℕ) where
-  abbrev first : ℕ
-  first = alternativeFrom value k 0 (alternativesFrom (drop at part))
-
-  abbrev after : ℕ → List Alternative → ℕ
-  after = alternativeFrom value k
-
-  pub record Picking (alternative i : ℕ) : Type 0 where
-    pub low : alternative ≤ i
-    pub walk : Walking part first (after alternative) i
-
-  pub picking-start : at ≤ length part → Picking 0 at
-  picking-start l = record { low = omega arith; walk = walking-start l refl }
-
-  module _ (alternative i : ℕ) (here : Picking alternative i) where
-    pub picking-skip : isKind 7 (getD part i 0) ≡ false → isEntry (getD part i 0) ≡ true → Picking alternative (i + 1)
-    picking-skip e f = record { low = omega (arith, here .low); walk = walking-skip (here .walk) e f }
-
-    module _ (e : isKind 7 (getD part i 0) ≡ true) (r : Read) (read : AlternativeRanked value part (i + 1) r) where
-      -- the alternative that stands here, by whether it is chosen
-      one : (b : Bool) → leb (r .value) k ≡ b → (alts : List Alternative)
-          → after alternative (entriesFrom (drop (i + 1) part) ∷ alts) ≡ cond b alternative (after (suc alternative) alts)
-      unfolding alternativeFrom
-      one b traits alts =
-          ap (λ (x : Bool). cond x alternative (after (suc alternative) alts)) (ap (λ (x : ℕ). leb x k) (sym (read .value)) ∙ traits)
-
-      pub picking-turn : k < r .value → Picking (alternative + 1) (r .next)
-      picking-turn lt =
-          record {
-            low = omega (arith, here .low, read .next);
-            walk =
-                walking-turn (here .walk) e (read .next)
-                (one false (lt-leb (r .value) k lt) (alternativesFrom (drop (i + 1) part))
-                ∙ ap (λ (n : ℕ). after n (alternativesFrom (drop (i + 1) part))) (sym (add-one alternative)));
-          }
-
-      pub picking-found : r .value ≤ k → alternative ≡ first
-      picking-found le = sym (one true (le-leb (r .value) k le) (alternativesFrom (drop (i + 1) part))) ∙ walking-here (here .walk) e
-
-    pub picking-out : isKind 7 (getD part i 0) ≡ false → isEntry (getD part i 0) ≡ false → alternative ≡ first
-    unfolding alternativeFrom
-    picking-out e f = walking-out (here .walk) e f

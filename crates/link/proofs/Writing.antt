@@ -19,9 +19,8 @@ use Rattle.library.specs.Walk.{entryOf, alternativesAt}
 use Rattle.question.specs.Answer.{linkLength, linkCount, byRank, shownLinks}
 use Rattle.chains.specs.Link.{Link, touchLink, choiceWord, linkWords, chainWords}
 use Rattle.chains.specs.Stands.{entryAt}
-use Rattle.rank.specs.Tables.{entryNumber, depthIn}
-use Rattle.rank.specs.Walk.{alternativeFrom}
-use Rattle.link.specs.Choice.{linkIn, Chosen, linkEntry, linkAt, linksIn, untouchedIn, untouchedWords, answerIn}
+use Rattle.rank.specs.Tables.{entryNumber}
+use Rattle.link.specs.Choice.{linkIn, alternativeIn, Chosen, linkEntry, linkAt, linksIn, untouchedIn, untouchedWords, answerIn}
 use Rattle.link.specs.declared.link.Choice.{Choice}
 use Rattle.chains.specs.Answer.{Answer, none, shown}
 use Rattle.question.specs.Reply.{Answered}
@@ -144,14 +143,14 @@ links-count m ahead behind ranks part places (suc k) c =
 
 -- the one link by what the functions promise that choose its alternative and write its words
 pub untouched-written : (m : ℕ) (ranks part places : List ℕ) (c k from i count : ℕ) (area after : List ℕ) → c < length ranks → k ≡ pred (getD ranks c 0)
-    → from ≡ getD places c 0 + 1 → i ≡ alternativeFrom (depthIn m ranks) k 0 (alternativesFrom (drop from part)) → 0 < count → linkLength * count ≤ length area
+    → from ≡ getD places c 0 + 1 → i ≡ alternativeIn m ranks k (alternativesFrom (drop from part)) → 0 < count → linkLength * count ≤ length area
     → after ≡ set (set area 0 (choiceWord c i)) (0 + 1) (12 * 2 ^ 28) → after ≡ untouchedWords m ranks part places count c area
 unfolding untouchedIn chainWords
 untouched-written m ranks part places c k from i count area after listed before opener choice some room put =
     let least : k ≡ pred (getD ranks c m) = before ∙ ap pred (getD-inside ranks c 0 m listed) in
     put ∙ put-first area (choiceWord c i) (12 * 2 ^ 28) (omega arith)
     ∙ ap (λ (j : ℕ). (choiceWord c j ∷ 12 * 2 ^ 28 ∷ []) ++ drop 2 area)
-    (choice ∙ ap₂ (λ (p n : ℕ). alternativeFrom (depthIn m ranks) p 0 (alternativesFrom (drop n part))) least opener)
+    (choice ∙ ap₂ (λ (p n : ℕ). alternativeIn m ranks p (alternativesFrom (drop n part))) least opener)
     ∙ ap (λ (b : Bool). cond b (chainWords (untouchedIn m ranks part places c ∷ []) ++ drop 2 area) area) (sym (lt-ltb 0 count some))
 
 pub untouched-unwritten : (m : ℕ) (ranks part places : List ℕ) (c count : ℕ) (area : List ℕ) → count ≤ 0 → area ≡ untouchedWords m ranks part places count c area

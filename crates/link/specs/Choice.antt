@@ -4,22 +4,27 @@ use mathlib.Core.Path.{_≡_}
 use mathlib.Core.Bool.{cond}
 use mathlib.Core.List.{List, [], _∷_, _++_}
 use lib.ListN.{length, getD, drop}
-use lib.Dec.{eqb, ltb}
+use lib.Dec.{eqb, leb, ltb}
 use Rattle.library.specs.Library.{Alternative, alternativesFrom}
 use Rattle.library.specs.Walk.{alternativesAt}
 use Rattle.chains.specs.Link.{Link, touchLink, untouchedLink, Chain, chainWords}
 use Rattle.question.specs.declared.asked.Asked.{Asked}
 use Rattle.chains.specs.Stands.{entryAt}
-use Rattle.rank.specs.Walk.{linkFrom, alternativeFrom}
+use Rattle.rank.specs.Walk.{newestLink}
 use Rattle.rank.specs.Tables.{entryNumber, rankIn, passIn, depthIn, RanksReadable}
-use Rattle.chains.specs.Answer.{Answer, shown}
+use Rattle.chains.specs.Answer.{Answer, shown, newest}
 use Rattle.chains.specs.Answer as known
 use Rattle.link.specs.declared.link.Choice.{Choice}
 
 -- the link of sequence c that is chosen among these alternatives
 unfoldable pub linkIn : ℕ → List ℕ → List ℕ → List ℕ → ℕ → ℕ → List Alternative → Link
-unfolding linkFrom
-linkIn none ahead behind ranks c k alts = linkFrom none (rankIn none none ranks) (passIn none ahead) (passIn none behind) c k 0 alts
+unfolding newestLink
+linkIn none ahead behind ranks c k alts = newestLink none (rankIn none none ranks) (passIn none ahead) (passIn none behind) c k alts
+
+-- the newest of these alternatives whose greatest depth is no more than k
+unfoldable pub alternativeIn : ℕ → List ℕ → ℕ → List Alternative → ℕ
+unfolding newest
+alternativeIn none ranks k alts = newest (λ es. leb (depthIn none ranks es) k) alts
 
 -- the link, for any sequence that it is about, and the number that the entry at its position names
 pub record Chosen (none : ℕ) (ahead behind ranks part : List ℕ) (at k : ℕ) (r : Choice) : Type 0 where
@@ -57,8 +62,8 @@ module _ (none : ℕ) (ahead behind ranks part places : List ℕ) where
 module _ (none : ℕ) (ranks part places : List ℕ) where
   -- the one link of a question that asks for no touch
   unfoldable pub untouchedIn : ℕ → Link
-  unfolding alternativeFrom
-  untouchedIn c = untouchedLink c (alternativeFrom (depthIn none ranks) (pred (getD ranks c none)) 0 (alternativesAt part places c))
+  unfolding alternativeIn
+  untouchedIn c = untouchedLink c (alternativeIn none ranks (pred (getD ranks c none)) (alternativesAt part places c))
 
   -- its words in an area, where there is one to write
   abbrev pub untouchedWords : ℕ → ℕ → List ℕ → List ℕ

@@ -1,8 +1,8 @@
-// The choice of a link: "the lowest alternative, then the lowest position, that keeps it fewest".
-use image::word::KIND_ALTERNATIVE;
+// The choice of a link: "Among equally good choices a link takes the highest alternative, then the lowest position."
 use image::word::is_entry;
-use image::word::is_kind;
 use image::word::payload_of;
+use library::walk::alternatives_of;
+use library::walk::opener_before;
 use library::walk::word_at;
 use rank::entry::passes;
 use rank::entry::traits_of;
@@ -13,9 +13,9 @@ ghost use Prim.Native.Nat.{_+_, _≤_, _<_};
 ghost use lib.ListN.{length, drop};
 ghost use Rattle.image.specs.Word.{mostWords};
 ghost use Rattle.library.specs.Library.{entriesFrom, alternativesFrom};
-ghost use Rattle.rank.specs.Walk.{tailFrom, alternativeFrom};
-ghost use Rattle.rank.specs.Tables.{passIn, depthIn, Rankable, RanksReadable};
-ghost use Rattle.link.specs.Choice.{Chosen};
+ghost use Rattle.rank.specs.Walk.{tailFrom};
+ghost use Rattle.rank.specs.Tables.{passIn, Rankable, RanksReadable};
+ghost use Rattle.link.specs.Choice.{alternativeIn, Chosen};
 
 // An alternative, the position of an entry there, and the number that the entry names.
 pub struct Choice {
@@ -51,7 +51,7 @@ fn tail_from(none: u32, behind: &[u32], part: &[u32], at: usize) -> usize
     }
 }
 
-// The first alternative, then the first position, that comes to no more than `k`, among the alternatives that stand from index `at` on.
+// The last alternative, then its first position, that comes to no more than `k`, among the alternatives that stand from index `at` on.
 pub fn chosen_link(
     none: u32,
     ahead: &[u32],
@@ -64,61 +64,58 @@ pub fn chosen_link(
     requires { ⌜ RanksReadable none (now ahead) (now behind) (now ranks) (now part) × (at ≤ length (now part)) × (length (now part) ≤ mostWords) ⌝ }
     ensures { λ r. ⌜ Chosen none (now (ahead .entry)) (now (behind .entry)) (now (ranks .entry)) (now (part .entry)) at k r ⌝ }
 {
-    let mut alternative = 0;
-    let mut i = at;
+    let all = alternatives_of(part, at);
+    let mut alternative = all.count;
+    let mut opener = all.end;
     'found: loop {
-        let w = word_at(part, i);
-        i += 1;
-        if is_kind(KIND_ALTERNATIVE, w) {
-            let start = i;
-            let tail = tail_from(none, behind, part, start);
-            let mut ok = true;
-            loop {
-                let e = word_at(part, i);
-                if !is_entry(e) {
-                    break;
-                }
-                let t = traits_of(none, ahead, behind, ranks, e);
-                let next = i + 1;
-                if ok & (tail <= next) & (t.rank <= k) {
-                    break 'found Choice {
-                        alternative: alternative,
-                        position: (i - start) as u32,
-                        entry: payload_of(e),
-                    };
-                }
-                ok = ok & t.ahead;
-                i = next;
-            }
-            alternative += 1;
-        } else if !is_entry(w) {
+        if alternative == 0 {
             break 'found Choice {
-                alternative: alternative,
+                alternative: all.count,
                 position: 0,
                 entry: 0,
             };
         }
+        alternative -= 1;
+        opener = opener_before(part, opener);
+        let start = opener + 1;
+        let tail = tail_from(none, behind, part, start);
+        let mut ok = true;
+        let mut i = start;
+        loop {
+            let e = word_at(part, i);
+            if !is_entry(e) {
+                break;
+            }
+            let t = traits_of(none, ahead, behind, ranks, e);
+            let next = i + 1;
+            if ok & (tail <= next) & (t.rank <= k) {
+                break 'found Choice {
+                    alternative: alternative,
+                    position: (i - start) as u32,
+                    entry: payload_of(e),
+                };
+            }
+            ok = ok & t.ahead;
+            i = next;
+        }
     }
 }
 
-// The first alternative whose greatest depth is no more than `k`, among those that stand from index `at` on.
+// The last alternative whose greatest depth is no more than `k`, among those that stand from index `at` on.
 pub fn chosen_alternative(none: u32, ranks: &[u32], part: &[u32], at: usize, k: u32) -> u32
     requires { ⌜ Rankable none (now ranks) (now part) × (at ≤ length (now part)) × (length (now part) ≤ mostWords) ⌝ }
-    ensures { λ r. ⌜ (r ≡ alternativeFrom (depthIn none (now (ranks .entry))) k 0 (alternativesFrom (drop at (now (part .entry))))) × (r ≤ mostWords) ⌝ }
+    ensures { λ r. ⌜ (r ≡ alternativeIn none (now (ranks .entry)) k (alternativesFrom (drop at (now (part .entry))))) × (r ≤ mostWords) ⌝ }
 {
-    let mut alternative = 0;
-    let mut i = at;
+    let all = alternatives_of(part, at);
+    let mut alternative = all.count;
+    let mut opener = all.end;
     'found: loop {
-        let w = word_at(part, i);
-        i += 1;
-        if is_kind(KIND_ALTERNATIVE, w) {
-            let found = greatest_depth(none, ranks, part, i);
-            if found.value <= k {
-                break 'found alternative;
-            }
-            alternative += 1;
-            i = found.next;
-        } else if !is_entry(w) {
+        if alternative == 0 {
+            break 'found all.count;
+        }
+        alternative -= 1;
+        opener = opener_before(part, opener);
+        if greatest_depth(none, ranks, part, opener + 1).value <= k {
             break 'found alternative;
         }
     }

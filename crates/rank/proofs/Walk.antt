@@ -1,8 +1,8 @@
 -- The forms that a loop follows give what the definitions say: ranks lowered by one walk over a sequence's alternatives, an alternative
 -- read from left to right, and the choice of a link by nested scans.
--- It has: `lowered-from`, `alternative-from`, `depth-from`, `fewest-from`, `position-from`, `link-from` and `tail-from`, one for each form.
+-- It has: `lowered-from`, `depth-from`, `fewest-from`, `position-from`, `link-newest` and `tail-from`, one for each form.
 use Prim.Native.Nat.{ℕ, zero, suc, _+_, _≤_, _<_, min, max}
-use mathlib.Core.Path.{_≡_, refl, sym, _∙_, ap, ap₂}
+use mathlib.Core.Path.{_≡_, refl, sym, _∙_, ap, ap₂, fun-ext}
 use mathlib.Core.Logic.{⊎-elim}
 use mathlib.Core.Bool.{Bool, true, false, cond, _&&_, true≢false}
 use mathlib.Core.List.{List, [], _∷_}
@@ -16,8 +16,8 @@ use Rattle.general.proofs.Bools.{and-parts, both-ways}
 use Rattle.general.specs.Scan.{every, leastBelow, greatest, firstIndex}
 use Rattle.chains.specs.Stands.{entryAt}
 use Rattle.chains.specs.Ranks.{Ranks, Look, lowered, entryRank, depthLook, candidate, linkLook}
-use Rattle.chains.specs.Answer.{chosenAlternative, chosenPosition}
-use Rattle.rank.specs.Walk.{loweredFrom, alternativeFrom, depthFrom, fewestFrom, positionFrom, linkFrom, tailFrom}
+use Rattle.chains.specs.Answer.{newest, chosenAlternative, chosenPosition}
+use Rattle.rank.specs.Walk.{loweredFrom, depthFrom, fewestFrom, positionFrom, newestLink, tailFrom}
 use Rattle.chains.specs.Link.{touchLink}
 use Rattle.general.proofs.Scan.{least-start, least-le, least-cases, first-found, first-passes, first-same}
 
@@ -68,20 +68,6 @@ lowered-from S look T c = sym (from-least (look T) (T c) (alternativesOf S c))
 cond-index : (b : Bool) (i n : ℕ) → cond b i (suc i + n) ≡ i + cond b 0 (suc n)
 cond-index true i n = omega arith
 cond-index false i n = omega arith
-
--- the alternative that is chosen, by a scan over the alternatives
-alternative-index : (value : Alternative → ℕ) (k i : ℕ) (alts : List Alternative)
-    → alternativeFrom value k i alts ≡ i + firstIndex (λ j. leb (value (getD alts j [])) k) (length alts)
-unfolding alternativeFrom firstIndex
-alternative-index value k i [] = omega arith
-alternative-index value k i (es ∷ alts) =
-    rw (alternative-index value k (suc i) alts)
-    (cond-index (leb (value es) k) i (firstIndex (λ j. leb (value (getD alts j [])) k) (length alts)))
-
-pub alternative-from : (S : List Sequence) (look : Look) (T : Ranks) (k c : ℕ)
-    → chosenAlternative S look T k c ≡ alternativeFrom (look T) k 0 (alternativesOf S c)
-unfolding chosenAlternative
-alternative-from S look T k c = let h = alternative-index (look T) k 0 (alternativesOf S c) in omega arith
 
 -- the greatest depth from left to right
 depth-max : (rank : Entry → ℕ) (d : ℕ) (es : List Entry) → depthFrom rank d es ≡ max d (greatest rank es)
@@ -242,35 +228,16 @@ module _ (none : ℕ) (test : Item → Bool) (ahead behind : Entry → Bool) (T 
             lt-ltb (firstIndex passes (length es)) (length es) (omega arith))
             (least-cases (value es) none (length es))
 
-    -- the link that is chosen, by nested scans over alternatives and entries
-    abbrev firstLow : List Alternative → ℕ
-    firstLow alts = firstIndex (λ j. leb (linkLook none test ahead behind T (getD alts j [])) k) (length alts)
-
-    abbrev place : Alternative → ℕ
-    place es = chosenPosition (value es) k es
-
-    link-index : (c i : ℕ) (alts : List Alternative)
-        → linkFrom none rank ahead behind c k i alts ≡ touchLink c (i + firstLow alts) (place (getD alts (firstLow alts) []))
-    unfolding linkFrom firstIndex
-    link-index c i [] = unfold chosenPosition in ap₂ (touchLink c) (omega arith) refl
-    link-index c i (es ∷ alts) =
-        rw (position-inside es) (go (leb (linkLook none test ahead behind T es) k) (link-index c (suc i) alts))
-      where
-        go : (b : Bool) → linkFrom none rank ahead behind c k (suc i) alts ≡ touchLink c (suc i + firstLow alts) (place (getD alts (firstLow alts) []))
-            → cond b (touchLink c i (positionFrom none rank ahead behind k true 0 es)) (linkFrom none rank ahead behind c k (suc i) alts)
-            ≡ touchLink c (i + cond b 0 (suc (firstLow alts))) (place (getD (es ∷ alts) (cond b 0 (suc (firstLow alts))) []))
-        go true rest = ap₂ (touchLink c) (omega arith) (sym (position-from es))
-        go false rest = rest ∙ ap₂ (touchLink c) (omega arith) refl
-
--- the link of sequence c that is chosen by ranks
-pub link-from : (S : List Sequence) (none : ℕ) (test : Item → Bool) (ahead behind : Entry → Bool) (T : Ranks) (k : ℕ) → k < none → (c : ℕ)
-    → touchLink c (chosenAlternative S (linkLook none test ahead behind) T k c)
-    (chosenPosition (candidate none test ahead behind T (alternativeOf S c (chosenAlternative S (linkLook none test ahead behind) T k c))) k
-    (alternativeOf S c (chosenAlternative S (linkLook none test ahead behind) T k c)))
-    ≡ linkFrom none (entryRank none test T) ahead behind c k 0 (alternativesOf S c)
-unfolding chosenAlternative
-link-from S none test ahead behind T k low c =
-    ap₂ (touchLink c) (omega arith) refl ∙ sym (link-index none test ahead behind T k low c 0 (alternativesOf S c))
+    -- the link of sequence c that is chosen by ranks
+    pub link-newest : (S : List Sequence) (c : ℕ)
+        → touchLink c (chosenAlternative S (linkLook none test ahead behind) T k c)
+        (chosenPosition (value (alternativeOf S c (chosenAlternative S (linkLook none test ahead behind) T k c))) k
+        (alternativeOf S c (chosenAlternative S (linkLook none test ahead behind) T k c)))
+        ≡ newestLink none rank ahead behind c k (alternativesOf S c)
+    unfolding chosenAlternative newestLink
+    link-newest S c =
+        ap₂ (λ (fits : Alternative → Bool) (place : Alternative → ℕ). touchLink c (newest fits (alternativesOf S c)) (place (alternativeOf S c (newest fits (alternativesOf S c)))))
+        (fun-ext (λ es. sym (position-inside es))) (fun-ext position-from)
 
 -- The entries from an index on pass exactly from the index on that one walk gives.
 tail-all : (test : Entry → Bool) (i start : ℕ) (es : List Entry) → every test es ≡ true → tailFrom test i start es ≡ start

@@ -1,24 +1,19 @@
--- Ranks and choices in the form that a loop follows: what the alternatives or entries from here on make of what is known so far.
+-- Ranks and choices in the form that a loop follows: what the alternatives or entries from here on make of what is known so far, and the
+-- link of the newest alternative that has one.
 use Prim.Native.Nat.{ℕ, suc, min, max}
 use mathlib.Core.Bool.{Bool, true, cond, _&&_}
 use mathlib.Core.List.{List, [], _∷_}
-use lib.ListN.{length}
+use lib.ListN.{length, getD}
 use lib.Dec.{leb, ltb}
 use Rattle.library.specs.Library.{Alternative, Entry}
 use Rattle.general.specs.Scan.{every}
 use Rattle.chains.specs.Link.{Link, touchLink}
+use Rattle.chains.specs.Answer.{newest}
 
 -- the rank r of a sequence, lowered by the alternatives from here on
 unfoldable pub loweredFrom : (Alternative → ℕ) → ℕ → List Alternative → ℕ
 loweredFrom value r [] = r
 loweredFrom value r (es ∷ alts) = loweredFrom value (min r (suc (value es))) alts
-
--- the first alternative from here on, of which the first is i, that comes to no more than k; otherwise the number of alternatives
-unfoldable pub alternativeFrom : (Alternative → ℕ) → ℕ → ℕ → List Alternative → ℕ
-alternativeFrom value k i [] = i
-alternativeFrom value k i (es ∷ alts) =
-    let later : ℕ = alternativeFrom value k (suc i) alts in
-    cond (leb (value es) k) i later
 
 -- the greatest depth d so far, and of the entries from here on
 unfoldable pub depthFrom : (Entry → ℕ) → ℕ → List Entry → ℕ
@@ -42,14 +37,13 @@ module _ (none : ℕ) (rank : Entry → ℕ) (ahead behind : Entry → Bool) whe
       let later : ℕ = positionFrom k (ok && ahead e) (suc i) es in
       cond ((ok && every behind es) && leb (rank e) k) i later
 
-  -- the link of sequence c, from alternative i on: the first alternative that has such a position, and its first one
-  unfoldable pub linkFrom : ℕ → ℕ → ℕ → List Alternative → Link
-  unfolding positionFrom
-  linkFrom c k i [] = touchLink c i 0
-  linkFrom c k i (es ∷ alts) =
-      let p : ℕ = positionFrom k true 0 es in
-      let later : Link = linkFrom c k (suc i) alts in
-      cond (ltb p (length es)) (touchLink c i p) later
+  -- the link of sequence c: the newest alternative that has such a position, and its first one
+  unfoldable pub newestLink : ℕ → ℕ → List Alternative → Link
+  unfolding newest positionFrom
+  newestLink c k alts =
+      let position : Alternative → ℕ = positionFrom k true 0 in
+      let i : ℕ = newest (λ es. ltb (position es) (length es)) alts in
+      touchLink c i (position (getD alts i []))
 
 -- the first index from which on all entries pass, where the entries so far are i and `start` is the index for those
 unfoldable pub tailFrom : (Entry → Bool) → ℕ → ℕ → List Entry → ℕ

@@ -1,95 +1,77 @@
--- `link::link::chosen_alternative` meets its contract: the alternatives that are left give the one that all of them give.
+-- `link::link::chosen_alternative` meets its contract: the newest of the alternatives before the opener is the newest of all.
 -- Assumes nothing.
 use borrow.Author.Needs.{needs}
-use borrow.Author.Tests.{not-true, not-false}
+use borrow.Author.Tests.{le-leb, lt-leb}
 use native.Mathlib.Omega.{arith}
-use mathlib.Core.Path.{_≡_}
-use mathlib.Core.Bool.{true, false}
-use Prim.Native.Nat.{_-_}
-use lib.ListN.{length, getD}
-use Rattle.image.specs.Word.{isKind, isEntry}
-use Rattle.library.proofs.Walking.{tested, walking-opener-inside, walking-entry-inside}
+use mathlib.Core.Path.{refl, _∙_}
+use Prim.Native.Nat.{ℕ}
+use lib.Dec.{leb}
+use Rattle.library.specs.Library.{Alternative}
 use Rattle.rank.specs.Tables.{depthIn}
-use Rattle.link.proofs.Choices.{Picking, picking-start, picking-skip, picking-turn, picking-found, picking-out}
+use Rattle.link.specs.Choice.{alternativeIn}
+use Rattle.library.proofs.Walking.{tested}
+use Rattle.library.proofs.Before.{before-few}
+use Rattle.link.proofs.Choices.{Seeking, seeking-start, last-within, seeking-turn, seeking-found, seeking-out}
 use Rattle.link.proofs.link.chosen_alternative.Statement.{statement}
 use Rattle.link.proofs.link.chosen_alternative.Tie as tie
 
 abbrev Inv-found : tie.InvT-found
-Inv-found none ranks part at k alternative₀ i₀ alternative i = Picking (depthIn none ranks) part k at alternative i
+Inv-found none ranks part at k all alternative₀ opener₀ alternative opener = Seeking (λ (es : Alternative). leb (depthIn none ranks es) k) part at alternative opener
 
 abbrev μ-found : tie.MeasureT-found
-μ-found none ranks part at k alternative₀ i₀ alternative i = length part - i
+μ-found none ranks part at k all alternative₀ opener₀ alternative opener = alternative
 
--- an alternative is opened there, or not
-opener : (c : tie.Then1 Inv-found μ-found)
-    → isKind 7 (getD (c .before .before .before .before .before .before .args .part .now) (c .before .before .before .found .i) 0) ≡ true
-opener c = tested (isKind 7) (c .before .before .word-at .ensures) (c .before .is-kind .ensures) (c .if1 .taken)
-
-other : (c : tie.Else1 Inv-found μ-found)
-    → isKind 7 (getD (c .before .before .before .before .before .before .args .part .now) (c .before .before .before .found .i) 0) ≡ false
-other c = tested (isKind 7) (c .before .before .word-at .ensures) (c .before .is-kind .ensures) (c .if1 .left)
+alternatives-of-requires : tie.Need-alternatives-of-requires Inv-found μ-found
+alternatives-of-requires c κs = search needs
 
 found-holds : tie.Need-found-holds Inv-found μ-found
-found-holds c = picking-start _ _ _ _ (c .before .before .pre .1)
+found-holds c = seeking-start _ _ _ _ (c .alternatives-of .ensures)
 
-word-at-requires : tie.Need-word-at-requires Inv-found μ-found
-word-at-requires c κs = search needs
+sub-alternative : tie.Need-sub-alternative Inv-found μ-found
+sub-alternative c = omega (arith, c .if1 .left)
 
-add-i : tie.Need-add-i Inv-found μ-found
-add-i c = let at-loop = c .before in omega (arith, at-loop .found .inv .walk .within, at-loop .before .before .before .pre .2)
+opener-before-requires : tie.Need-opener-before-requires Inv-found μ-found
+opener-before-requires c κs = c .before .found .inv .before .within
 
-is-kind-requires : tie.Need-is-kind-requires Inv-found μ-found
-is-kind-requires c κs = search needs
+add-greatest-depth : tie.Need-add-greatest-depth Inv-found μ-found
+add-greatest-depth c =
+    let test = c .before in
+    omega (arith, last-within _ _ _ _ _ (test .before .found .inv) (omega (arith, test .if1 .left)) _ (c .opener-before .ensures), test .before .before .before .before .before .pre .2)
 
 greatest-depth-requires : tie.Need-greatest-depth-requires Inv-found μ-found
 greatest-depth-requires c κs =
-    let at-loop = c .before .before .before in
-    (at-loop .before .before .before .pre .0, omega (arith, walking-opener-inside (at-loop .found .inv .walk) (opener c)))
-
-add-alternative : tie.Need-add-alternative Inv-found μ-found
-add-alternative c =
-    let at-loop = c .before .before .before .before .before .before in
-    omega (arith, at-loop .found .inv .low, at-loop .found .inv .walk .within, at-loop .before .before .before .pre .2)
+    let test = c .before in
+    (test .before .before .before .before .before .pre .0, last-within _ _ _ _ _ (test .before .found .inv) (omega (arith, test .if1 .left)) _ (c .opener-before .ensures))
 
 found-less : tie.Need-found-less Inv-found μ-found
-found-less c =
-    let read = c .before .before in
-    omega (arith, read .greatest-depth .ensures .next, walking-opener-inside (read .before .before .before .before .found .inv .walk) (opener (read .before)))
+found-less c = omega (arith, c .before .before .before .before .if1 .left)
 
 found-again : tie.Need-found-again Inv-found μ-found
 found-again c =
-    let read = c .before .before in
-    picking-turn _ _ _ _ _ _ (read .before .before .before .before .found .inv) (opener (read .before)) _ (read .greatest-depth .ensures) (c .if2 .left)
-
-is-entry-requires : tie.Need-is-entry-requires Inv-found μ-found
-is-entry-requires c κs = search needs
-
-found-less-2 : tie.Need-found-less-2 Inv-found μ-found
-found-less-2 c =
-    let word = c .before .before .before .before in
-    omega (arith, walking-entry-inside (word .before .found .inv .walk) (tested isEntry (word .word-at .ensures) (c .before .is-entry .ensures) (not-false _ (c .if3 .left))))
-
-found-again-2 : tie.Need-found-again-2 Inv-found μ-found
-found-again-2 c =
-    let word = c .before .before .before .before in
-    picking-skip _ _ _ _ _ _ (word .before .found .inv) (other (c .before .before))
-    (tested isEntry (word .word-at .ensures) (c .before .is-entry .ensures) (not-false _ (c .if3 .left)))
+    let last = c .before .before .before in
+    let test = last .before in
+    let read = c .before .before .greatest-depth in
+    seeking-turn _ _ _ _ _ (test .before .found .inv) (omega (arith, test .if1 .left)) _ (last .opener-before .ensures)
+    (tested (λ (n : ℕ). leb n (test .before .before .before .before .before .args .k)) (read .ensures .value) refl (lt-leb _ _ (c .if2 .left)))
 
 returns : tie.Need-returns Inv-found μ-found
+unfolding alternativeIn
 returns c =
-    let read = c .before .before in
-    let at-loop = read .before .before .before .before in
-    let here = at-loop .found .inv in (
-      picking-found _ _ _ _ _ _ here (opener (read .before)) _ (read .greatest-depth .ensures) (c .if2 .taken),
-      omega (arith, here .low, here .walk .within, at-loop .before .before .before .pre .2),
-    )
+    let span = c .before .before .alternatives-of .ensures in
+    let asked = c .before .before .before .before .before .pre in
+    (span .all ∙ seeking-out _ _ _ _ _ (c .before .found .inv) (c .if1 .taken), omega (arith, before-few _ _ _ _ (span .before), asked .2))
 
 returns-2 : tie.Need-returns-2 Inv-found μ-found
+unfolding alternativeIn
 returns-2 c =
-    let word = c .before .before .before .before in
-    let here = word .before .found .inv in (
-      picking-out _ _ _ _ _ _ here (other (c .before .before)) (tested isEntry (word .word-at .ensures) (c .before .is-entry .ensures) (not-true _ (c .if3 .taken))),
-      omega (arith, here .low, here .walk .within, word .before .before .before .before .pre .2),
+    let last = c .before .before .before in
+    let test = last .before in
+    let here = test .before .found .inv in
+    let read = c .before .before .greatest-depth in
+    let asked = test .before .before .before .before .before .pre in (
+      seeking-found _ _ _ _ _ here (omega (arith, test .if1 .left)) _ (last .opener-before .ensures)
+          (tested (λ (n : ℕ). leb n (test .before .before .before .before .before .args .k)) (read .ensures .value) refl (le-leb _ _ (c .if2 .taken))),
+      omega (arith, before-few _ _ _ _ (here .before), asked .2),
     )
 
 pub chosen-alternative-spec : {M : Type 1} → statement M
@@ -98,16 +80,13 @@ chosen-alternative-spec =
     (tie.spec
     Inv-found
     μ-found
+    alternatives-of-requires
     found-holds
-    word-at-requires
-    add-i
-    is-kind-requires
+    sub-alternative
+    opener-before-requires
+    add-greatest-depth
     greatest-depth-requires
-    add-alternative
     found-less
     found-again
-    is-entry-requires
-    found-less-2
-    found-again-2
     returns
     returns-2)

@@ -1,97 +1,104 @@
--- `link::link::chosen_link` meets its contract: the alternatives and entries that are left give the link that all of them give.
+-- `link::link::chosen_link` meets its contract: the newest of the alternatives before the opener is the newest of all, and the entries that are
+-- left give the position that all of them give.
 -- Assumes nothing.
 use borrow.Author.Needs.{needs}
 use borrow.Author.Tests.{not-true, not-false}
 use native.Mathlib.Omega.{arith}
 use mathlib.Core.Path.{_≡_, sym}
-use mathlib.Core.Bool.{true, false}
-use Prim.Native.Nat.{_-_}
+use mathlib.Core.Bool.{true}
+use Prim.Native.Nat.{_+_, _-_, _≤_}
 use lib.ListN.{length, getD}
-use Rattle.image.specs.Word.{isKind, isEntry}
-use Rattle.library.proofs.Walking.{tested, folding-inside, walking-opener-inside, walking-entry-inside}
-use Rattle.link.proofs.Choices.{Placing, placing-start, placing-turn}
-use Rattle.link.proofs.Choices.{Choosing, choosing-start, choosing-skip, choosing-turn, choosing-out, choosing-found}
+use Rattle.image.specs.Word.{isEntry}
+use Rattle.library.proofs.Walking.{tested, folding-inside}
+use Rattle.link.proofs.Choices.{seeking-start, last-within, Placing, placing-start, placing-turn}
+use Rattle.link.proofs.Choices.{Choosing, choosing-turn, chosen-found, chosen-out}
 use Rattle.link.proofs.link.chosen_link.Statement.{statement}
 use Rattle.link.proofs.link.chosen_link.Tie as tie
 
 abbrev Inv-loop : tie.InvT-loop
-Inv-loop none ahead behind ranks part at k alternative i₀ w start tail ok₀ i ok = Placing none ahead behind ranks part k start ok i
+Inv-loop none ahead behind ranks part at k all alternative opener start tail ok₀ i₀ ok i = Placing none ahead behind ranks part k start ok i
 
 abbrev μ-loop : tie.MeasureT-loop
-μ-loop none ahead behind ranks part at k alternative i₀ w start tail ok₀ i ok = length part - i
+μ-loop none ahead behind ranks part at k all alternative opener start tail ok₀ i₀ ok i = length part - i
 
 abbrev Inv-found : tie.InvT-found
-Inv-found none ahead behind ranks part at k alternative₀ i₀ alternative i = Choosing none ahead behind ranks part k at alternative i
+Inv-found none ahead behind ranks part at k all alternative₀ opener₀ alternative opener = Choosing none ahead behind ranks part k at alternative opener
 
 abbrev μ-found : tie.MeasureT-found
-μ-found none ahead behind ranks part at k alternative₀ i₀ alternative i = length part - i
+μ-found none ahead behind ranks part at k all alternative₀ opener₀ alternative opener = alternative
 
--- an alternative is opened there, or not
-opener : (c : tie.Then1 Inv-loop μ-loop Inv-found μ-found)
-    → isKind 7 (getD (c .before .before .before .before .before .before .before .before .args .part .now) (c .before .before .before .found .i) 0) ≡ true
-opener c = tested (isKind 7) (c .before .before .word-at .ensures) (c .before .is-kind .ensures) (c .if1 .taken)
-
-other : (c : tie.Else1 Inv-loop μ-loop Inv-found μ-found)
-    → isKind 7 (getD (c .before .before .before .before .before .before .before .before .args .part .now) (c .before .before .before .found .i) 0) ≡ false
-other c = tested (isKind 7) (c .before .before .word-at .ensures) (c .before .is-kind .ensures) (c .if1 .left)
+-- the entries of an alternative stand within the words
+inside : (c : tie.After-opener-before Inv-loop μ-loop Inv-found μ-found)
+    → c .opener-before .result + 1 ≤ length (c .before .before .before .before .before .before .before .before .args .part .now)
+inside c = let test = c .before in last-within _ _ _ _ _ (test .before .found .inv) (omega (arith, test .if1 .left)) _ (c .opener-before .ensures)
 
 -- an entry of the alternative stands there
 entry : (c : tie.Else2 Inv-loop μ-loop Inv-found μ-found)
     → isEntry (getD (c .before .before .before .before .before .before .before .before .before .before .before .before .before .args .part .now) (c .before .before .before .loop .i) 0) ≡ true
-entry c = tested isEntry (c .before .before .word-at2 .ensures) (c .before .is-entry .ensures) (not-false _ (c .if2 .left))
+entry c = tested isEntry (c .before .before .word-at .ensures) (c .before .is-entry .ensures) (not-false _ (c .if2 .left))
+
+alternatives-of-requires : tie.Need-alternatives-of-requires Inv-loop μ-loop Inv-found μ-found
+alternatives-of-requires c κs = search needs
 
 found-holds : tie.Need-found-holds Inv-loop μ-loop Inv-found μ-found
-found-holds c = choosing-start _ _ _ _ _ _ _ (c .before .before .before .before .pre .1)
+found-holds c = seeking-start _ _ _ _ (c .alternatives-of .ensures)
+
+sub-alternative : tie.Need-sub-alternative Inv-loop μ-loop Inv-found μ-found
+sub-alternative c = search needs
+
+opener-before-requires : tie.Need-opener-before-requires Inv-loop μ-loop Inv-found μ-found
+opener-before-requires c κs = c .before .found .inv .before .within
+
+add-start : tie.Need-add-start Inv-loop μ-loop Inv-found μ-found
+add-start c =
+    let asked = c .before .before .before .before .before .before .before .before .pre in
+    omega (arith, inside c, asked .2)
+
+tail-from-requires : tie.Need-tail-from-requires Inv-loop μ-loop Inv-found μ-found
+tail-from-requires c κs =
+    let asked = c .before .before .before .before .before .before .before .before .pre in
+    (asked .0 .by-behind, inside c)
+
+loop-holds : tie.Need-loop-holds Inv-loop μ-loop Inv-found μ-found
+loop-holds c = placing-start _ _ _ _ _ _ _ (inside (c .before))
 
 word-at-requires : tie.Need-word-at-requires Inv-loop μ-loop Inv-found μ-found
 word-at-requires c κs = search needs
 
-add-i : tie.Need-add-i Inv-loop μ-loop Inv-found μ-found
-add-i c = let at-found = c .before in omega (arith, at-found .found .inv .walk 0 .within, at-found .before .before .before .before .before .pre .2)
-
-is-kind-requires : tie.Need-is-kind-requires Inv-loop μ-loop Inv-found μ-found
-is-kind-requires c κs = search needs
-
-tail-from-requires : tie.Need-tail-from-requires Inv-loop μ-loop Inv-found μ-found
-tail-from-requires c κs =
-    let at-found = c .before .before .before in
-    (at-found .before .before .before .before .before .pre .0 .by-behind, omega (arith, walking-opener-inside (at-found .found .inv .walk 0) (opener c)))
-
-loop-holds : tie.Need-loop-holds Inv-loop μ-loop Inv-found μ-found
-loop-holds c =
-    let test = c .before in
-    placing-start _ _ _ _ _ _ _ (omega (arith, walking-opener-inside (test .before .before .before .found .inv .walk 0) (opener test)))
-
-word-at-requires-2 : tie.Need-word-at-requires-2 Inv-loop μ-loop Inv-found μ-found
-word-at-requires-2 c κs = search needs
-
 is-entry-requires : tie.Need-is-entry-requires Inv-loop μ-loop Inv-found μ-found
 is-entry-requires c κs = search needs
+
+found-less : tie.Need-found-less Inv-loop μ-loop Inv-found μ-found
+found-less c = omega (arith, c .before .before .before .before .before .before .if1 .left)
+
+found-again : tie.Need-found-again Inv-loop μ-loop Inv-found μ-found
+found-again c =
+    let own = c .before .before in
+    let last = own .before .before .before in
+    let test = last .before in
+    choosing-turn _ _ _ _ _ _ _ _ _ (test .before .found .inv) (omega (arith, test .if1 .left)) _ (last .opener-before .ensures) _ _ (own .before .loop .inv)
+    (tested isEntry (own .word-at .ensures) (c .before .is-entry .ensures) (not-true _ (c .if2 .taken)))
 
 traits-of-requires : tie.Need-traits-of-requires Inv-loop μ-loop Inv-found μ-found
 traits-of-requires c κs =
     let at-loop = c .before .before .before in
     let i = at-loop .loop .i in
     let readable = at-loop .before .before .before .before .before .before .before .before .before .before .pre .0 in
-    let inside = folding-inside (at-loop .loop .inv) (entry c) in
-    rw (c .before .before .word-at2 .ensures) (readable .by-ahead .within i inside, readable .by-behind .within i inside, readable .by-ranks .within i inside, entry c)
+    let within = folding-inside (at-loop .loop .inv) (entry c) in
+    rw (c .before .before .word-at .ensures) (readable .by-ahead .within i within, readable .by-behind .within i within, readable .by-ranks .within i within, entry c)
 
 add-next : tie.Need-add-next Inv-loop μ-loop Inv-found μ-found
 add-next c =
     let at-loop = c .before .before .before .before in
-    let at-found = at-loop .before .before .before .before .before in
-    omega (arith, at-loop .loop .inv .within, at-found .before .before .before .before .before .pre .2)
+    omega (arith, at-loop .loop .inv .within, at-loop .before .before .before .before .before .before .before .before .before .before .pre .2)
 
-sub-t23 : tie.Need-sub-t23 Inv-loop μ-loop Inv-found μ-found
-sub-t23 c =
-    let at-loop = c .before .before .before .before .before .before in
-    omega (arith, at-loop .loop .inv .low)
+sub-t24 : tie.Need-sub-t24 Inv-loop μ-loop Inv-found μ-found
+sub-t24 c = omega (arith, c .before .before .before .before .before .before .loop .inv .low)
 
-cast-t24 : tie.Need-cast-t24 Inv-loop μ-loop Inv-found μ-found
-cast-t24 c =
+cast-t25 : tie.Need-cast-t25 Inv-loop μ-loop Inv-found μ-found
+cast-t25 c =
     let at-loop = c .before .before .before .before .before .before in
-    let at-found = at-loop .before .before .before .before .before in
-    omega (arith, at-loop .loop .inv .within, at-found .before .before .before .before .before .pre .2)
+    omega (arith, at-loop .loop .inv .within, at-loop .before .before .before .before .before .before .before .before .before .before .pre .2)
 
 payload-of-requires : tie.Need-payload-of-requires Inv-loop μ-loop Inv-found μ-found
 payload-of-requires c κs = search needs
@@ -105,55 +112,21 @@ loop-again c =
     let own = traits .before .before .before in
     let tail = own .before .before in
     placing-turn _ _ _ _ _ _ _ _ (tail .tail-from .ensures) _ _ (own .before .loop .inv) (entry (traits .before)) (traits .traits-of .result)
-    (rw (sym (own .word-at2 .ensures)) (traits .traits-of .ensures)) (c .before .if3 .left)
-
-add-alternative : tie.Need-add-alternative Inv-loop μ-loop Inv-found μ-found
-add-alternative c =
-    let at-found = c .before .before .before .before .before .before .before .before in
-    omega (arith, at-found .found .inv .low, at-found .found .inv .walk 0 .within, at-found .before .before .before .before .before .pre .2)
-
-found-less : tie.Need-found-less Inv-loop μ-loop Inv-found μ-found
-found-less c =
-    let at-loop = c .before .before .before in
-    let test = at-loop .before .before in
-    omega (arith, at-loop .loop .inv .low, walking-opener-inside (test .before .before .before .found .inv .walk 0) (opener test))
-
-found-again : tie.Need-found-again Inv-loop μ-loop Inv-found μ-found
-found-again c =
-    let own = c .before .before in
-    let test = own .before .before .before in
-    choosing-turn _ _ _ _ _ _ _ _ _ (test .before .before .before .found .inv) (opener test) _ _ (own .before .loop .inv)
-    (tested isEntry (own .word-at2 .ensures) (c .before .is-entry .ensures) (not-true _ (c .if2 .taken)))
-
-is-entry-requires-2 : tie.Need-is-entry-requires-2 Inv-loop μ-loop Inv-found μ-found
-is-entry-requires-2 c κs = search needs
-
-found-less-2 : tie.Need-found-less-2 Inv-loop μ-loop Inv-found μ-found
-found-less-2 c =
-    let word = c .before .before .before .before in
-    omega (arith, walking-entry-inside (word .before .found .inv .walk 0) (tested isEntry (word .word-at .ensures) (c .before .is-entry2 .ensures) (not-false _ (c .if4 .left))))
-
-found-again-2 : tie.Need-found-again-2 Inv-loop μ-loop Inv-found μ-found
-found-again-2 c =
-    let word = c .before .before .before .before in
-    choosing-skip _ _ _ _ _ _ _ _ _ (word .before .found .inv) (other (c .before .before))
-    (tested isEntry (word .word-at .ensures) (c .before .is-entry2 .ensures) (not-false _ (c .if4 .left)))
+    (rw (sym (own .word-at .ensures)) (traits .traits-of .ensures)) (c .before .if3 .left)
 
 returns : tie.Need-returns Inv-loop μ-loop Inv-found μ-found
-returns c =
-    let traits = c .before .before .before in
-    let own = traits .before .before .before in
-    let tail = own .before .before in
-    let test = tail .before in
-    rw (c .payload-of .ensures, own .word-at2 .ensures)
-    (choosing-found _ _ _ _ _ _ _ _ _ (test .before .before .before .found .inv) (opener test) _ (tail .tail-from .ensures) _ _ (own .before .loop .inv)
-    (entry (traits .before)) (traits .traits-of .result) (rw (sym (own .word-at2 .ensures)) (traits .traits-of .ensures)) (c .before .if3 .taken))
+returns c = chosen-out _ _ _ _ _ _ _ _ (c .before .before .alternatives-of .ensures) _ _ (c .before .found .inv) (c .if1 .taken)
 
 returns-2 : tie.Need-returns-2 Inv-loop μ-loop Inv-found μ-found
 returns-2 c =
-    let word = c .before .before .before .before in
-    choosing-out _ _ _ _ _ _ _ _ _ (word .before .found .inv) (other (c .before .before))
-    (tested isEntry (word .word-at .ensures) (c .before .is-entry2 .ensures) (not-true _ (c .if4 .taken)))
+    let traits = c .before .before .before in
+    let own = traits .before .before .before in
+    let tail = own .before .before in
+    let last = tail .before in
+    let test = last .before in
+    rw (c .payload-of .ensures, own .word-at .ensures)
+    (chosen-found _ _ _ _ _ _ _ _ _ (test .before .found .inv) (omega (arith, test .if1 .left)) _ (last .opener-before .ensures) _ (tail .tail-from .ensures) _ _
+    (own .before .loop .inv) (entry (traits .before)) (traits .traits-of .result) (rw (sym (own .word-at .ensures)) (traits .traits-of .ensures)) (c .before .if3 .taken))
 
 pub chosen-link-spec : {M : Type 1} → statement M
 chosen-link-spec =
@@ -163,26 +136,23 @@ chosen-link-spec =
     μ-loop
     Inv-found
     μ-found
+    alternatives-of-requires
     found-holds
-    word-at-requires
-    add-i
-    is-kind-requires
+    sub-alternative
+    opener-before-requires
+    add-start
     tail-from-requires
     loop-holds
-    word-at-requires-2
+    word-at-requires
     is-entry-requires
+    found-less
+    found-again
     traits-of-requires
     add-next
-    sub-t23
-    cast-t24
+    sub-t24
+    cast-t25
     payload-of-requires
     loop-less
     loop-again
-    add-alternative
-    found-less
-    found-again
-    is-entry-requires-2
-    found-less-2
-    found-again-2
     returns
     returns-2)

@@ -1,0 +1,91 @@
+-- `library::walk::alternatives_of` meets its contract: as many alternatives open before the word as were counted.
+-- Assumes nothing.
+use borrow.Author.Needs.{needs}
+use borrow.Author.Tests.{not-true, not-false}
+use native.Mathlib.Omega.{arith}
+use mathlib.Core.Path.{_≡_, ap₂}
+use mathlib.Core.Bool.{Bool, true, false, _||_}
+use mir.Val.{boolByte}
+use Prim.Native.Nat.{ℕ, _+_, _-_}
+use lib.ListN.{length, getD}
+use Rattle.image.specs.Word.{isKind, isEntry}
+use Rattle.library.specs.Walk.{Before}
+use Rattle.library.proofs.Walking.{tested}
+use Rattle.library.proofs.Before.{before-start, before-turn, before-out, before-few}
+use Rattle.library.proofs.walk.alternatives_of.Statement.{statement}
+use Rattle.library.proofs.walk.alternatives_of.Tie as tie
+
+abbrev Inv-loop : tie.InvT-loop
+Inv-loop part at count₀ i₀ count i = Before part at count i
+
+abbrev μ-loop : tie.MeasureT-loop
+μ-loop part at count₀ i₀ count i = length part - i
+
+-- the word that was read opens an alternative or is an entry, or not
+word : (w v : ℕ) (opens names b : Bool) → w ≡ v → opens ≡ isKind 7 w → names ≡ isEntry w → opens || names ≡ b → isKind 7 v || isEntry v ≡ b
+word w v opens names b at o n e = tested (λ x. isKind 7 x || isEntry x) at (ap₂ _||_ o n) e
+
+of-sequence : (c : tie.Else1 Inv-loop μ-loop)
+    → isKind 7 (getD (c .before .before .before .before .before .before .args .part .now) (c .before .before .before .before .loop .i) 0)
+    || isEntry (getD (c .before .before .before .before .before .before .args .part .now) (c .before .before .before .before .loop .i) 0) ≡ true
+of-sequence c = word _ _ _ _ true (c .before .before .before .word-at .ensures) (c .before .before .is-kind .ensures) (c .before .is-entry .ensures) (not-false _ (c .if1 .left))
+
+-- the loop goes on with one word more
+next : (c : tie.Else1 Inv-loop μ-loop)
+    → Before (c .before .before .before .before .before .before .args .part .now) (c .before .before .before .before .before .before .args .at)
+    (c .before .before .before .before .loop .count + boolByte (c .before .before .is-kind .result)) (c .before .before .before .before .loop .i + 1)
+next c =
+    rw (c .before .before .is-kind .ensures, c .before .before .before .word-at .ensures)
+    (before-turn _ _ _ _ (c .before .before .before .before .loop .inv) (of-sequence c))
+
+loop-holds : tie.Need-loop-holds Inv-loop μ-loop
+loop-holds c = before-start _ _ (c .before .pre .0)
+
+word-at-requires : tie.Need-word-at-requires Inv-loop μ-loop
+word-at-requires c κs = search needs
+
+is-kind-requires : tie.Need-is-kind-requires Inv-loop μ-loop
+is-kind-requires c κs = search needs
+
+is-entry-requires : tie.Need-is-entry-requires Inv-loop μ-loop
+is-entry-requires c κs = search needs
+
+returns : tie.Need-returns Inv-loop μ-loop
+returns c =
+    let at-loop = c .before .before .before .before in
+    record {
+      all = before-out _ _ _ _ (at-loop .loop .inv) (word _ _ _ _ false (c .before .before .before .word-at .ensures) (c .before .before .is-kind .ensures) (c .before .is-entry .ensures) (not-true _ (c .if1 .taken)));
+      before = at-loop .loop .inv;
+    }
+
+cast-count : tie.Need-cast-count Inv-loop μ-loop
+cast-count c = search needs
+
+add-count : tie.Need-add-count Inv-loop μ-loop
+add-count c = let at-loop = c .before .before .before .before in omega (arith, before-few _ _ _ _ (next c), at-loop .before .before .pre .1)
+
+add-i : tie.Need-add-i Inv-loop μ-loop
+add-i c = let at-loop = c .before .before .before .before in omega (arith, next c .within, at-loop .before .before .pre .1)
+
+loop-less : tie.Need-loop-less Inv-loop μ-loop
+loop-less c = omega (arith, next c .within)
+
+loop-again : tie.Need-loop-again Inv-loop μ-loop
+loop-again c = next c
+
+pub alternatives-of-spec : {M : Type 1} → statement M
+alternatives-of-spec =
+    tie.close
+    (tie.spec
+    Inv-loop
+    μ-loop
+    loop-holds
+    word-at-requires
+    is-kind-requires
+    is-entry-requires
+    returns
+    cast-count
+    add-count
+    add-i
+    loop-less
+    loop-again)
