@@ -113,4 +113,4 @@ need-fails =
 pub starred-hold : All Holds starred
 unfolding checked scan total opened lastOf setsOf inColumn bit libraryOf has possible cards card chained chainWords printed wordsOf cardLines linesFrom cardLine spaced numeral numeralIn refusalLine
 starred-hold =
-    (refl, (refl, (refl, (refl, (refl, (refl, (refl, (refl, (both-steps, (second-fails, (second-executes, (refl, (refl, (refl, (refl, (refl, (refl, (refl, (clear-executes, (refl, (need-fails, (refl, tt))))))))))))))))))))))
+    (refl, (refl, (refl, (refl, (refl, (refl, (refl, (refl, (both-steps, (second-fails, (second-executes, (refl, (refl, (refl, (refl, (refl, (refl, (refl, (clear-executes, (refl, (need-fails, (refl, (refl, (refl, (refl, tt)))))))))))))))))))))))))

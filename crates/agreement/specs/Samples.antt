@@ -1,5 +1,5 @@
--- The starred samples of document 01, as the requests of document 02 have them: one table of calls, with the answers that the paper gives, and one fact, that each answer follows from
--- the definitions (`starred-hold`). Where the paper says of a sample that a run executes, or that none does, the states are those of `standing`.
+-- The starred samples of document 01, as the requests of document 02 have them, and a row for what a request adds: one table of calls, with
+-- the answers that the papers give, and one fact, that each answer follows from the definitions (`starred-hold`). Where the paper says of a sample that a run executes, or that none does, the states are those of `standing`.
 use Prim.Native.Nat.{ℕ, _+_, _*_, _/_, _%_, _^_}
 use Prim.Native.Char.{code}
 use Prim.Native.String.{String}
@@ -44,6 +44,20 @@ clearThenNeed =
 -- one alternative with one step that sets and clears f
 abbrev pub pulse : List ℕ
 pulse = 0x10040081 ∷ 0x50000000 ∷ 0x30000000 ∷ 0x40000000 ∷ 0x60000000 ∷ 0x70000000 ∷ 0x80000000 ∷ 0xf0040083 ∷ []
+
+-- steps 0 to 3 set fact 0, clear it, need it and do neither. Sequence 0 is <set, set>, <other, set>, <sequence 1>, <need>; sequence 1 is <set>
+abbrev pub fewestFirst : List ℕ
+fewestFirst =
+    0x10080201 ∷ 0x50000000 ∷ 0x30000000 ∷ 0x50000001 ∷ 0x40000000 ∷ 0x50000002 ∷ 0x20000000 ∷ 0x50000003 ∷ 0x60000000 ∷ 0x70000000
+    ∷ 0x80000000 ∷ 0x80000000 ∷ 0x70000000 ∷ 0x80000003 ∷ 0x80000000 ∷ 0x70000000 ∷ 0x90000001 ∷ 0x70000000 ∷ 0x80000002 ∷ 0x60000001
+    ∷ 0x70000000 ∷ 0x80000000 ∷ 0xf0080214 ∷ []
+
+-- the same steps. Sequence 0 is <1, 1>, <1, other, 1, 1>; sequence 1 is <set>, <>, <set>
+abbrev pub lowestOfCalls : List ℕ
+lowestOfCalls =
+    0x10080201 ∷ 0x50000000 ∷ 0x30000000 ∷ 0x50000001 ∷ 0x40000000 ∷ 0x50000002 ∷ 0x20000000 ∷ 0x50000003 ∷ 0x60000000 ∷ 0x70000000
+    ∷ 0x90000001 ∷ 0x90000001 ∷ 0x70000000 ∷ 0x90000001 ∷ 0x80000003 ∷ 0x90000001 ∷ 0x90000001 ∷ 0x60000001 ∷ 0x70000000 ∷ 0x80000000
+    ∷ 0x70000000 ∷ 0x70000000 ∷ 0x80000000 ∷ 0xf0080212 ∷ []
 
 -- ---- the table
 
@@ -140,4 +154,11 @@ starred =
     ∷ fails clearThenNeed 0 (step 0 ∷ step 1 ∷ []) (0 ∷ [])
     -- "One step sets and clears f": document 02, request 1, "The sample with that step becomes a refused one", "at the clear word"
     ∷ refuses pulse 13 3
+    -- document 02, request 2: "Among equally good choices a link takes the highest alternative": alternatives 0 and 1 have one link, 2 has two
+    -- ("Fewest links .. still come first."); of 0 and 1 the higher, though its set stands at position 1 and that of 0 at 0
+    ∷ chains fewestFirst 0 0 0 spare 1 (0xa0000100 ∷ 0xb0000001 ∷ 7 ∷ 7 ∷ 7 ∷ [])
+    -- "then the lowest position": both have two links; the calls of alternative 1 stand at 0, 2 and 3, and each will do. Then <set> at the end
+    ∷ chains lowestOfCalls 0 0 0 spare 2 (0xa0000100 ∷ 0xb0000000 ∷ 0xa0000201 ∷ 0xb0000000 ∷ 7 ∷ [])
+    -- "This holds for kind 12 links too.": both alternatives of L's sequence 0 leave fact 1 untouched, <step 0> and <>, each at depth 1
+    ∷ chains L 0 2 1 spare 1 (0xa0000100 ∷ 0xc0000000 ∷ 7 ∷ 7 ∷ 7 ∷ [])
     ∷ []

@@ -25,7 +25,7 @@ pub record Asked (image : List ℕ) (c q f : ℕ) : Type 0 where
   pub question : q ≤ 5
   pub fact : f < head .facts
 
--- the chain that answers the question: fewest links, then the lowest choices (`Shows`)
+-- the chain that answers the question: fewest links or least depth, then the newest choices (`Shows`)
 abbrev pub Answers : List ℕ → ℕ → ℕ → ℕ → Chain → Type 0
 Answers image c q f ls = Shows (libraryOf image) (questionOf q) c f ls
 

@@ -5,7 +5,7 @@ use Prim.Native.Nat.{ℕ, zero, suc, _+_, _-_, _≤_, _<_}
 use native.Mathlib.Nat.{eq-or-lt-of-le}
 use native.Mathlib.Numerals.{add-one}
 use native.Mathlib.Omega.{arith}
-use mathlib.Core.Path.{_≡_, refl, sym, ap, _∙_}
+use mathlib.Core.Path.{_≡_, refl, ap, _∙_}
 use mathlib.Core.Logic.{_⊎_, inl, inr, ⊎-elim}
 use mathlib.Core.Bool.{Bool, true, false, cond, _||_}
 use mathlib.Core.List.{List, [], _∷_}
@@ -99,13 +99,12 @@ module _ (part : List ℕ) where
         ap (λ (m : ℕ). drop m (from at)) count ∙ rw whole at (left-over (i - at) (λ j l u. here .words j l (omega arith)))
 
     -- what stands at the last opener before an index: n alternatives open before it, and the words after it are the entries of alternative n
-    pub record Back (n i s : ℕ) : Type 0 where
+    pub record Back (n s : ℕ) : Type 0 where
       pub before : Before part at n s
-      pub lower : s < i
-      pub opener : opens s ≡ true
+      pub inside : s < length part
       pub entries : getD (from at) n [] ≡ entriesFrom (drop (s + 1) part)
 
-    pub before-back : (n i : ℕ) → Before part at (suc n) i → Back n i (openerBefore part i)
+    pub before-back : (n i : ℕ) → Before part at (suc n) i → Back n (openerBefore part i)
     unfolding lastIndex
     before-back n zero here =
         let first : at ≡ 0 = omega (arith, here .low) in
@@ -113,22 +112,25 @@ module _ (part : List ℕ) where
     before-back n (suc i) here = go (eq-or-lt-of-le (here .low)) (before-back n i)
       where
         Found : Bool → Type 0
-        Found b = Back n (suc i) (cond b i (openerBefore part i))
+        Found b = Back n (cond b i (openerBefore part i))
 
         -- one word less
         back : (m : ℕ) → at ≤ i → m + length (from i) ≡ length (from at) → Before part at m i
         back m l count = record { low = l; within = omega (arith, here .within); words = λ j low high. here .words j low (omega arith); count = count }
 
-        word : at ≤ i → (Before part at (suc n) i → Back n i (openerBefore part i)) → Found (opens i)
+        word : at ≤ i → (Before part at (suc n) i → Back n (openerBefore part i)) → Found (opens i)
         word l rest =
             ⊎-elim
             (λ (o, more). let b = back n l (omega (arith, here .count, ap length more)) in
-            rw o (record { before = b; lower = omega arith; opener = o; entries = rw (add-one i) (drop-next (from at) n _ _ (before-left n i b ∙ more) .1 []) }))
-            (λ (o, same). let r = rest (back (suc n) l (omega (arith, here .count, ap length same))) in
-            rw o (record { before = r .before; lower = omega (arith, r .lower); opener = r .opener; entries = r .entries }))
+            rw o (record {
+              before = b;
+              inside = omega (arith, here .within);
+              entries = rw (add-one i) (drop-next (from at) n _ _ (before-left n i b ∙ more) .1 []);
+            }))
+            (λ (o, same). rw o (rest (back (suc n) l (omega (arith, here .count, ap length same)))))
             (word-cases i (here .words i l (omega arith)))
 
-        go : (at ≡ suc i) ⊎ (at < suc i) → (Before part at (suc n) i → Back n i (openerBefore part i)) → Found (opens i)
+        go : (at ≡ suc i) ⊎ (at < suc i) → (Before part at (suc n) i → Back n (openerBefore part i)) → Found (opens i)
         go (inl same) rest = absurd (omega (arith, here .count, ap (λ (j : ℕ). length (from j)) same))
         go (inr lt) rest = word (omega arith) rest
 

@@ -42,18 +42,18 @@ pub fn alternatives_of(part: &[u32], at: usize) -> Span
     ensures { λ r. ⌜ Spans (now (part .entry)) at r ⌝ }
 {
     let mut count = 0;
-    let mut i = at;
+    let mut end = at;
     loop {
-        let w = word_at(part, i);
+        let w = word_at(part, end);
         let opens = is_kind(KIND_ALTERNATIVE, w);
         if !(opens | is_entry(w)) {
             return Span {
                 count: count,
-                end: i,
+                end: end,
             };
         }
         count += opens as u32;
-        i += 1;
+        end += 1;
     }
 }
 

@@ -54,7 +54,7 @@ module _ (test : Alternative → Bool) (part : List ℕ) (at : ℕ) where
 
   -- the last alternative before the index, where one is left: o is the index of its opener
   module _ (n i : ℕ) (here : Seeking n i) (some : 0 < n) (o : ℕ) (opener : o ≡ openerBefore part i) where
-    pub last-before : Back part at (n - 1) i o
+    last-before : Back part at (n - 1) o
     last-before =
         let one : n ≡ suc (n - 1) = omega arith in
         rw opener (before-back part at (n - 1) i (subst (λ (m : ℕ). Before part at m i) one (here .before)))
@@ -73,7 +73,7 @@ module _ (test : Alternative → Bool) (part : List ℕ) (at : ℕ) where
 
     -- its entries stand within the words
     pub last-within : o + 1 ≤ length part
-    last-within = omega (arith, last-before .lower, here .before .within)
+    last-within = omega (arith, last-before .inside)
 
 -- ---- the index from which on all entries pass
 
@@ -162,13 +162,13 @@ module _ (none : ℕ) (ahead behind ranks part : List ℕ) (k : ℕ) where
           folding-turn here e
           (ap₂ (λ (x y : ℕ). (x, y)) (position-here false taken ∙ ap (λ (n : ℕ). position (ok && t .ahead) n later) index) count)
 
-      pub placing-found : Taken ≡ true → (position true 0 entries ≡ i - s) × (i - s < length entries)
+      placing-found : Taken ≡ true → (position true 0 entries ≡ i - s) × (i - s < length entries)
       placing-found taken =
           let count : i - s + length (entry ∷ later) ≡ length entries = ap (λ (p : ℕ × ℕ). p .1) (opened .same) in
           (sym (ap (λ (p : ℕ × ℕ). p .0) (opened .same)) ∙ position-here true taken, omega arith)
 
     -- no position is chosen
-    pub placing-out : (ok : Bool) (i : ℕ) → Placing ok i → isEntry (getD part i 0) ≡ false → position true 0 entries ≡ length entries
+    placing-out : (ok : Bool) (i : ℕ) → Placing ok i → isEntry (getD part i 0) ≡ false → position true 0 entries ≡ length entries
     unfolding positionFrom
     placing-out ok i here e =
         let h = folding-out here e in

@@ -7,7 +7,7 @@ use mathlib.Core.Path.{_≡_, ap₂}
 use mathlib.Core.Bool.{Bool, true, false, _||_}
 use mir.Val.{boolByte}
 use Prim.Native.Nat.{ℕ, _+_, _-_}
-use lib.ListN.{length, getD}
+use lib.ListN.{length}
 use Rattle.image.specs.Word.{isKind, isEntry}
 use Rattle.library.specs.Walk.{Before}
 use Rattle.library.proofs.Walking.{tested}
@@ -16,27 +16,24 @@ use Rattle.library.proofs.walk.alternatives_of.Statement.{statement}
 use Rattle.library.proofs.walk.alternatives_of.Tie as tie
 
 abbrev Inv-loop : tie.InvT-loop
-Inv-loop part at count₀ i₀ count i = Before part at count i
+Inv-loop part at count₀ end₀ count end = Before part at count end
 
 abbrev μ-loop : tie.MeasureT-loop
-μ-loop part at count₀ i₀ count i = length part - i
+μ-loop part at count₀ end₀ count end = length part - end
 
 -- the word that was read opens an alternative or is an entry, or not
 word : (w v : ℕ) (opens names b : Bool) → w ≡ v → opens ≡ isKind 7 w → names ≡ isEntry w → opens || names ≡ b → isKind 7 v || isEntry v ≡ b
 word w v opens names b at o n e = tested (λ x. isKind 7 x || isEntry x) at (ap₂ _||_ o n) e
 
-of-sequence : (c : tie.Else1 Inv-loop μ-loop)
-    → isKind 7 (getD (c .before .before .before .before .before .before .args .part .now) (c .before .before .before .before .loop .i) 0)
-    || isEntry (getD (c .before .before .before .before .before .before .args .part .now) (c .before .before .before .before .loop .i) 0) ≡ true
-of-sequence c = word _ _ _ _ true (c .before .before .before .word-at .ensures) (c .before .before .is-kind .ensures) (c .before .is-entry .ensures) (not-false _ (c .if1 .left))
-
 -- the loop goes on with one word more
 next : (c : tie.Else1 Inv-loop μ-loop)
     → Before (c .before .before .before .before .before .before .args .part .now) (c .before .before .before .before .before .before .args .at)
-    (c .before .before .before .before .loop .count + boolByte (c .before .before .is-kind .result)) (c .before .before .before .before .loop .i + 1)
+    (c .before .before .before .before .loop .count + boolByte (c .before .before .is-kind .result)) (c .before .before .before .before .loop .end + 1)
 next c =
-    rw (c .before .before .is-kind .ensures, c .before .before .before .word-at .ensures)
-    (before-turn _ _ _ _ (c .before .before .before .before .loop .inv) (of-sequence c))
+    let read = c .before .before .before in
+    rw (c .before .before .is-kind .ensures, read .word-at .ensures)
+    (before-turn _ _ _ _ (read .before .loop .inv)
+    (word _ _ _ _ true (read .word-at .ensures) (c .before .before .is-kind .ensures) (c .before .is-entry .ensures) (not-false _ (c .if1 .left))))
 
 loop-holds : tie.Need-loop-holds Inv-loop μ-loop
 loop-holds c = before-start _ _ (c .before .pre .0)
@@ -52,10 +49,13 @@ is-entry-requires c κs = search needs
 
 returns : tie.Need-returns Inv-loop μ-loop
 returns c =
-    let at-loop = c .before .before .before .before in
+    let read = c .before .before .before in
+    let here = read .before .loop .inv in
     record {
-      all = before-out _ _ _ _ (at-loop .loop .inv) (word _ _ _ _ false (c .before .before .before .word-at .ensures) (c .before .before .is-kind .ensures) (c .before .is-entry .ensures) (not-true _ (c .if1 .taken)));
-      before = at-loop .loop .inv;
+      all =
+          before-out _ _ _ _ here
+          (word _ _ _ _ false (read .word-at .ensures) (c .before .before .is-kind .ensures) (c .before .is-entry .ensures) (not-true _ (c .if1 .taken)));
+      before = here;
     }
 
 cast-count : tie.Need-cast-count Inv-loop μ-loop
@@ -64,8 +64,8 @@ cast-count c = search needs
 add-count : tie.Need-add-count Inv-loop μ-loop
 add-count c = let at-loop = c .before .before .before .before in omega (arith, before-few _ _ _ _ (next c), at-loop .before .before .pre .1)
 
-add-i : tie.Need-add-i Inv-loop μ-loop
-add-i c = let at-loop = c .before .before .before .before in omega (arith, next c .within, at-loop .before .before .pre .1)
+add-end : tie.Need-add-end Inv-loop μ-loop
+add-end c = let at-loop = c .before .before .before .before in omega (arith, next c .within, at-loop .before .before .pre .1)
 
 loop-less : tie.Need-loop-less Inv-loop μ-loop
 loop-less c = omega (arith, next c .within)
@@ -86,6 +86,6 @@ alternatives-of-spec =
     returns
     cast-count
     add-count
-    add-i
+    add-end
     loop-less
     loop-again)
