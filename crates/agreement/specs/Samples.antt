@@ -1,5 +1,6 @@
 -- The starred samples of document 01, as the requests of document 02 have them, and a row for what a request adds: one table of calls, with
--- the answers that the papers give, and one fact, that each answer follows from the definitions (`starred-hold`). Where the paper says of a sample that a run executes, or that none does, the states are those of `standing`.
+-- the answers that the papers give, and one fact, that each answer follows from the definitions (`starred-hold`). Where the paper says of a
+-- sample that a run executes, or that none does, the states are those of `standing`.
 use Prim.Native.Nat.{ℕ, _+_, _*_, _/_, _%_, _^_}
 use Prim.Native.Char.{code}
 use Prim.Native.String.{String}

@@ -1,4 +1,4 @@
--- What is promised of a chain that answers a question (document 01, "Chains", with item 2 of document 02; demand 3).
+-- What is promised of a chain that answers a question (document 01, "Chains", as request 2 of document 02 has it; demand 3).
 use Prim.Native.Nat.{ℕ, _≤_, _<_}
 use mathlib.Core.Path.{_≡_}
 use mathlib.Core.Logic.{_⊎_, _≢_}

@@ -2,7 +2,7 @@
 -- alternative end, the alternatives of a sequence by its place, and those of them that stand before an index.
 use Prim.Native.Nat.{ℕ, _+_, _≤_, _<_}
 use mathlib.Core.Path.{_≡_}
-use mathlib.Core.Bool.{true, cond, _||_}
+use mathlib.Core.Bool.{true, false, cond, _||_}
 use mathlib.Core.List.{List}
 use lib.ListN.{length, getD, drop}
 use Rattle.general.specs.Scan.{lastIndex}
@@ -30,10 +30,12 @@ pub record Before (part : List ℕ) (at n i : ℕ) : Type 0 where
   pub words : (j : ℕ) → at ≤ j → j < i → isKind 7 (getD part j 0) || isEntry (getD part j 0) ≡ true
   pub count : n + length (alternativesFrom (drop i part)) ≡ length (alternativesFrom (drop at part))
 
--- how many alternatives stand from index `at` on, and an index before which all of them open
+-- how many alternatives stand from index `at` on, and the index after their words: all open before it, and at it stands the next sequence or
+-- no word
 pub record Spans (part : List ℕ) (at : ℕ) (r : Span) : Type 0 where
   pub all : r .count ≡ length (alternativesFrom (drop at part))
   pub before : Before part at (r .count) (r .end)
+  pub over : isKind 7 (getD part (r .end) 0) || isEntry (getD part (r .end) 0) ≡ false
 
 -- the index of the last opener of an alternative before index i, 0 where there is none
 abbrev pub openerBefore : List ℕ → ℕ → ℕ

@@ -51,12 +51,9 @@ returns : tie.Need-returns Inv-loop μ-loop
 returns c =
     let read = c .before .before .before in
     let here = read .before .loop .inv in
-    record {
-      all =
-          before-out _ _ _ _ here
-          (word _ _ _ _ false (read .word-at .ensures) (c .before .before .is-kind .ensures) (c .before .is-entry .ensures) (not-true _ (c .if1 .taken)));
-      before = here;
-    }
+    let over =
+    word _ _ _ _ false (read .word-at .ensures) (c .before .before .is-kind .ensures) (c .before .is-entry .ensures) (not-true _ (c .if1 .taken)) in
+    record { all = before-out _ _ _ _ here over; before = here; over = over }
 
 cast-count : tie.Need-cast-count Inv-loop μ-loop
 cast-count c = search needs
