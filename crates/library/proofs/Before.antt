@@ -1,5 +1,5 @@
 -- The alternatives of a sequence that open before an index: counted from the first on, and gone through from the last to the first.
--- It has: `before-` start, turn, out and few, for a walk from left to right; `before-back`, from an index to the last opener before it.
+-- It has: `before-` start, turn, out and few, and `last-turn`, for a walk from left to right; `before-back`, from an index to the last opener before it.
 -- Assumes nothing.
 use Prim.Native.Nat.{ℕ, zero, suc, _+_, _-_, _≤_, _<_}
 use native.Mathlib.Nat.{eq-or-lt-of-le}
@@ -15,7 +15,7 @@ use Rattle.general.specs.Scan.{lastIndex}
 use Rattle.general.proofs.Bools.{passes-or-not, or-cases, nor-left, nor-right}
 use Rattle.image.specs.Word.{isKind, isEntry}
 use Rattle.library.specs.Library.{Alternative, entriesFrom, alternativesFrom}
-use Rattle.library.specs.Walk.{Before, openerBefore}
+use Rattle.library.specs.Walk.{Before, openerBefore, LastBefore}
 use Rattle.library.proofs.Decode.{alternatives-short}
 use Rattle.library.proofs.Walking.{opener-inside, entry-inside, alternatives-at, drop-next}
 
@@ -67,6 +67,16 @@ module _ (part : List ℕ) where
       pub before-out : opens i || names i ≡ false → n ≡ length (from at)
       before-out e =
           omega (arith, here .count, ap length (alternatives-at part i false false (nor-left (opens i) (names i) e) (nor-right (opens i) (names i) e)))
+
+    -- the same with the index of the last opener
+    pub last-turn : (n last i : ℕ) → LastBefore part at n last i → opens i || names i ≡ true
+        → LastBefore part at (n + boolByte (opens i)) (cond (opens i) i last) (i + 1)
+    unfolding lastIndex
+    last-turn n last i here e = record { before = before-turn n i (here .before) e; opener = rw (add-one i) (go (opens i)) }
+      where
+        go : (b : Bool) → 0 < n + boolByte b → cond b i last ≡ cond b i (openerBefore part i)
+        go true some = refl
+        go false some = here .opener (omega arith)
 
     -- they are no more than the words
     pub before-few : (n i : ℕ) → Before part at n i → n ≤ length part

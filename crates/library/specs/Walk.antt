@@ -2,13 +2,13 @@
 -- alternative end, the alternatives of a sequence by its place, and those of them that stand before an index.
 use Prim.Native.Nat.{ℕ, _+_, _≤_, _<_}
 use mathlib.Core.Path.{_≡_}
-use mathlib.Core.Bool.{true, false, cond, _||_}
+use mathlib.Core.Bool.{true, cond, _||_}
 use mathlib.Core.List.{List}
 use lib.ListN.{length, getD, drop}
 use Rattle.general.specs.Scan.{lastIndex}
 use Rattle.image.specs.Word.{payload, isKind, isEntry}
 use Rattle.library.specs.Library.{Entry, step, item, call, Alternative, entriesFrom, alternativesFrom}
-use Rattle.library.specs.declared.walk.Span.{Span}
+use Rattle.library.specs.declared.walk.Alternatives.{Alternatives}
 
 -- the entry that a word names, if it is an entry
 abbrev pub entryOf : ℕ → Entry
@@ -30,13 +30,17 @@ pub record Before (part : List ℕ) (at n i : ℕ) : Type 0 where
   pub words : (j : ℕ) → at ≤ j → j < i → isKind 7 (getD part j 0) || isEntry (getD part j 0) ≡ true
   pub count : n + length (alternativesFrom (drop i part)) ≡ length (alternativesFrom (drop at part))
 
--- how many alternatives stand from index `at` on, and the index after their words: all open before it, and at it stands the next sequence or
--- no word
-pub record Spans (part : List ℕ) (at : ℕ) (r : Span) : Type 0 where
-  pub all : r .count ≡ length (alternativesFrom (drop at part))
-  pub before : Before part at (r .count) (r .end)
-  pub over : isKind 7 (getD part (r .end) 0) || isEntry (getD part (r .end) 0) ≡ false
-
 -- the index of the last opener of an alternative before index i, 0 where there is none
 abbrev pub openerBefore : List ℕ → ℕ → ℕ
 openerBefore part i = lastIndex (λ j. isKind 7 (getD part j 0)) 0 i
+
+-- the same, and `last` is the index of the last one's opener, where there is one
+pub record LastBefore (part : List ℕ) (at n last i : ℕ) : Type 0 where
+  pub before : Before part at n i
+  pub opener : 0 < n → last ≡ openerBefore part i
+
+-- how many alternatives stand from index `at` on, all of which open before an index `end`, and the index of the last one's opener
+pub record AllBefore (part : List ℕ) (at : ℕ) (r : Alternatives) : Type 0 where
+  pub all : r .count ≡ length (alternativesFrom (drop at part))
+  pub end : ℕ
+  pub last : LastBefore part at (r .count) (r .last) end

@@ -3,15 +3,16 @@ use image::word::KIND_ALTERNATIVE;
 use image::word::is_entry;
 use image::word::is_kind;
 ghost use mathlib.Core.Path.{_≡_};
+ghost use mathlib.Core.Bool.{cond};
 ghost use Prim.Native.Nat.{_≤_};
 ghost use lib.ListN.{length, getD};
 ghost use Rattle.image.specs.Word.{mostWords};
-ghost use Rattle.library.specs.Walk.{entriesEnd, Spans, openerBefore};
+ghost use Rattle.library.specs.Walk.{entriesEnd, AllBefore, openerBefore};
 
-// How many alternatives a sequence has, and the index after its words.
-pub struct Span {
+// How many alternatives a sequence has, and the index of the last one's opener.
+pub struct Alternatives {
     pub count: u32,
-    pub end: usize,
+    pub last: usize,
 }
 
 // The word at an index; past the words 0, which is of no kind.
@@ -36,23 +37,35 @@ pub fn entries_end(part: &[u32], at: usize) -> usize
     i
 }
 
+// The index where the test holds, otherwise the other one.
+pub fn selected_index(test: bool, x: usize, other: usize) -> usize
+    ensures { λ r. ⌜ r ≡ cond test x other ⌝ }
+{
+    if test {
+        return x;
+    }
+    other
+}
+
 // The alternatives that stand from index `at` on.
-pub fn alternatives_of(part: &[u32], at: usize) -> Span
+pub fn alternatives_of(part: &[u32], at: usize) -> Alternatives
     requires { ⌜ (at ≤ length (now part)) × (length (now part) ≤ mostWords) ⌝ }
-    ensures { λ r. ⌜ Spans (now (part .entry)) at r ⌝ }
+    ensures { λ r. ⌜ AllBefore (now (part .entry)) at r ⌝ }
 {
     let mut count = 0;
+    let mut last = at;
     let mut end = at;
     loop {
         let w = word_at(part, end);
         let opens = is_kind(KIND_ALTERNATIVE, w);
         if !(opens | is_entry(w)) {
-            return Span {
+            return Alternatives {
                 count: count,
-                end: end,
+                last: last,
             };
         }
         count += opens as u32;
+        last = selected_index(opens, end, last);
         end += 1;
     }
 }

@@ -14,7 +14,7 @@ use lib.Dec.{leb, ltb}
 use borrow.Author.Tests.{lt-ltb, le-ltb}
 use Rattle.image.specs.Word.{payload, isKind, isEntry}
 use Rattle.library.specs.Library.{Entry, step, item, call, Alternative, entriesFrom, alternativesFrom}
-use Rattle.library.specs.Walk.{entryOf, Before, Spans, openerBefore}
+use Rattle.library.specs.Walk.{entryOf, Before, openerBefore, LastBefore, AllBefore}
 use Rattle.general.specs.Scan.{every, lastIndex}
 use Rattle.chains.specs.Link.{touchLink}
 use Rattle.chains.specs.Stands.{entryAt}
@@ -22,7 +22,7 @@ use Rattle.chains.specs.Answer.{newest}
 use Rattle.rank.specs.Walk.{tailFrom, positionFrom, newestLink}
 use Rattle.rank.specs.Tables.{entryNumber, rankIn, passIn, traitsIn}
 use Rattle.link.specs.Choice.{linkIn, Chosen}
-use Rattle.library.specs.declared.walk.Span.{Span}
+use Rattle.library.specs.declared.walk.Alternatives.{Alternatives}
 use Rattle.rank.specs.declared.entry.Traits.{Traits}
 use Rattle.library.proofs.Walking.{Folding, folding-start, folding-inside, folding-turn, folding-read, folding-entry, folding-out}
 use Rattle.library.proofs.Before.{before-few, Back, before-back}
@@ -38,42 +38,43 @@ module _ (test : Alternative → Bool) (part : List ℕ) (at : ℕ) where
   abbrev below : ℕ → ℕ
   below n = lastIndex (λ i. test (getD alternatives i [])) (length alternatives) n
 
-  -- at the head: n alternatives open before the index, and the newest of all is the newest of these
-  pub record Seeking (n i : ℕ) : Type 0 where
-    pub before : Before part at n i
+  -- at the head: the newest of all is the newest of the first n, of which the last opens at o
+  pub record Seeking (n o : ℕ) : Type 0 where
+    pub index : ℕ
+    pub last : LastBefore part at n o index
     pub same : below n ≡ newest test alternatives
 
-  pub seeking-start : (all : Span) → Spans part at all → Seeking (all .count) (all .end)
+  pub seeking-start : (r : Alternatives) → AllBefore part at r → Seeking (r .count) (r .last)
   unfolding newest
-  seeking-start all spans = record { before = spans .before; same = ap below (spans .all) }
+  seeking-start r counted = record { index = counted .end; last = counted .last; same = ap below (counted .all) }
 
   -- none passes
-  pub seeking-out : (n i : ℕ) → Seeking n i → n ≡ 0 → length alternatives ≡ newest test alternatives
+  pub seeking-out : (n o : ℕ) → Seeking n o → n ≡ 0 → length alternatives ≡ newest test alternatives
   unfolding lastIndex
-  seeking-out n i here over = ap below (sym over) ∙ here .same
+  seeking-out n o here over = ap below (sym over) ∙ here .same
 
-  -- the last alternative before the index, where one is left: o is the index of its opener
-  module _ (n i : ℕ) (here : Seeking n i) (some : 0 < n) (o : ℕ) (opener : o ≡ openerBefore part i) where
-    last-before : Back part at (n - 1) o
-    last-before =
+  -- the last of them, whose entries stand after o
+  module _ (n o : ℕ) (here : Seeking n o) (some : 0 < n) where
+    last-back : Back part at (n - 1) o
+    last-back =
         let one : n ≡ suc (n - 1) = omega arith in
-        rw opener (before-back part at (n - 1) i (subst (λ (m : ℕ). Before part at m i) one (here .before)))
+        rw (here .last .opener some) (before-back part at (n - 1) (here .index) (subst (λ (m : ℕ). Before part at m (here .index)) one (here .last .before)))
 
     by-last : (b : Bool) → test (entriesFrom (drop (o + 1) part)) ≡ b → cond b (n - 1) (below (n - 1)) ≡ newest test alternatives
     unfolding lastIndex
     by-last b e =
         let one : suc (n - 1) ≡ n = omega arith in
-        ap (λ (x : Bool). cond x (n - 1) (below (n - 1))) (sym e ∙ ap test (sym (last-before .entries))) ∙ ap below one ∙ here .same
+        ap (λ (x : Bool). cond x (n - 1) (below (n - 1))) (sym e ∙ ap test (sym (last-back .entries))) ∙ ap below one ∙ here .same
 
-    pub seeking-turn : test (entriesFrom (drop (o + 1) part)) ≡ false → Seeking (n - 1) o
-    seeking-turn e = record { before = last-before .before; same = by-last false e }
+    pub seeking-turn : test (entriesFrom (drop (o + 1) part)) ≡ false → (p : ℕ) → p ≡ openerBefore part o → Seeking (n - 1) p
+    seeking-turn e p opener = record { index = o; last = record { before = last-back .before; opener = λ more. opener }; same = by-last false e }
 
     pub seeking-found : test (entriesFrom (drop (o + 1) part)) ≡ true → n - 1 ≡ newest test alternatives
     seeking-found e = by-last true e
 
     -- its entries stand within the words
     pub last-within : o + 1 ≤ length part
-    last-within = omega (arith, last-before .inside)
+    last-within = omega (arith, last-back .inside)
 
 -- ---- the index from which on all entries pass
 
@@ -189,29 +190,30 @@ module _ (none : ℕ) (ahead behind ranks part : List ℕ) (k : ℕ) where
     all = alternativesFrom (drop at part)
 
     -- no alternative has one
-    pub chosen-out : (span : Span) → Spans part at span → (n i : ℕ) → Choosing n i → n ≡ 0
-        → Chosen none ahead behind ranks part at k (record { alternative = span .count; position = 0; entry = 0 })
+    pub chosen-out : (r : Alternatives) → AllBefore part at r → (n o : ℕ) → Choosing n o → n ≡ 0
+        → Chosen none ahead behind ranks part at k (record { alternative = r .count; position = 0; entry = 0 })
     unfolding linkIn newestLink positionFrom
-    chosen-out span spans n i here over =
-        let past : getD all (span .count) [] ≡ [] = List·getD-eq-default all [] {n = span .count} (omega (arith, spans .all)) in
-        let last = spans .all ∙ seeking-out placed part at n i here over in
+    chosen-out r counted n o here over =
+        let past : getD all (r .count) [] ≡ [] = List·getD-eq-default all [] {n = r .count} (omega (arith, counted .all)) in
+        let last = counted .all ∙ seeking-out placed part at n o here over in
         record {
           link = λ c.
               ap₂ (touchLink c) last
               (sym (ap (position true 0) (sym (ap (λ (n : ℕ). getD all n []) last) ∙ past)));
           entry = ap (λ (es : Alternative). entryNumber (entryAt es 0)) (sym past);
-          alternative-low = before-few part at _ _ (spans .before);
+          alternative-low = before-few part at _ _ (counted .last .before);
           position-low = omega arith;
         }
 
-    -- the last alternative before the index has none, or has one
-    module _ (n i : ℕ) (here : Choosing n i) (some : 0 < n) (o : ℕ) (opener : o ≡ openerBefore part i) where
+    -- the last alternative that is left has none, or has one
+    module _ (n o : ℕ) (here : Choosing n o) (some : 0 < n) where
       abbrev entriesThere : Alternative
       entriesThere = entriesFrom (drop (o + 1) part)
 
-      pub choosing-turn : (ok : Bool) (j : ℕ) → Placing (o + 1) ok j → isEntry (getD part j 0) ≡ false → Choosing (n - 1) o
+      pub choosing-turn : (ok : Bool) (j : ℕ) → Placing (o + 1) ok j → isEntry (getD part j 0) ≡ false → (p : ℕ) → p ≡ openerBefore part o
+          → Choosing (n - 1) p
       choosing-turn ok j placing out =
-          seeking-turn placed part at n i here some o opener
+          seeking-turn placed part at n o here some
           (le-ltb (position true 0 entriesThere) (length entriesThere) (omega (arith, placing-out (o + 1) ok j placing out)))
 
       pub chosen-found : (tail : ℕ) → tail ≡ tailFrom (passIn none behind) (o + 1) (o + 1) entriesThere → (ok : Bool) (j : ℕ) → Placing (o + 1) ok j
@@ -221,8 +223,8 @@ module _ (none : ℕ) (ahead behind ranks part : List ℕ) (k : ℕ) where
       unfolding linkIn newestLink
       chosen-found tail tailed ok j placing e t traits taken =
           let found = placing-found (o + 1) tail tailed ok j placing e t traits taken in
-          let entries = last-before placed part at n i here some o opener .entries in
-          let last = seeking-found placed part at n i here some o opener (lt-ltb (position true 0 entriesThere) (length entriesThere) (omega (arith, found .0, found .1))) in
+          let entries = last-back placed part at n o here some .entries in
+          let last = seeking-found placed part at n o here some (lt-ltb (position true 0 entriesThere) (length entriesThere) (omega (arith, found .0, found .1))) in
           record {
             link = λ c.
                 ap₂ (touchLink c) last
@@ -231,6 +233,6 @@ module _ (none : ℕ) (ahead behind ranks part : List ℕ) (k : ℕ) where
                 sym (entry-number (getD part j 0))
                 ∙ ap entryNumber (sym (folding-entry placing e (item (step 0))))
                 ∙ ap (λ (xs : Alternative). entryNumber (entryAt xs (j - (o + 1)))) (sym entries);
-            alternative-low = omega (arith, before-few part at n i (here .before));
+            alternative-low = omega (arith, before-few part at n _ (here .last .before));
             position-low = omega (arith, folding-inside placing e);
           }

@@ -3,12 +3,12 @@ use image::word::is_entry;
 use image::word::payload_of;
 use library::walk::alternatives_of;
 use library::walk::opener_before;
+use library::walk::selected_index;
 use library::walk::word_at;
 use rank::entry::passes;
 use rank::entry::traits_of;
 use rank::read::greatest_depth;
 ghost use mathlib.Core.Path.{_≡_};
-ghost use mathlib.Core.Bool.{cond};
 ghost use Prim.Native.Nat.{_+_, _≤_, _<_};
 ghost use lib.ListN.{length, drop};
 ghost use Rattle.image.specs.Word.{mostWords};
@@ -22,16 +22,6 @@ pub struct Choice {
     pub alternative: u32,
     pub position: u32,
     pub entry: u32,
-}
-
-// The index where the test holds, otherwise the other one.
-fn selected_index(test: bool, x: usize, other: usize) -> usize
-    ensures { λ r. ⌜ r ≡ cond test x other ⌝ }
-{
-    if test {
-        return x;
-    }
-    other
 }
 
 // The index from which on all entries pass as those behind a position, for the entries that stand from index `at` on.
@@ -66,7 +56,7 @@ pub fn chosen_link(
 {
     let all = alternatives_of(part, at);
     let mut alternative = all.count;
-    let mut opener = all.end;
+    let mut opener = all.last;
     'found: loop {
         if alternative == 0 {
             break 'found Choice {
@@ -76,7 +66,6 @@ pub fn chosen_link(
             };
         }
         alternative -= 1;
-        opener = opener_before(part, opener);
         let start = opener + 1;
         let tail = tail_from(none, behind, part, start);
         let mut ok = true;
@@ -98,6 +87,7 @@ pub fn chosen_link(
             ok = ok & t.ahead;
             i = next;
         }
+        opener = opener_before(part, opener);
     }
 }
 
@@ -108,15 +98,15 @@ pub fn chosen_alternative(none: u32, ranks: &[u32], part: &[u32], at: usize, k: 
 {
     let all = alternatives_of(part, at);
     let mut alternative = all.count;
-    let mut opener = all.end;
+    let mut opener = all.last;
     'found: loop {
         if alternative == 0 {
             break 'found all.count;
         }
         alternative -= 1;
-        opener = opener_before(part, opener);
         if greatest_depth(none, ranks, part, opener + 1).value <= k {
             break 'found alternative;
         }
+        opener = opener_before(part, opener);
     }
 }

@@ -28,13 +28,12 @@ abbrev μ-found : tie.MeasureT-found
 μ-found none ahead behind ranks part at k all alternative₀ opener₀ alternative opener = alternative
 
 -- the entries of an alternative stand within the words
-inside : (c : tie.After-opener-before Inv-loop μ-loop Inv-found μ-found)
-    → c .opener-before .result + 1 ≤ length (c .before .before .before .before .before .before .before .before .args .part .now)
-inside c = let test = c .before in last-within _ _ _ _ _ (test .before .found .inv) (omega (arith, test .if1 .left)) _ (c .opener-before .ensures)
+inside : (c : tie.Else1 Inv-loop μ-loop Inv-found μ-found) → c .before .found .opener + 1 ≤ length (c .before .before .before .before .before .before .before .args .part .now)
+inside c = last-within _ _ _ _ _ (c .before .found .inv) (omega (arith, c .if1 .left))
 
 -- an entry of the alternative stands there
 entry : (c : tie.Else2 Inv-loop μ-loop Inv-found μ-found)
-    → isEntry (getD (c .before .before .before .before .before .before .before .before .before .before .before .before .before .args .part .now) (c .before .before .before .loop .i) 0) ≡ true
+    → isEntry (getD (c .before .before .before .before .before .before .before .before .before .before .before .before .args .part .now) (c .before .before .before .loop .i) 0) ≡ true
 entry c = tested isEntry (c .before .before .word-at .ensures) (c .before .is-entry .ensures) (not-false _ (c .if2 .left))
 
 alternatives-of-requires : tie.Need-alternatives-of-requires Inv-loop μ-loop Inv-found μ-found
@@ -46,18 +45,11 @@ found-holds c = seeking-start _ _ _ _ (c .alternatives-of .ensures)
 sub-alternative : tie.Need-sub-alternative Inv-loop μ-loop Inv-found μ-found
 sub-alternative c = search needs
 
-opener-before-requires : tie.Need-opener-before-requires Inv-loop μ-loop Inv-found μ-found
-opener-before-requires c κs = c .before .found .inv .before .within
-
 add-start : tie.Need-add-start Inv-loop μ-loop Inv-found μ-found
-add-start c =
-    let asked = c .before .before .before .before .before .before .before .before .pre in
-    omega (arith, inside c, asked .2)
+add-start c = omega (arith, inside c, c .before .before .before .before .before .before .before .pre .2)
 
 tail-from-requires : tie.Need-tail-from-requires Inv-loop μ-loop Inv-found μ-found
-tail-from-requires c κs =
-    let asked = c .before .before .before .before .before .before .before .before .pre in
-    (asked .0 .by-behind, inside c)
+tail-from-requires c κs = (c .before .before .before .before .before .before .before .pre .0 .by-behind, inside c)
 
 loop-holds : tie.Need-loop-holds Inv-loop μ-loop Inv-found μ-found
 loop-holds c = placing-start _ _ _ _ _ _ _ (inside (c .before))
@@ -68,29 +60,18 @@ word-at-requires c κs = search needs
 is-entry-requires : tie.Need-is-entry-requires Inv-loop μ-loop Inv-found μ-found
 is-entry-requires c κs = search needs
 
-found-less : tie.Need-found-less Inv-loop μ-loop Inv-found μ-found
-found-less c = omega (arith, c .before .before .before .before .before .before .if1 .left)
-
-found-again : tie.Need-found-again Inv-loop μ-loop Inv-found μ-found
-found-again c =
-    let own = c .before .before in
-    let last = own .before .before .before in
-    let test = last .before in
-    choosing-turn _ _ _ _ _ _ _ _ _ (test .before .found .inv) (omega (arith, test .if1 .left)) _ (last .opener-before .ensures) _ _ (own .before .loop .inv)
-    (tested isEntry (own .word-at .ensures) (c .before .is-entry .ensures) (not-true _ (c .if2 .taken)))
-
 traits-of-requires : tie.Need-traits-of-requires Inv-loop μ-loop Inv-found μ-found
 traits-of-requires c κs =
     let at-loop = c .before .before .before in
     let i = at-loop .loop .i in
-    let readable = at-loop .before .before .before .before .before .before .before .before .before .before .pre .0 in
+    let readable = at-loop .before .before .before .before .before .before .before .before .before .pre .0 in
     let within = folding-inside (at-loop .loop .inv) (entry c) in
     rw (c .before .before .word-at .ensures) (readable .by-ahead .within i within, readable .by-behind .within i within, readable .by-ranks .within i within, entry c)
 
 add-next : tie.Need-add-next Inv-loop μ-loop Inv-found μ-found
 add-next c =
     let at-loop = c .before .before .before .before in
-    omega (arith, at-loop .loop .inv .within, at-loop .before .before .before .before .before .before .before .before .before .before .pre .2)
+    omega (arith, at-loop .loop .inv .within, at-loop .before .before .before .before .before .before .before .before .before .pre .2)
 
 sub-t24 : tie.Need-sub-t24 Inv-loop μ-loop Inv-found μ-found
 sub-t24 c = omega (arith, c .before .before .before .before .before .before .loop .inv .low)
@@ -98,7 +79,7 @@ sub-t24 c = omega (arith, c .before .before .before .before .before .before .loo
 cast-t25 : tie.Need-cast-t25 Inv-loop μ-loop Inv-found μ-found
 cast-t25 c =
     let at-loop = c .before .before .before .before .before .before in
-    omega (arith, at-loop .loop .inv .within, at-loop .before .before .before .before .before .before .before .before .before .before .pre .2)
+    omega (arith, at-loop .loop .inv .within, at-loop .before .before .before .before .before .before .before .before .before .pre .2)
 
 payload-of-requires : tie.Need-payload-of-requires Inv-loop μ-loop Inv-found μ-found
 payload-of-requires c κs = search needs
@@ -114,6 +95,20 @@ loop-again c =
     placing-turn _ _ _ _ _ _ _ _ (tail .tail-from .ensures) _ _ (own .before .loop .inv) (entry (traits .before)) (traits .traits-of .result)
     (rw (sym (own .word-at .ensures)) (traits .traits-of .ensures)) (c .before .if3 .left)
 
+opener-before-requires : tie.Need-opener-before-requires Inv-loop μ-loop Inv-found μ-found
+opener-before-requires c κs = omega (arith, inside (c .before .before .before .before .before))
+
+found-less : tie.Need-found-less Inv-loop μ-loop Inv-found μ-found
+found-less c = omega (arith, c .before .before .before .before .before .before .if1 .left)
+
+found-again : tie.Need-found-again Inv-loop μ-loop Inv-found μ-found
+found-again c =
+    let out = c .before in
+    let own = out .before .before in
+    let test = own .before .before .before in
+    choosing-turn _ _ _ _ _ _ _ _ _ (test .before .found .inv) (omega (arith, test .if1 .left)) _ _ (own .before .loop .inv)
+    (tested isEntry (own .word-at .ensures) (out .before .is-entry .ensures) (not-true _ (out .if2 .taken))) _ (c .opener-before .ensures)
+
 returns : tie.Need-returns Inv-loop μ-loop Inv-found μ-found
 returns c = chosen-out _ _ _ _ _ _ _ _ (c .before .before .alternatives-of .ensures) _ _ (c .before .found .inv) (c .if1 .taken)
 
@@ -122,11 +117,10 @@ returns-2 c =
     let traits = c .before .before .before in
     let own = traits .before .before .before in
     let tail = own .before .before in
-    let last = tail .before in
-    let test = last .before in
+    let test = tail .before in
     rw (c .payload-of .ensures, own .word-at .ensures)
-    (chosen-found _ _ _ _ _ _ _ _ _ (test .before .found .inv) (omega (arith, test .if1 .left)) _ (last .opener-before .ensures) _ (tail .tail-from .ensures) _ _
-    (own .before .loop .inv) (entry (traits .before)) (traits .traits-of .result) (rw (sym (own .word-at .ensures)) (traits .traits-of .ensures)) (c .before .if3 .taken))
+    (chosen-found _ _ _ _ _ _ _ _ _ (test .before .found .inv) (omega (arith, test .if1 .left)) _ (tail .tail-from .ensures) _ _ (own .before .loop .inv)
+    (entry (traits .before)) (traits .traits-of .result) (rw (sym (own .word-at .ensures)) (traits .traits-of .ensures)) (c .before .if3 .taken))
 
 pub chosen-link-spec : {M : Type 1} → statement M
 chosen-link-spec =
@@ -139,14 +133,11 @@ chosen-link-spec =
     alternatives-of-requires
     found-holds
     sub-alternative
-    opener-before-requires
     add-start
     tail-from-requires
     loop-holds
     word-at-requires
     is-entry-requires
-    found-less
-    found-again
     traits-of-requires
     add-next
     sub-t24
@@ -154,5 +145,8 @@ chosen-link-spec =
     payload-of-requires
     loop-less
     loop-again
+    opener-before-requires
+    found-less
+    found-again
     returns
     returns-2)
