@@ -393,30 +393,39 @@ static void sides(void)
     none("<need and set>, 4", 0, 4, 0);
 
     /* past sequence 1, which always clears or needs, nothing is seen; past
-       sequence 2, <clear>, <> or <need>, <>, it is */
+       sequence 2, <clear>, <> or <need>, <>, it is. An alternative that will
+       not do stands on either side of the one that does, here and below. */
     BUILD(HEAD(1, 5, 3), STEPS,
           SEQUENCE(0), ALTERNATIVE, SET, CALL(1), ALTERNATIVE, SET, CALL(2),
+              ALTERNATIVE, SET, CALL(1),
           SEQUENCE(1), ALTERNATIVE, CLEAR,
           SEQUENCE(2), ALTERNATIVE, CLEAR, ALTERNATIVE);
-    SHOWN("<set, clears>, <set, may clear>, 0", 0, 0, 0, CHOICE(0, 1), AT(0));
+    SHOWN("<set, may clear> between <set, clears>, 0", 0, 0, 0, CHOICE(0, 1),
+          AT(0));
     BUILD(HEAD(1, 5, 3), STEPS,
           SEQUENCE(0), ALTERNATIVE, CALL(1), SET, ALTERNATIVE, CALL(2), SET,
+              ALTERNATIVE, CALL(1), SET,
           SEQUENCE(1), ALTERNATIVE, NEED,
           SEQUENCE(2), ALTERNATIVE, NEED, ALTERNATIVE);
-    SHOWN("<needs, set>, <may need, set>, 4", 0, 4, 0, CHOICE(0, 1), AT(1));
+    SHOWN("<may need, set> between <needs, set>, 4", 0, 4, 0, CHOICE(0, 1),
+          AT(1));
 
     /* the other way round an entry must have a run, and no more is asked of it:
        sequence 1 always clears or needs, sequence 2 is endless */
     BUILD(HEAD(1, 5, 3), STEPS,
           SEQUENCE(0), ALTERNATIVE, CALL(2), SET, ALTERNATIVE, CALL(1), SET,
+              ALTERNATIVE, CALL(2), SET,
           SEQUENCE(1), ALTERNATIVE, CLEAR,
           SEQUENCE(2), ALTERNATIVE, CALL(2));
-    SHOWN("<endless, set>, <clears, set>, 0", 0, 0, 0, CHOICE(0, 1), AT(1));
+    SHOWN("<clears, set> between <endless, set>, 0", 0, 0, 0, CHOICE(0, 1),
+          AT(1));
     BUILD(HEAD(1, 5, 3), STEPS,
           SEQUENCE(0), ALTERNATIVE, SET, CALL(2), ALTERNATIVE, SET, CALL(1),
+              ALTERNATIVE, SET, CALL(2),
           SEQUENCE(1), ALTERNATIVE, NEED,
           SEQUENCE(2), ALTERNATIVE, CALL(2));
-    SHOWN("<set, endless>, <set, needs>, 4", 0, 4, 0, CHOICE(0, 1), AT(0));
+    SHOWN("<set, needs> between <set, endless>, 4", 0, 4, 0, CHOICE(0, 1),
+          AT(0));
 
     /* no alternative, no run: none of the six */
     BUILD(HEAD(1, 5, 2), STEPS,

@@ -28,32 +28,48 @@
  *   row, an alternative counts where one of two entries has a run
  *     (`x.run | y.run`): word 1 of a card, 1 for 0
  *   row, a touch counts though a later entry always touches
- *     (`x.present & x.present`): word 3 of a card, 6 for 2
- *   outcome, callers are stale where a visit changed nothing, and not where it
- *     did (`if !changed`): word 1 of a card, 1 for 101
+ *     (`x.present & x.present`): word 3 of a card, 1 for 0
  *   row, a run may leave an always set fact untouched
- *     (`union(rival, rival)`): word 2 of a card, 1 for 0
+ *     (`union(rival, rival)`): word 6 of a card, 1 for 0
  *   row, a card too many is written (`c <= n`): word 1 of a card past
  *     the last
  *   link, a link with one link more after it is taken (`t.rank <= k + 1`): a
  *     link's entry is no step with the touch, or no sequence
+ *   link, a newer alternative with more links is taken (`k <= t.rank`): a
+ *     link's entry is no step with the touch, or no sequence
  *   link, a link is taken though a later entry touches (`tail <= next` left
- *     out): beside a link's entry another touches the fact, or has no run
- *   link, a kind 12 link names the first alternative (`k <= 1000`): a link is
- *     not the lowest choice
+ *     out), or though one ahead of the position does (`ok = ok`): beside a
+ *     link's entry another touches the fact, or has no run
+ *   link, a position counts only where its own entry, too, could stay untouched
+ *     (`tail <= i`): a link is about another sequence, or about no alternative
+ *   link, a kind 12 link names the last alternative, whatever its depth
+ *     (`value <= 1000`): a link's alternative cannot stay untouched
+ *   link, the oldest alternative that fits is kept in place of the newest, in
+ *     `chosen_link` and, by itself, in `chosen_alternative`: a link is not the
+ *     newest choice
+ *   library, the alternatives are counted from 1; those of later sequences are
+ *     taken in; the last opener is passed over, always or where its alternative
+ *     is empty (four breaks): a link is about another sequence, or about no
+ *     alternative
  *   rank, an entry behind the position is held to what is asked of one ahead
  *     (`passes(none, ahead, w)`): none, and a run has the outcome
- *   rank, entries ahead of the position may touch (`ok = ok`, as the code was
- *     then): a chain, and no run has the outcome
+ *   rank, entries ahead of the position may touch (`floor = floor`): a chain,
+ *     and no run has the outcome
  *   question, one word more is written: words past the chain are changed
+ *   settling, callers are stale where a visit changed nothing, and not where it
+ *     did (`if !changed`): the time limit is over, and no answer from
+ *     dulimoven_cards
  *   outcome, a visit always says that it changed the table, and rank, that it
  *     lowered a rank: the time limit is over, and no answer from
  *     dulimoven_cards, and from dulimoven_chain
  * And the must-fail edits of the crates that changed the code of the three
- * calls when this was tried, 46 of them: all are reported but three. What shows
+ * calls when this was tried, 62 of them: all are reported but six. What shows
  * in no answer and no area is not: bits from F upward in the outcome table
- * (row/bits_above), an order of visits that is never asked for
- * (order/one_number). Nor is the order of refusals 10 and 11
+ * (row/bits_above); an order of visits that is never asked for
+ * (order/one_number), and the test that would ask for it (order/untested);
+ * clear words judged one by one where they could be read together
+ * (column/apart_if_empty); small areas for one sequence more, which then have
+ * the room (tables/small_for_more). Nor is the order of refusals 10 and 11
  * (question/eleven_before_ten), since all questions here are in range;
  * chain_test has it.
  *
