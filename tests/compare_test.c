@@ -48,9 +48,11 @@
  *     `chosen_link` and, by itself, in `chosen_alternative`: a link is not the
  *     newest choice
  *   library, the alternatives are counted from 1; those of later sequences are
- *     taken in; the last opener is passed over, always or where its alternative
- *     is empty (four breaks): a link is about another sequence, or about no
- *     alternative
+ *     taken in; on the way back an empty alternative is passed over, an entry is
+ *     taken for an opener, or the first word is (five breaks): a link is about
+ *     another sequence, or about no alternative
+ *   library, the second opener is kept in place of the last: beside a link's
+ *     entry another touches the fact, or has no run
  *   rank, an entry behind the position is held to what is asked of one ahead
  *     (`passes(none, ahead, w)`): none, and a run has the outcome
  *   rank, entries ahead of the position may touch (`floor = floor`): a chain,
