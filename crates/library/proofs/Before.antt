@@ -1,5 +1,6 @@
 -- The alternatives of a sequence that open before an index: counted from the first on, and gone through from the last to the first.
--- It has: `before-` start, turn, out and few, and `last-turn`, for a walk from left to right; `before-back`, from an index to the last opener before it.
+-- It has: `before-` start, turn, out and few, and `last-turn`, for a walk from left to right; `before-back`, from an index to the last opener
+-- before it, and `opener-last`, one word of the way.
 -- Assumes nothing.
 use Prim.Native.Nat.{ℕ, zero, suc, _+_, _-_, _≤_, _<_}
 use native.Mathlib.Nat.{eq-or-lt-of-le}
@@ -144,8 +145,9 @@ module _ (part : List ℕ) where
         go (inl same) rest = absurd (omega (arith, here .count, ap (λ (j : ℕ). length (from j)) same))
         go (inr lt) rest = word (omega arith) rest
 
--- the last opener before an index, by the word before it
-pub opener-last : (part : List ℕ) (i : ℕ) → 0 < i → openerBefore part i ≡ cond (isKind 7 (getD part (i - 1) 0)) (i - 1) (openerBefore part (i - 1))
+-- the last opener before an index, by whether the word before it opens an alternative
+pub opener-last : (part : List ℕ) (i : ℕ) (b : Bool) → 0 < i → isKind 7 (getD part (i - 1) 0) ≡ b
+    → cond b (i - 1) (openerBefore part (i - 1)) ≡ openerBefore part i
 unfolding lastIndex
-opener-last part zero lt = absurd (omega arith)
-opener-last part (suc i) lt = let less : suc i - 1 ≡ i = omega arith in rw less
+opener-last part zero b lt e = absurd (omega arith)
+opener-last part (suc i) b lt e = let less : suc i - 1 ≡ i = omega arith in rw (← e, less)

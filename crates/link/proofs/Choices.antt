@@ -189,21 +189,25 @@ module _ (none : ℕ) (ahead behind ranks part : List ℕ) (k : ℕ) where
     abbrev all : List Alternative
     all = alternativesFrom (drop at part)
 
+    -- the link of an alternative, by its number, its entries, the position there and the number that the entry names
+    chosen : (i p e : ℕ) (es : Alternative) → i ≡ newest placed all → getD all i [] ≡ es → p ≡ position true 0 es → e ≡ entryNumber (entryAt es p)
+        → i ≤ length part → p ≤ length part → Chosen none ahead behind ranks part at k (record { alternative = i; position = p; entry = e })
+    unfolding linkIn newestLink
+    chosen i p e es last there place number low short =
+        record {
+          link = λ c. ap₂ (touchLink c) last (place ∙ ap (position true 0) (sym there ∙ ap (λ (m : ℕ). getD all m []) last));
+          entry = number ∙ ap (λ (xs : Alternative). entryNumber (entryAt xs p)) (sym there);
+          alternative-low = low;
+          position-low = short;
+        }
+
     -- no alternative has one
     pub chosen-out : (r : Alternatives) → AllBefore part at r → (n o : ℕ) → Choosing n o → n ≡ 0
         → Chosen none ahead behind ranks part at k (record { alternative = r .count; position = 0; entry = 0 })
-    unfolding linkIn newestLink positionFrom
+    unfolding positionFrom
     chosen-out r counted n o here over =
-        let past : getD all (r .count) [] ≡ [] = List·getD-eq-default all [] {n = r .count} (omega (arith, counted .all)) in
-        let last = counted .all ∙ seeking-out placed part at n o here over in
-        record {
-          link = λ c.
-              ap₂ (touchLink c) last
-              (sym (ap (position true 0) (sym (ap (λ (n : ℕ). getD all n []) last) ∙ past)));
-          entry = ap (λ (es : Alternative). entryNumber (entryAt es 0)) (sym past);
-          alternative-low = before-few part at _ _ (counted .last .before);
-          position-low = omega arith;
-        }
+        chosen (r .count) 0 0 [] (counted .all ∙ seeking-out placed part at n o here over)
+        (List·getD-eq-default all [] {n = r .count} (omega (arith, counted .all))) refl refl (before-few part at _ _ (counted .last .before)) (omega arith)
 
     -- the last alternative that is left has none, or has one
     module _ (n o : ℕ) (here : Choosing n o) (some : 0 < n) where
@@ -220,19 +224,10 @@ module _ (none : ℕ) (ahead behind ranks part : List ℕ) (k : ℕ) where
           → isEntry (getD part j 0) ≡ true → (t : Traits) → t ≡ traitsIn none ahead behind ranks (entryOf (getD part j 0))
           → (ok && leb tail (j + 1)) && leb (t .rank) k ≡ true
           → Chosen none ahead behind ranks part at k (record { alternative = n - 1; position = j - (o + 1); entry = payload (getD part j 0) })
-      unfolding linkIn newestLink
       chosen-found tail tailed ok j placing e t traits taken =
           let found = placing-found (o + 1) tail tailed ok j placing e t traits taken in
-          let entries = last-back placed part at n o here some .entries in
-          let last = seeking-found placed part at n o here some (lt-ltb (position true 0 entriesThere) (length entriesThere) (omega (arith, found .0, found .1))) in
-          record {
-            link = λ c.
-                ap₂ (touchLink c) last
-                (sym (found .0) ∙ ap (position true 0) (sym entries ∙ ap (λ (m : ℕ). getD all m []) last));
-            entry =
-                sym (entry-number (getD part j 0))
-                ∙ ap entryNumber (sym (folding-entry placing e (item (step 0))))
-                ∙ ap (λ (xs : Alternative). entryNumber (entryAt xs (j - (o + 1)))) (sym entries);
-            alternative-low = omega (arith, before-few part at n _ (here .last .before));
-            position-low = omega (arith, folding-inside placing e);
-          }
+          chosen (n - 1) (j - (o + 1)) (payload (getD part j 0)) entriesThere
+          (seeking-found placed part at n o here some (lt-ltb (position true 0 entriesThere) (length entriesThere) (omega (arith, found .0, found .1))))
+          (last-back placed part at n o here some .entries) (sym (found .0))
+          (sym (entry-number (getD part j 0)) ∙ ap entryNumber (sym (folding-entry placing e (item (step 0)))))
+          (omega (arith, before-few part at n _ (here .last .before))) (omega (arith, folding-inside placing e))

@@ -3,12 +3,10 @@
 use borrow.Author.Needs.{needs}
 use native.Mathlib.Omega.{arith}
 use mathlib.Core.Path.{_≡_, refl, sym, ap, _∙_}
-use mathlib.Core.Bool.{Bool, true, false, cond}
-use mathlib.Core.List.{List}
-use Prim.Native.Nat.{ℕ, _-_, _≤_, _<_}
-use lib.ListN.{length, getD}
+use mathlib.Core.Bool.{true, false}
+use Prim.Native.Nat.{_≤_}
+use lib.ListN.{length}
 use Rattle.general.specs.Scan.{lastIndex}
-use Rattle.image.specs.Word.{isKind}
 use Rattle.library.specs.Walk.{openerBefore}
 use Rattle.library.proofs.Before.{opener-last}
 use Rattle.library.proofs.walk.opener_before.Statement.{statement}
@@ -19,11 +17,6 @@ Inv-loop part end i₀ i = (i ≤ length part) × (openerBefore part i ≡ opene
 
 abbrev μ-loop : tie.MeasureT-loop
 μ-loop part end i₀ i = i
-
--- the word before i opens an alternative, or not
-at-opener : (part : List ℕ) (i : ℕ) (b : Bool) → 0 < i → isKind 7 (getD part (i - 1) 0) ≡ b
-    → cond b (i - 1) (openerBefore part (i - 1)) ≡ openerBefore part i
-at-opener part i b lt e = sym (opener-last part i lt ∙ ap (λ (x : Bool). cond x (i - 1) (openerBefore part (i - 1))) e)
 
 loop-holds : tie.Need-loop-holds Inv-loop μ-loop
 loop-holds c = (c .before .pre, refl)
@@ -43,7 +36,7 @@ is-kind-requires c κs = search needs
 returns : tie.Need-returns Inv-loop μ-loop
 returns c =
     let at-loop = c .before .before .before .before in
-    at-opener (at-loop .before .before .args .part .now) (at-loop .loop .i) true (omega arith) (sym (c .before .is-kind .ensures) ∙ c .if1 .taken) ∙ at-loop .loop .inv .1
+    opener-last (at-loop .before .before .args .part .now) (at-loop .loop .i) true (omega arith) (sym (c .before .is-kind .ensures) ∙ c .if1 .taken) ∙ at-loop .loop .inv .1
 
 loop-less : tie.Need-loop-less Inv-loop μ-loop
 loop-less c = search needs
@@ -51,7 +44,7 @@ loop-less c = search needs
 loop-again : tie.Need-loop-again Inv-loop μ-loop
 loop-again c =
     let at-loop = c .before .before .before .before in
-    (omega (arith, at-loop .loop .inv .0), at-opener (at-loop .before .before .args .part .now) (at-loop .loop .i) false (omega arith) (sym (c .before .is-kind .ensures) ∙ c .if1 .left) ∙ at-loop .loop .inv .1)
+    (omega (arith, at-loop .loop .inv .0), opener-last (at-loop .before .before .args .part .now) (at-loop .loop .i) false (omega arith) (sym (c .before .is-kind .ensures) ∙ c .if1 .left) ∙ at-loop .loop .inv .1)
 
 returns-2 : tie.Need-returns-2 Inv-loop μ-loop
 unfolding lastIndex
