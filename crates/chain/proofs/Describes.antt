@@ -15,7 +15,7 @@ use lib.Seq.{getD-take, getD-drop}
 use lib.Dec.{eqb, leb, ltb}
 use borrow.Author.Tests.{ltb-true, lt-ltb, le-ltb}
 use Rattle.column.specs.Sets.{inColumn}
-use Rattle.library.specs.Library.{has, Library, Step, Alternative, Entry, step, item, call, Item}
+use Rattle.library.specs.Library.{has, Library, Step, Alternative, Entry, step, item, call, Item, entryAt}
 use Rattle.library.specs.Tables.{maskOf}
 use Rattle.library.specs.Walk.{alternativesAt}
 use Rattle.library.proofs.Decode.{has-none}
@@ -26,7 +26,6 @@ use Rattle.runs.specs.Touch.{Side, last, first, Mark, present, absent, untouche
 use Rattle.runs.specs.Algebra.{sameMark}
 use Rattle.chains.specs.Link.{Link, touchLink, untouchedLink, Chain}
 use Rattle.general.specs.Scan.{every}
-use Rattle.chains.specs.Stands.{entryAt}
 use Rattle.chains.specs.Ranks.{Ranks, Attained, Linked, Unlowered, unranked, entryRank, entryPasses, depthLook, passLook, hasMark, aheadOf, behindOf, touchLook, untouchedLook}
 use Rattle.chains.specs.Answer.{Answer, none, shown, newest, chosenAlternative, followed, linksFrom, touchAnswer, untouchedAnswer}
 use Rattle.rank.specs.Walk.{newestLink, depthFrom, fewestFrom}

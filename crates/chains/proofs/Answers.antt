@@ -13,7 +13,7 @@ use native.Mathlib.Nat.{eq-or-lt-of-le}
 use lib.ListN.{length}
 use lib.Dec.{ltb}
 use borrow.Author.Tests.{ltb-true, ltb-false}
-use Rattle.library.specs.Library.{Library, Entry, item, call, Item}
+use Rattle.library.specs.Library.{Library, Entry, item, call, Item, entryAt}
 use Rattle.runs.specs.Run.{Run, Gives, alternativesOf, alternativeOf}
 use Rattle.runs.specs.Touch.{Side, Mark, present, absent, untouched, itemTouch, Question, HasOutcome}
 use Rattle.runs.specs.Algebra.{sameMark-eq}
@@ -21,7 +21,7 @@ use Rattle.general.proofs.Bools.{passes-or-not}
 use Rattle.runs.proofs.Outcome.{present≢untouched, absent≢untouched}
 use Rattle.runs.proofs.Possible.{alternative-below}
 use Rattle.chains.specs.Link.{touchLink, untouchedLink, Chain}
-use Rattle.chains.specs.Stands.{About, entryAt, Choices, StandsFor}
+use Rattle.chains.specs.Stands.{About, Choices, StandsFor}
 use Rattle.chains.specs.Depth.{deepest}
 use Rattle.chains.specs.Ranks.{Ranks, Unlowered, Attained, Linked, Passing, unranked, entryRank, ranks, hasMark, untouchedLook, touchLook}
 use Rattle.chains.specs.Answer.{Answer, none, shown, chosenAlternative, followed, linksFrom, touchAnswer, untouchedAnswer, ranksIn}

@@ -7,14 +7,14 @@ use lib.ListN.{length}
 use Rattle.general.specs.Tests.{All}
 use Rattle.library.specs.Accepted.{Small}
 use Rattle.rules.specs.Checked.{checked}
-use Rattle.library.specs.Library.{Library, Sequence, Entry, item, call, libraryOf, Item}
+use Rattle.library.specs.Library.{Library, Sequence, Entry, item, call, libraryOf, Item, entryAt}
 use Rattle.image.specs.declared.answer.Head.{Head}
 use Rattle.image.specs.declared.answer.Checked.the-variants.{Accepted}
 use Rattle.library.proofs.Sizes.{small}
 use Rattle.runs.specs.Run.{alternativesOf, alternativeOf}
 use Rattle.runs.specs.Touch.{Question}
 use Rattle.chains.specs.Link.{touchLink, untouchedLink, Chain, Fits}
-use Rattle.chains.specs.Stands.{EntryTouches, entryAt, StandsFor}
+use Rattle.chains.specs.Stands.{EntryTouches, StandsFor}
 
 -- only a sequence of the library has an alternative
 in-library : (S : List Sequence) (c i : ℕ) → i < length (alternativesOf S c) → c < length S

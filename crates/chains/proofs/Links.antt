@@ -12,7 +12,7 @@ use native.Mathlib.Omega.{arith}
 use lib.ListN.{length, take, drop}
 use lib.Dec.{leb}
 use borrow.Author.Tests.{leb-true, le-leb}
-use Rattle.library.specs.Library.{Library, Alternative, Entry, item, call, Item}
+use Rattle.library.specs.Library.{Library, Alternative, Entry, item, call, Item, entryAt}
 use Rattle.general.proofs.Bools.{and-parts, and-both}
 use Rattle.runs.specs.Run.{alternativesOf, alternativeOf}
 use Rattle.runs.specs.Touch.{untouched, itemTouch, Question, HasOutcome}
@@ -20,7 +20,7 @@ use Rattle.runs.specs.Algebra.{sameMark-refl, sameMark-eq}
 use Rattle.runs.proofs.Possible.{alternative-below}
 use Rattle.general.specs.Scan.{every}
 use Rattle.chains.specs.Link.{touchLink, untouchedLink, Chain}
-use Rattle.chains.specs.Stands.{About, EntryTouches, entryAt, Choices, StandsFor}
+use Rattle.chains.specs.Stands.{About, EntryTouches, Choices, StandsFor}
 use Rattle.chains.specs.Ranks.{Ranks, Look, Unlowered, Attained, Linked, entryRank, candidate, linkLook, hasMark, aheadOf, behindOf}
 use Rattle.chains.specs.Answer.{chosenAlternative, chosenPosition}
 use Rattle.general.proofs.Scan.{least-le, least-cases, first-found, Gapless, gapless-bound}

@@ -7,14 +7,14 @@ use mathlib.Core.List.{List, [], _∷_, _++_, append-assoc}
 use native.Mathlib.Omega.{arith}
 use lib.ListN.{length}
 use lib.Seq.{split-at}
-use Rattle.library.specs.Library.{Library, Alternative, Entry, item, call, Item, step}
+use Rattle.library.specs.Library.{Library, Alternative, Entry, item, call, Item, step, entryAt}
 use Rattle.runs.specs.Run.{Run, Gives, nothing, by-item, by-call, alternativesOf, alternativeOf}
 use Rattle.runs.specs.Touch.{Side, last, first, Mark, untouched, itemTouch, decided, overruling, Question, untouchedOn, HasOutcome}
 use Rattle.runs.specs.Algebra.{orElse-untouched}
 use Rattle.runs.proofs.Run.{gives-append, call-iff}
 use Rattle.runs.proofs.Outcome.{decided-append, orElse-touch, orElse-cases}
 use Rattle.chains.specs.Link.{touchLink, untouchedLink, Chain}
-use Rattle.chains.specs.Stands.{About, EntryTouches, entryAt, Choices, StandsFor}
+use Rattle.chains.specs.Stands.{About, EntryTouches, Choices, StandsFor}
 
 -- the touch between two parts, of which the one that could overrule it leaves the fact untouched, decides
 middle-decides : (s : Side) (t : Item → Mark) (m : Mark) (u g v : List Item) → m ≢ untouched → decided s t g ≡ m

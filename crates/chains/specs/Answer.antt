@@ -4,12 +4,11 @@ use mathlib.Core.Bool.{Bool, true, false}
 use mathlib.Core.List.{List, [], _∷_}
 use lib.ListN.{length, getD}
 use lib.Dec.{leb, ltb}
-use Rattle.library.specs.Library.{Library, Alternative, Sequence, Entry, item, call}
+use Rattle.library.specs.Library.{Library, Alternative, Sequence, Entry, item, call, entryAt}
 use Rattle.runs.specs.Run.{alternativesOf, alternativeOf}
 use Rattle.runs.specs.Touch.{Mark, present, absent, untouched, Question}
 use Rattle.general.specs.Scan.{firstIndex, lastIndex}
 use Rattle.chains.specs.Link.{touchLink, untouchedLink, Chain}
-use Rattle.chains.specs.Stands.{entryAt}
 use Rattle.chains.specs.Ranks.{Ranks, Look, ranks, unranked, candidate, hasMark, aheadOf, behindOf, untouchedLook, touchLook}
 use Rattle.chains.specs.Ranks.{depthLook, linkLook}
 

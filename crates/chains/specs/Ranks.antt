@@ -6,7 +6,7 @@ use mathlib.Core.Bool.{Bool, true, false, cond, _&&_}
 use mathlib.Core.List.{List}
 use lib.ListN.{length, getD, take, drop}
 use lib.Dec.{ltb}
-use Rattle.library.specs.Library.{Library, Alternative, Sequence, Entry, item, call, Item}
+use Rattle.library.specs.Library.{Library, Alternative, Sequence, Entry, item, call, Item, entryAt}
 use Rattle.runs.specs.Run.{RunOf, alternativesOf, alternativeOf}
 use Rattle.runs.specs.Touch.{Side, last, first, untouched, itemTouch, Question, untouchedOn, HasOutcome}
 use Rattle.runs.specs.Algebra.{sameMark}
@@ -14,7 +14,7 @@ use Rattle.runs.specs.Possible.{hasRun, possibleOutcome}
 use Rattle.general.specs.Scan.{every, leastBelow, greatest, listBelow}
 use Rattle.general.specs.Numbers.{total}
 use Rattle.chains.specs.Link.{Chain}
-use Rattle.chains.specs.Stands.{About, entryAt, StandsFor}
+use Rattle.chains.specs.Stands.{About, StandsFor}
 use Rattle.chains.specs.Depth.{depthOf}
 
 -- a rank for each sequence; those from `none` on are no rank

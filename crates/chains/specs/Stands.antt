@@ -3,8 +3,8 @@ use Prim.Native.Nat.{ℕ, suc, _<_}
 use mathlib.Core.Path.{_≡_}
 use mathlib.Core.Logic.{_≢_}
 use mathlib.Core.List.{List, [], _∷_, _++_}
-use lib.ListN.{length, getD, take, drop}
-use Rattle.library.specs.Library.{Library, Alternative, Item, step, Entry, item, call}
+use lib.ListN.{length, take, drop}
+use Rattle.library.specs.Library.{Library, Alternative, Item, Entry, item, call, entryAt}
 use Rattle.runs.specs.Run.{Gives, alternativesOf, alternativeOf}
 use Rattle.runs.specs.Touch.{untouched, itemTouch, overruling, Question, HasOutcome, untouchedOn}
 use Rattle.chains.specs.Link.{touchLink, untouchedLink, Chain, sequenceOf}
@@ -20,10 +20,6 @@ About c (l ∷ ls) = sequenceOf l ≡ c
 abbrev pub EntryTouches : Library → Question → ℕ → Chain → (List Item → Type 0) → Entry → List Item → Type 0
 EntryTouches L q f ls after (item a) u = (ls ≡ []) × (u ≡ a ∷ []) × (itemTouch L (q .side) f a ≡ q .mark)
 EntryTouches L q f ls after (call d) u = About d ls × after u × HasOutcome L q f u
-
--- the entry that a position names
-abbrev pub entryAt : Alternative → ℕ → Entry
-entryAt es p = getD es p (item (step 0))
 
 -- "the runs that its alternative gives with these choices": w is what the entries before the position, the entry at it and those
 -- after it give, in order. "The remaining entries give any run of theirs."

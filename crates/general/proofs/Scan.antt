@@ -59,6 +59,15 @@ greatest-reached {A} v (x ∷ xs) k e = go (passes-or-not (leb (v x) (greatest v
     go (inl l) rest = let le = leb-true (v x) (greatest v xs) l in rest (omega arith)
     go (inr l) rest = let lt = leb-false (v x) (greatest v xs) l in (x, omega arith)
 
+pub first-le : (p : ℕ → Bool) (n : ℕ) → firstIndex p n ≤ n
+unfolding firstIndex
+first-le p zero = omega arith
+first-le p (suc n) = go (p 0) (first-le (λ j. p (suc j)) n)
+  where
+    go : (b : Bool) → firstIndex (λ j. p (suc j)) n ≤ n → cond b 0 (suc (firstIndex (λ j. p (suc j)) n)) ≤ suc n
+    go true le = omega arith
+    go false le = omega arith
+
 -- where an index passes, the first one does, and is no higher
 pub first-found : (p : ℕ → Bool) (n i : ℕ) → i < n → p i ≡ true → (firstIndex p n ≤ i) × (p (firstIndex p n) ≡ true)
 unfolding firstIndex

@@ -1,19 +1,23 @@
--- The words of a sequence at an index: one word more of entries and of alternatives, where the entries of an alternative end, and the
--- loops over them. There is one record for a loop over the entries of an alternative and one for a loop over the alternatives of a sequence:
--- what the loop makes of those that are left is the whole. Each has laws for the start, a turn and the ways out.
+-- The words of a sequence at an index: one word more of entries and of alternatives, where the entries of an alternative end and where a walk
+-- over them does, and the loops over them. There is one record for a loop over the entries of an alternative, one for a walk that ends at the
+-- first dead one, and one for a loop over the alternatives of a sequence: what the loop makes of those that are left is the whole. Each has
+-- laws for the start, a turn and the ways out.
 -- Assumes nothing.
 use Prim.Native.Nat.{ℕ, zero, suc, _+_, _-_, _≤_, _<_}
 use native.Mathlib.Decide.{decLt}
 use native.Mathlib.Omega.{arith}
 use native.Mathlib.Numerals.{add-one}
 use mathlib.Core.Path.{_≡_, refl, sym, ap, ap₂, _∙_}
-use mathlib.Core.Bool.{Bool, true, false, cond, false≢true}
+use mathlib.Core.Bool.{Bool, true, false, cond, _&&_, false≢true}
 use mathlib.Core.List.{List, [], _∷_}
 use lib.ListN.{length, getD, drop, length-drop, drop-of-length-le, List·getD-eq-default}
 use lib.Seq.{drop-cons, drop-nil, drop-drop}
+use Rattle.general.specs.Scan.{firstIndex}
+use Rattle.general.proofs.Bools.{and-parts}
+use Rattle.general.proofs.Scan.{first-le}
 use Rattle.image.specs.Word.{isKind, isEntry}
-use Rattle.library.specs.Library.{Entry, Alternative, entriesFrom, alternativesFrom}
-use Rattle.library.specs.Walk.{entryOf, entriesEnd}
+use Rattle.library.specs.Library.{Entry, Alternative, entryAt, entriesFrom, alternativesFrom}
+use Rattle.library.specs.Walk.{entryOf, entriesEnd, EntriesPassed, walkEnd}
 use Rattle.library.proofs.Decode.{entry-opens-none, entries-nil, entries-cons, entries-short, alternatives-nil, alternatives-cons}
 
 -- what a test says of the word at an index, by the word that was read there
@@ -69,17 +73,18 @@ module _ (part : List ℕ) (i : ℕ) where
 
 -- ---- where the entries end
 
--- a walk over alternatives passes over the entries before them
-alternatives-skip : (ws : List ℕ) → alternativesFrom (drop (length (entriesFrom ws)) ws) ≡ alternativesFrom ws
-alternatives-skip [] = ap alternativesFrom (drop-nil (length (entriesFrom [])))
-alternatives-skip (w ∷ ws) = go (isEntry w) refl (alternatives-skip ws)
+-- a walk over alternatives passes over the entries before them, some or all
+alternatives-skip : (n : ℕ) (ws : List ℕ) → n ≤ length (entriesFrom ws) → alternativesFrom (drop n ws) ≡ alternativesFrom ws
+alternatives-skip zero ws le = refl
+alternatives-skip (suc n) [] le = ap alternativesFrom (drop-nil (suc n))
+alternatives-skip (suc n) (w ∷ ws) le = go (isEntry w) refl (alternatives-skip n ws)
   where
-    go : (b : Bool) → isEntry w ≡ b → alternativesFrom (drop (length (entriesFrom ws)) ws) ≡ alternativesFrom ws
-        → alternativesFrom (drop (length (entriesFrom (w ∷ ws))) (w ∷ ws)) ≡ alternativesFrom (w ∷ ws)
+    go : (b : Bool) → isEntry w ≡ b → (n ≤ length (entriesFrom ws) → alternativesFrom (drop n ws) ≡ alternativesFrom ws)
+        → alternativesFrom (drop n ws) ≡ alternativesFrom (w ∷ ws)
     go true e rest =
-        ap (λ (es : List Entry). alternativesFrom (drop (length es) (w ∷ ws))) (entries-cons w ws true e)
-        ∙ rest ∙ sym (alternatives-cons w ws false true (entry-opens-none w e) e)
-    go false e rest = ap (λ (es : List Entry). alternativesFrom (drop (length es) (w ∷ ws))) (entries-cons w ws false e)
+        rest (omega (arith, ap (λ (es : List Entry). length es) (entries-cons w ws true e)))
+        ∙ sym (alternatives-cons w ws false true (entry-opens-none w e) e)
+    go false e rest = absurd (omega (arith, ap (λ (es : List Entry). length es) (entries-cons w ws false e)))
 
 -- after them stands no entry
 entries-over : (ws : List ℕ) → entriesFrom (drop (length (entriesFrom ws)) ws) ≡ []
@@ -98,8 +103,77 @@ module _ (part : List ℕ) (at : ℕ) where
   pub end-within : at ≤ length part → entriesEnd part at ≤ length part
   end-within l = omega (arith, entries-short (drop at part), length-drop at part)
 
+  -- from there on, and from any entry before, the same alternatives follow
+  some-skip : (n : ℕ) → n ≤ length (entriesFrom (drop at part)) → alternativesFrom (drop at part) ≡ alternativesFrom (drop (at + n) part)
+  some-skip n le = sym (alternatives-skip n (drop at part) le) ∙ ap alternativesFrom (drop-drop n at part)
+
   pub end-skips : alternativesFrom (drop at part) ≡ alternativesFrom (drop (entriesEnd part at) part)
-  end-skips = sym (alternatives-skip (drop at part)) ∙ ap alternativesFrom (drop-drop (length (entriesFrom (drop at part))) at part)
+  end-skips = some-skip (length (entriesFrom (drop at part))) (omega arith)
+
+  -- an entry stands there
+  module _ (e : isEntry (getD part at 0) ≡ true) where
+    end-next : (k : ℕ) → at + 1 ≡ k → entriesEnd part k ≡ entriesEnd part at
+    end-next k next =
+        sym (ap (entriesEnd part) next) ∙ (let one = ap (λ (es : List Entry). length es) (entries-at part at true e) in omega arith)
+
+  -- where a walk ends
+  module _ (dead : Entry → Bool) where
+    abbrev left : Alternative
+    left = entriesFrom (drop at part)
+
+    walk-short : firstIndex (λ p. dead (entryAt left p)) (length left) ≤ length left
+    walk-short = first-le (λ p. dead (entryAt left p)) (length left)
+
+    pub walk-skips : alternativesFrom (drop at part) ≡ alternativesFrom (drop (walkEnd dead part at) part)
+    walk-skips = some-skip (firstIndex (λ p. dead (entryAt left p)) (length left)) walk-short
+
+    pub walk-within : at ≤ length part → walkEnd dead part at ≤ length part
+    walk-within l = omega (arith, walk-short, end-within l)
+
+    walk-by : (es : Alternative) → left ≡ es → walkEnd dead part at ≡ at + firstIndex (λ p. dead (entryAt es p)) (length es)
+    walk-by es = ap (λ (xs : Alternative). at + firstIndex (λ p. dead (entryAt xs p)) (length xs))
+
+    -- at the word after the entries, at a dead entry, or after one that is not
+    pub walk-out : isEntry (getD part at 0) ≡ false → at ≡ walkEnd dead part at
+    unfolding firstIndex
+    walk-out e = omega (arith, walk-by [] (entries-at part at false e))
+
+    walk-entry : (b : Bool) → isEntry (getD part at 0) ≡ true → dead (entryOf (getD part at 0)) ≡ b → walkEnd dead part at ≡ cond b at (walkEnd dead part (at + 1))
+    unfolding firstIndex
+    walk-entry b e told =
+        let rest = entriesFrom (drop (at + 1) part) in
+        walk-by (entryOf (getD part at 0) ∷ rest) (entries-at part at true e)
+        ∙ ap (λ (x : Bool). at + cond x 0 (suc (firstIndex (λ p. dead (entryAt rest p)) (length rest)))) told
+        ∙ go b (firstIndex (λ p. dead (entryAt rest p)) (length rest))
+      where
+        go : (x : Bool) (n : ℕ) → at + cond x 0 (suc n) ≡ cond x at (at + 1 + n)
+        go true n = omega arith
+        go false n = omega arith
+
+    pub walk-dead : isEntry (getD part at 0) ≡ true → dead (entryOf (getD part at 0)) ≡ true → at ≡ walkEnd dead part at
+    walk-dead e told = sym (walk-entry true e told)
+
+    pub walk-next : isEntry (getD part at 0) ≡ true → dead (entryOf (getD part at 0)) ≡ false → walkEnd dead part (at + 1) ≡ walkEnd dead part at
+    walk-next e told = sym (walk-entry false e told)
+
+-- entries passed by fours
+
+pub passed-start : {part : List ℕ} {at : ℕ} → at ≤ length part → EntriesPassed part at at
+passed-start l = record { within = l; ends = refl }
+
+pub passed-four : {part : List ℕ} {at i : ℕ} → EntriesPassed part at i → i + 4 ≤ length part
+    → isEntry (getD part i 0) && isEntry (getD part (i + 1) 0) && isEntry (getD part (i + 2) 0) && isEntry (getD part (i + 3) 0) ≡ true
+    → EntriesPassed part at (i + 4)
+passed-four {part} {at} {i} here room all =
+    let d = and-parts _ _ all in
+    let c = and-parts _ _ (d .0) in
+    let b = and-parts _ _ (c .0) in
+    record {
+      within = room;
+      ends =
+          end-next part (i + 3) (d .1) (i + 4) (omega arith) ∙ end-next part (i + 2) (c .1) (i + 3) (omega arith)
+          ∙ end-next part (i + 1) (b .1) (i + 2) (omega arith) ∙ end-next part i (b .0) (i + 1) refl ∙ here .ends;
+    }
 
 -- ---- a loop over the entries of an alternative, which stand from index `at` on
 
@@ -164,6 +238,35 @@ module _ {part : List ℕ} {R : Type 0} {whole : R} {at : ℕ} {rest : List Entr
     pub folding-end : i ≡ entriesEnd part at
     folding-end = omega (arith, here .ends, ap (λ (es : List Entry). length es) (entries-at part i false e))
 
+-- ---- a walk over the entries of an alternative that ends at the first dead one
+
+-- none of the entries before i is dead
+pub record Leaving (part : List ℕ) {R : Type 0} (whole : R) (dead : Entry → Bool) (at : ℕ) (rest : List Entry → R) (i : ℕ) : Type 0 where
+  pub folding : Folding part whole at rest i
+  pub alive : walkEnd dead part i ≡ walkEnd dead part at
+
+pub leaving-start : {part : List ℕ} {R : Type 0} {whole : R} {dead : Entry → Bool} {at : ℕ} {rest : List Entry → R} → at ≤ length part
+    → rest (entriesFrom (drop at part)) ≡ whole → Leaving part whole dead at rest at
+leaving-start l same = record { folding = folding-start l same; alive = refl }
+
+module _ {part : List ℕ} {R : Type 0} {whole : R} {dead : Entry → Bool} {at : ℕ} {rest : List Entry → R} {i : ℕ} (here : Leaving part whole dead at rest i) where
+  module _ (e : isEntry (getD part i 0) ≡ true) where
+    -- an entry that is not dead, after which `next` is what the loop makes of the rest
+    pub leaving-turn : dead (entryOf (getD part i 0)) ≡ false → {next : List Entry → R}
+        → rest (entryOf (getD part i 0) ∷ entriesFrom (drop (i + 1) part)) ≡ next (entriesFrom (drop (i + 1) part)) → Leaving part whole dead at next (i + 1)
+    leaving-turn told turn = record { folding = folding-turn (here .folding) e turn; alive = walk-next part i dead e told ∙ here .alive }
+
+    -- a dead one: the walk ends there, and what the loop makes of the entries from there on is the whole
+    pub leaving-dead : dead (entryOf (getD part i 0)) ≡ true → i ≡ walkEnd dead part at
+    leaving-dead told = walk-dead part i dead e told ∙ here .alive
+
+    pub leaving-rest : rest (entryOf (getD part i 0) ∷ entriesFrom (drop (i + 1) part)) ≡ whole
+    leaving-rest = sym (ap rest (entries-at part i true e)) ∙ here .folding .same
+
+  -- a word that is no entry, or the end of the words
+  pub leaving-out : isEntry (getD part i 0) ≡ false → i ≡ walkEnd dead part at
+  leaving-out e = walk-out part i dead e ∙ here .alive
+
 -- ---- a loop over the alternatives of a sequence
 
 -- at the head, with the alternatives from i on left
@@ -187,20 +290,31 @@ module _ {part : List ℕ} {R : Type 0} {whole : R} {rest : List Alternative →
   pub walking-here : isKind 7 (getD part i 0) ≡ true → rest (entriesFrom (drop (i + 1) part) ∷ alternativesFrom (drop (i + 1) part)) ≡ whole
   walking-here e = sym (ap rest (alternatives-at part i true (isEntry (getD part i 0)) e refl)) ∙ here .same
 
-  -- an alternative, after whose entries the words go on at j, with `next` for what the loop makes of the rest
-  pub walking-turn : {next : List Alternative → R} {j : ℕ} → isKind 7 (getD part i 0) ≡ true → j ≡ entriesEnd part (i + 1)
+  -- an alternative, over whose entries a walk ended at j, with `next` for what the loop makes of the rest
+  pub walking-turn : (dead : Entry → Bool) {next : List Alternative → R} {j : ℕ} → isKind 7 (getD part i 0) ≡ true → j ≡ walkEnd dead part (i + 1)
       → rest (entriesFrom (drop (i + 1) part) ∷ alternativesFrom (drop (i + 1) part)) ≡ next (alternativesFrom (drop (i + 1) part))
       → Walking part whole next j
-  walking-turn {next} e end turn =
+  walking-turn dead {next} e end turn =
       record {
-        within = omega (arith, end, end-within part (i + 1) (omega (arith, opener-inside part i e)));
-        same = ap (λ (n : ℕ). next (alternativesFrom (drop n part))) end ∙ sym (ap next (end-skips part (i + 1))) ∙ sym turn ∙ walking-here e;
+        within = omega (arith, end, walk-within part (i + 1) dead (omega (arith, opener-inside part i e)));
+        same = ap (λ (n : ℕ). next (alternativesFrom (drop n part))) end ∙ sym (ap next (walk-skips part (i + 1) dead)) ∙ sym turn ∙ walking-here e;
       }
 
-  -- an entry
-  pub walking-skip : isKind 7 (getD part i 0) ≡ false → isEntry (getD part i 0) ≡ true → Walking part whole rest (i + 1)
-  walking-skip e f =
-      record { within = omega (arith, entry-inside part i f); same = sym (ap rest (alternatives-at part i false true e f)) ∙ here .same }
+  -- entries that a walk has left: the first of them, or all
+  module _ (e : isEntry (getD part i 0) ≡ true) where
+    pub walking-skip : Walking part whole rest (i + 1)
+    walking-skip =
+        record {
+          within = omega (arith, entry-inside part i e);
+          same = sym (ap rest (alternatives-at part i false true (entry-opens-none (getD part i 0) e) e)) ∙ here .same;
+        }
+
+    pub walking-pass : {j : ℕ} → j ≡ entriesEnd part (i + 1) → Walking part whole rest j
+    walking-pass end =
+        record {
+          within = omega (arith, end, end-within part (i + 1) (walking-skip .within));
+          same = ap (λ (n : ℕ). rest (alternativesFrom (drop n part))) end ∙ sym (ap rest (end-skips part (i + 1))) ∙ walking-skip .same;
+        }
 
   -- the next sequence, or the end of the words
   pub walking-out : isKind 7 (getD part i 0) ≡ false → isEntry (getD part i 0) ≡ false → rest [] ≡ whole

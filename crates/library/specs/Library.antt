@@ -7,6 +7,7 @@
 use Prim.Native.Nat.{ℕ}
 use mathlib.Core.Bool.{Bool, false, cond, _||_}
 use mathlib.Core.List.{List, [], _∷_}
+use lib.ListN.{getD}
 use lib.Dec.{eqb}
 use Rattle.image.specs.Word.{payload, isKind, isFact, isEntry, headOf}
 use Rattle.rules.specs.Checked.{firstWord, between}
@@ -34,6 +35,10 @@ pub data Entry : Type 0 where
 -- "Positions count from 0 within the alternative." "Alternatives count from 0 within their sequence."
 abbrev pub Alternative : Type 0
 Alternative = List Entry
+
+-- the entry that a position names
+abbrev pub entryAt : Alternative → ℕ → Entry
+entryAt es p = getD es p (item (step 0))
 
 abbrev pub Sequence : Type 0
 Sequence = List Alternative

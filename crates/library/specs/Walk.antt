@@ -1,13 +1,13 @@
 -- The words of a sequence from an index on, in the form that a loop follows: the entry that a word names, where the entries of an
--- alternative end, the alternatives of a sequence by its place, and those of them that stand before an index.
+-- alternative end and where a walk over them does, the alternatives of a sequence by its place, and those of them that stand before an index.
 use Prim.Native.Nat.{ℕ, _+_, _≤_, _<_}
 use mathlib.Core.Path.{_≡_}
-use mathlib.Core.Bool.{true, cond, _||_}
+use mathlib.Core.Bool.{Bool, true, false, cond, not, _||_}
 use mathlib.Core.List.{List}
 use lib.ListN.{length, getD, drop}
-use Rattle.general.specs.Scan.{lastIndex}
+use Rattle.general.specs.Scan.{firstIndex, lastIndex}
 use Rattle.image.specs.Word.{payload, isKind, isEntry}
-use Rattle.library.specs.Library.{Entry, step, item, call, Alternative, entriesFrom, alternativesFrom}
+use Rattle.library.specs.Library.{Entry, step, item, call, Alternative, entryAt, entriesFrom, alternativesFrom}
 use Rattle.library.specs.declared.walk.Alternatives.{Alternatives}
 
 -- the entry that a word names, if it is an entry
@@ -17,6 +17,23 @@ entryOf w = cond (isKind 8 w) (item (step (payload w))) (call (payload w))
 -- the index after the entries that stand from index `at` on
 abbrev pub entriesEnd : List ℕ → ℕ → ℕ
 entriesEnd part at = at + length (entriesFrom (drop at part))
+
+-- from index `at` up to i all words are entries
+pub record EntriesPassed (part : List ℕ) (at i : ℕ) : Type 0 where
+  pub within : i ≤ length part
+  pub ends : entriesEnd part i ≡ entriesEnd part at
+
+-- "names a sequence not found to have one", by what is found of the sequences
+abbrev pub namesNone : (ℕ → Bool) → Entry → Bool
+namesNone found (item a) = false
+namesNone found (call d) = not (found d)
+
+-- "each walk that asks whether an alternative gives a run shall end at the first entry, in its order, that names a sequence not found to have
+-- one by then": the index of the first entry that is dead, of those that stand from index `at` on, "or the end where there is none"
+abbrev pub walkEnd : (Entry → Bool) → List ℕ → ℕ → ℕ
+walkEnd dead part at =
+    let es : Alternative = entriesFrom (drop at part) in
+    at + firstIndex (λ p. dead (entryAt es p)) (length es)
 
 -- the alternatives of sequence c, from the word after its opener on
 abbrev pub alternativesAt : List ℕ → List ℕ → ℕ → List Alternative

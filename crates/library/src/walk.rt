@@ -1,13 +1,14 @@
 // The words of a sequence: walked from left to right, and back from one alternative to the one before it.
+use image::word::AT_ONCE;
 use image::word::KIND_ALTERNATIVE;
 use image::word::is_entry;
 use image::word::is_kind;
 ghost use mathlib.Core.Path.{_≡_};
-ghost use mathlib.Core.Bool.{cond};
+ghost use mathlib.Core.Bool.{cond, _&&_};
 ghost use Prim.Native.Nat.{_≤_};
 ghost use lib.ListN.{length, getD};
-ghost use Rattle.image.specs.Word.{mostWords};
-ghost use Rattle.library.specs.Walk.{entriesEnd, AllBefore, openerBefore};
+ghost use Rattle.image.specs.Word.{mostWords, isEntry};
+ghost use Rattle.library.specs.Walk.{entriesEnd, EntriesPassed, AllBefore, openerBefore};
 
 // How many alternatives a sequence has, and the index of the last one's opener.
 pub struct Alternatives {
@@ -35,6 +36,40 @@ pub fn entries_end(part: &[u32], at: usize) -> usize
         i += 1;
     }
     i
+}
+
+// Whether four words are entries. One test without a way out, so that it compiles to vector code.
+fn four_entries(a: u32, b: u32, c: u32, d: u32) -> bool
+    ensures { λ r. ⌜ r ≡ (isEntry a && isEntry b && isEntry c && isEntry d) ⌝ }
+{
+    let first = is_entry(a);
+    let second = is_entry(b);
+    let third = is_entry(c);
+    let fourth = is_entry(d);
+    first & second & third & fourth
+}
+
+// Passes entries by fours, from index `at` on.
+fn pass_entries(part: &[u32], at: usize) -> usize
+    requires { ⌜ at ≤ length (now part) ⌝ }
+    ensures { λ r. ⌜ EntriesPassed (now (part .entry)) at r ⌝ }
+{
+    let mut i = at;
+    while AT_ONCE <= part.len() - i {
+        if !four_entries(part[i], part[i + 1], part[i + 2], part[i + 3]) {
+            return i;
+        }
+        i += AT_ONCE;
+    }
+    i
+}
+
+// The same where a walk has left many entries.
+pub fn rest_end(part: &[u32], at: usize) -> usize
+    requires { ⌜ at ≤ length (now part) ⌝ }
+    ensures { λ r. ⌜ r ≡ entriesEnd (now (part .entry)) at ⌝ }
+{
+    entries_end(part, pass_entries(part, at))
 }
 
 // The index where the test holds, otherwise the other one.

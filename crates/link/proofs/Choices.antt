@@ -13,11 +13,10 @@ use lib.ListN.{length, getD, drop, List·getD-eq-default}
 use lib.Dec.{leb, ltb}
 use borrow.Author.Tests.{lt-ltb, le-ltb}
 use Rattle.image.specs.Word.{payload, isKind, isEntry}
-use Rattle.library.specs.Library.{Entry, step, item, call, Alternative, entriesFrom, alternativesFrom}
+use Rattle.library.specs.Library.{Entry, step, item, call, Alternative, entriesFrom, alternativesFrom, entryAt}
 use Rattle.library.specs.Walk.{entryOf, Before, openerBefore, LastBefore, AllBefore}
 use Rattle.general.specs.Scan.{every, lastIndex}
 use Rattle.chains.specs.Link.{touchLink}
-use Rattle.chains.specs.Stands.{entryAt}
 use Rattle.chains.specs.Answer.{newest}
 use Rattle.rank.specs.Walk.{tailFrom, positionFrom, newestLink}
 use Rattle.rank.specs.Tables.{entryNumber, rankIn, passIn, traitsIn}

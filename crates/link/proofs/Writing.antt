@@ -14,11 +14,10 @@ use lib.Dec.{eqb, leb, ltb}
 use borrow.Author.Tests.{eq-eqb, ne-eqb, lt-ltb, le-ltb, leb-true}
 use Rattle.image.specs.Word.{payload, isKind}
 use Rattle.general.specs.Tests.{All}
-use Rattle.library.specs.Library.{Entry, step, item, call, alternativesFrom}
+use Rattle.library.specs.Library.{Entry, step, item, call, alternativesFrom, entryAt}
 use Rattle.library.specs.Walk.{entryOf, alternativesAt}
 use Rattle.question.specs.Answer.{linkLength, linkCount, byRank, shownLinks}
 use Rattle.chains.specs.Link.{Link, touchLink, choiceWord, linkWords, chainWords}
-use Rattle.chains.specs.Stands.{entryAt}
 use Rattle.rank.specs.Tables.{entryNumber}
 use Rattle.link.specs.Choice.{linkIn, alternativeIn, Chosen, linkEntry, linkAt, linksIn, untouchedIn, untouchedWords, answerIn}
 use Rattle.link.specs.declared.link.Choice.{Choice}

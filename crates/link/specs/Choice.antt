@@ -5,11 +5,10 @@ use mathlib.Core.Bool.{cond}
 use mathlib.Core.List.{List, [], _∷_, _++_}
 use lib.ListN.{length, getD, drop}
 use lib.Dec.{eqb, leb, ltb}
-use Rattle.library.specs.Library.{Alternative, alternativesFrom}
+use Rattle.library.specs.Library.{Alternative, alternativesFrom, entryAt}
 use Rattle.library.specs.Walk.{alternativesAt}
 use Rattle.chains.specs.Link.{Link, touchLink, untouchedLink, Chain, chainWords}
 use Rattle.question.specs.declared.asked.Asked.{Asked}
-use Rattle.chains.specs.Stands.{entryAt}
 use Rattle.rank.specs.Walk.{newestLink}
 use Rattle.rank.specs.Tables.{entryNumber, rankIn, passIn, depthIn, RanksReadable}
 use Rattle.chains.specs.Answer.{Answer, shown, newest}

@@ -10,11 +10,10 @@ use native.Mathlib.Omega.{arith}
 use lib.ListN.{length, getD, take, drop}
 use lib.Dec.{leb, ltb}
 use borrow.Author.Tests.{leb-true, le-leb, lt-leb, ltb-true, lt-ltb}
-use Rattle.library.specs.Library.{Alternative, Sequence, Entry, Item}
+use Rattle.library.specs.Library.{Alternative, Sequence, Entry, Item, entryAt}
 use Rattle.runs.specs.Run.{alternativesOf, alternativeOf}
 use Rattle.general.proofs.Bools.{and-parts, both-ways}
 use Rattle.general.specs.Scan.{every, leastBelow, greatest, firstIndex}
-use Rattle.chains.specs.Stands.{entryAt}
 use Rattle.chains.specs.Ranks.{Ranks, Look, lowered, entryRank, depthLook, candidate, linkLook}
 use Rattle.chains.specs.Answer.{newest, chosenAlternative, chosenPosition}
 use Rattle.rank.specs.Walk.{loweredFrom, depthFrom, fewestFrom, positionFrom, newestLink, tailFrom}
