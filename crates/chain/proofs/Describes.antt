@@ -177,7 +177,7 @@ module _ (L : Library) (q : Asked) (Q : Question) (asks : Asks L q Q) where
     -- the depth, by any test of the steps
     depth-is : (test : Item → Bool) (T : List ℕ) → StepsBy (unranked L) 0 test T → depthIn (unranked L) T ≡ depthLook (unranked L) test (inRanks (unranked L) T)
     depth-is test T steps =
-        fun-ext (λ es. ap (λ (r : Entry → ℕ). depthFrom r 0 es) (rank-is (unranked L) 0 test T steps) ∙ sym (depth-from (unranked L) test (inRanks (unranked L) T) es))
+        fun-ext (λ es. ap (λ (r : Entry → ℕ). depthFrom (unranked L) r 0 es) (rank-is (unranked L) 0 test T steps) ∙ sym (depth-from (unranked L) test (inRanks (unranked L) T) es))
 
     pub depth-look : Q .mark ≡ untouched → (test : Item → Bool) (T : List ℕ) → StepsBy (unranked L) 0 test T
         → lookIn q ahead behind T ≡ depthLook (unranked L) test (inRanks (unranked L) T)

@@ -1,6 +1,6 @@
 -- Ranks: for each sequence a number, the least nesting depth of an untouched derivation or the fewest links of a chain. They are
 -- worked out by rounds, each from the one before, and `none` stands for "no rank". What ranks mean is said of any table.
-use Prim.Native.Nat.{ℕ, zero, suc, _+_, _*_, _≤_, _<_}
+use Prim.Native.Nat.{ℕ, zero, suc, _+_, _*_, _≤_, _<_, min}
 use mathlib.Core.Path.{_≡_}
 use mathlib.Core.Bool.{Bool, true, false, cond, _&&_}
 use mathlib.Core.List.{List}
@@ -68,10 +68,10 @@ abbrev pub entryPasses : (Item → Bool) → (ℕ → Bool) → Entry → Bool
 entryPasses test run (item a) = test a
 entryPasses test run (call d) = run d
 
--- "1 plus the greatest depth among its entries": the greatest depth among the entries of an alternative
+-- "1 plus the greatest depth among its entries": the greatest depth among the entries of an alternative, no rank where an entry has none
 unfoldable pub depthLook : ℕ → (Item → Bool) → Look
 unfolding greatest
-depthLook none test T es = greatest (entryRank none test T) es
+depthLook none test T es = min none (greatest (entryRank none test T) es)
 
 -- whether all entries of an alternative pass, a step by the test and a sequence where it has a rank: 0 where they do
 unfoldable pub passLook : ℕ → (Item → Bool) → Look

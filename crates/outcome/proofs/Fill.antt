@@ -1,13 +1,15 @@
 -- The tables that are made of an accepted image are what the visits ask, and a settled table is the outcome table.
 -- Assumes nothing.
-use Prim.Native.Nat.{ℕ, zero, suc, _*_, _≤_}
+use Prim.Native.Nat.{ℕ, zero, suc, _*_, _≤_, _<_}
 use native.Mathlib.Decide.{decLt}
 use native.Mathlib.Omega.{arith}
 use mathlib.Core.Path.{_≡_, refl, sym, ap, _∙_, subst}
 use mathlib.Core.List.{List, [], _∷_}
 use lib.ListN.{length, getD, take, replicate, length-replicate}
 use lib.Seq.{length-take-le}
+use lib.Pow.{pow-mono}
 use Rattle.general.specs.Tests.{All}
+use Rattle.image.specs.Word.{payload}
 use Rattle.image.specs.declared.answer.Head.{Head}
 use Rattle.library.specs.Library.{Library, sequencesPart, libraryOf}
 use Rattle.library.specs.Accepted.{Below, SequenceWord, Counted}
@@ -16,6 +18,7 @@ use Rattle.library.proofs.Lookup.{mask-low}
 use Rattle.library.proofs.Rows.{all-at}
 use Rattle.runs.specs.Execution.{noStep}
 use Rattle.row.specs.Words.{rowWords, allFacts, stepRow, rowIn}
+use Rattle.row.specs.declared.words.Row.{Row}
 use Rattle.general.specs.Numbers.{Zeros}
 use Rattle.settling.specs.Settling.{Settles, Scheduled}
 use Rattle.tables.specs.Tables.{Prepared}
@@ -101,6 +104,12 @@ module _ {h : Head} {image ms₀ ps₀ callers₀ order₀ rs₀ table : List �
           | no l ↦ subst (LowRow (L .facts)) (sym (rowed .stays a (omega (arith, has .steps)) ∙ blank-row rs₀ (asked .rows-blank) a)) (none-low (L .facts))
         ]
 
+    -- there is a fact
+    all-some : 0 < all
+    all-some =
+        let right = faultless image h (asked .tables .accepted) in
+        omega (arith, ones, pow-mono {i = 1} {j = h .facts} (right .facts-low))
+
     -- what the passes ask
     pub settle-asked : RowsVisitable (h .sequences) rs part ps (take (rowWords * h .sequences) table)
         × Scheduled (h .sequences) part ps callers (take (h .sequences) order)
@@ -108,7 +117,11 @@ module _ {h : Head} {image ms₀ ps₀ callers₀ order₀ rs₀ table : List �
       record {
         readable = λ i l.
             let w = all-at (SequenceWord h) part words-are 0 i l in
-            ((λ k. omega (arith, w .step k, asked .rows-room)), (λ k. omega (arith, w .sequence k, table-long)));
+            record {
+              step = λ k. omega (arith, w .step k, asked .rows-room);
+              run = λ k. omega (arith, ap (λ (r : Row). r .run) (rowed .written (payload (getD part i 0)) (w .step k)), all-some);
+              sequence = λ k. omega (arith, w .sequence k, table-long);
+            };
         rows = omega (arith, table-long);
         placed = omega (arith, asked .tables .places-room);
         within = λ c l. place-is (asked .tables .accepted) made sequences c l .within;

@@ -39,7 +39,7 @@ module _ (all : ℕ) (steps part places : List ℕ) where
 pub visitable-at : {n : ℕ} {steps part places t : List ℕ} (s : List ℕ) → length s ≡ length t → RowsVisitable n steps part places t → RowsVisitable n steps part places s
 visitable-at s e v =
     record {
-      readable = λ i l. let w = v .readable i l in (w .0, λ k. omega (arith, w .1 k));
+      readable = λ i l. let w = v .readable i l in record { step = w .step; run = w .run; sequence = λ k. omega (arith, w .sequence k) };
       rows = omega (arith, v .rows);
       placed = v .placed;
       within = v .within;

@@ -1,17 +1,20 @@
--- The rows that the loops over a sequence's words make: an alternative of which what is read has no run, and alternatives without entries.
+-- The rows that the loops over a sequence's words make: an alternative with a dead entry, and alternatives without entries.
 -- Assumes nothing.
 use Prim.Native.Nat.{ℕ, zero, suc, _+_, _-_, _≤_}
 use native.Mathlib.Omega.{arith}
 use mathlib.Core.Path.{_≡_, refl, sym, ap, _∙_}
-use mathlib.Core.Bool.{true, false}
+use mathlib.Core.Bool.{Bool, true, false, cond, not}
 use mathlib.Core.List.{List, [], _∷_, _++_}
 use lib.ListN.{length, getD, drop, replicate}
-use lib.Bits.{and-zero-l}
-use Rattle.image.specs.Word.{isKind, isEntry}
-use Rattle.library.specs.Library.{Entry, Alternative, alternativesFrom}
+use lib.Bits.{and-zero-l, and-zero-r}
+use lib.Dec.{ltb}
+use borrow.Author.Tests.{eqb-true, lt-ltb}
+use Rattle.image.specs.Word.{kind, payload, isKind, isEntry}
+use Rattle.library.specs.Library.{Entry, step, item, call, Alternative, alternativesFrom}
+use Rattle.library.specs.Walk.{entryOf}
 use Rattle.library.proofs.Walking.{opener-inside, entries-at, alternatives-at, Walking, walking-here}
-use Rattle.row.specs.Words.{noRow, startRow, joinRows, orRows, liveRow}
-use Rattle.outcome.specs.Walks.{entryIn, joinedFrom, unitedFrom, EmptiesEnd}
+use Rattle.row.specs.Words.{noRow, startRow, joinRows, orRows, liveRow, rowIn}
+use Rattle.outcome.specs.Walks.{RowWithin, isDead, entryIn, joinedFrom, unitedFrom, EmptiesEnd}
 use Rattle.row.specs.declared.words.Row.{Row}
 use Rattle.outcome.proofs.Stores.{rows-again}
 
@@ -21,6 +24,22 @@ unfolding joinedFrom
 dead-fold steps table X [] none = rw none (simp and-zero-l)
 dead-fold steps table X (e ∷ es) none =
     dead-fold steps table (joinRows X (entryIn steps table e)) es (rw none (and-zero-l (entryIn steps table e .run)))
+
+-- an alternative with an entry in whose row no run is found
+pub dead-entry : (steps table : List ℕ) (X : Row) (e : Entry) (es : List Entry) → entryIn steps table e .run ≡ 0
+    → liveRow (joinedFrom steps table X (e ∷ es)) ≡ noRow
+unfolding joinedFrom
+dead-entry steps table X e es none = dead-fold steps table (joinRows X (entryIn steps table e)) es (rw none (and-zero-r (X .run)))
+
+-- such an entry names a sequence, since a run is found in the row of a step
+pub dead-is : (steps table : List ℕ) (w : ℕ) → RowWithin steps table w → isEntry w ≡ true
+    → isDead table (entryOf w) ≡ not (ltb 0 (entryIn steps table (entryOf w) .run))
+dead-is steps table w within e = go (isKind 8 w) refl
+  where
+    go : (b : Bool) → isKind 8 w ≡ b → isDead table (cond b (item (step (payload w))) (call (payload w)))
+        ≡ not (ltb 0 (entryIn steps table (cond b (item (step (payload w))) (call (payload w))) .run))
+    go true k = sym (ap not (lt-ltb 0 (rowIn steps (payload w) .run) (within .run (eqb-true (kind w) 8 k))))
+    go false k = refl
 
 -- ---- alternatives without entries
 

@@ -2,23 +2,31 @@
 -- the alternatives of a sequence are united. What each gives for a fact is what `Rows` says, which `proofs/` shows.
 use Prim.Native.Nat.{ℕ, _+_, _-_, _*_, _≤_, _<_}
 use mathlib.Core.Path.{_≡_}
+use mathlib.Core.Bool.{Bool}
 use mathlib.Core.List.{List, [], _∷_, _++_}
 use lib.ListN.{length, getD, drop, replicate}
+use lib.Dec.{ltb}
 use Rattle.image.specs.Word.{kind, payload}
 use Rattle.library.specs.Library.{Entry, step, item, call, Alternative, entriesFrom, alternativesFrom}
-use Rattle.library.specs.Walk.{entriesEnd}
+use Rattle.library.specs.Walk.{namesNone, walkEnd}
 use Rattle.row.specs.Words.{rowWords, startRow, stepRow, joinRows, orRows, liveRow, rowIn}
 use Rattle.row.specs.declared.words.Row.{Row}
 use Rattle.outcome.specs.declared.read.Read.{Read}
 use Rattle.library.specs.Tables.{maskWords}
 
--- an entry names a row of the steps' table or of the table of outcomes
-abbrev pub RowWithin : List ℕ → List ℕ → ℕ → Type 0
-RowWithin steps table w = (kind w ≡ 8 → rowWords * payload w + rowWords ≤ length steps) × (kind w ≡ 9 → rowWords * payload w + rowWords ≤ length table)
+-- an entry names a row of the steps' table, in which a run is found, or one of the table of outcomes
+pub record RowWithin (steps table : List ℕ) (w : ℕ) : Type 0 where
+  pub step : kind w ≡ 8 → rowWords * payload w + rowWords ≤ length steps
+  pub run : kind w ≡ 8 → 0 < rowIn steps (payload w) .run
+  pub sequence : kind w ≡ 9 → rowWords * payload w + rowWords ≤ length table
 
 -- each entry among the words does
 abbrev pub RowsReadable : List ℕ → List ℕ → List ℕ → Type 0
 RowsReadable steps table part = (i : ℕ) → i < length part → RowWithin steps table (getD part i 0)
+
+-- "names a sequence not found to have one by then": a sequence in whose row no run is found
+abbrev pub isDead : List ℕ → Entry → Bool
+isDead table = namesNone (λ d. ltb 0 (rowIn table d .run))
 
 module _ (steps table : List ℕ) where
   -- the row of an entry
@@ -42,10 +50,10 @@ module _ (all : ℕ) (steps table : List ℕ) where
   unitedFrom X [] = X
   unitedFrom X (es ∷ alts) = unitedFrom (orRows X (alternativeIn es)) alts
 
-  -- what the reader of an alternative promises, whose entries stand from an index on: its row, and where its entries end
+  -- what the reader of an alternative promises, whose entries stand from an index on: its row, and where it ended
   pub record AlternativeFolded (part : List ℕ) (at : ℕ) (r : Read) : Type 0 where
     pub row : r .row ≡ alternativeIn (entriesFrom (drop at part))
-    pub next : r .next ≡ entriesEnd part at
+    pub ended : r .ended ≡ walkEnd (isDead table) part at
 
 -- where the alternatives without entries that stand from an index on end: each is one word
 pub record EmptiesEnd (part : List ℕ) (at r : ℕ) : Type 0 where

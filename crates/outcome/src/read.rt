@@ -4,7 +4,7 @@ use image::word::KIND_STEP_ENTRY;
 use image::word::is_entry;
 use image::word::is_kind;
 use image::word::payload_of;
-use library::walk::entries_end;
+use library::walk::rest_end;
 use library::walk::word_at;
 use row::words::Row;
 use row::words::joined;
@@ -23,10 +23,10 @@ ghost use Rattle.library.specs.Walk.{entryOf};
 ghost use Rattle.row.specs.Words.{noRow};
 ghost use Rattle.outcome.specs.Walks.{RowWithin, RowsReadable, entryIn, unitedFrom, AlternativeFolded, EmptiesEnd};
 
-// The row of an alternative, and the index of the word after its entries.
+// The row of an alternative, and the index at which the walk over its entries ended: that of the first dead one, or of the word after them.
 pub struct Read {
     pub row: Row,
-    pub next: usize,
+    pub ended: usize,
 }
 
 // The row of an entry, by the rows of the steps and of the sequences.
@@ -40,7 +40,8 @@ fn entry_row(steps: &[u64], table: &[u64], w: u32) -> Row
     row_at(table, payload_of(w) as usize)
 }
 
-// Reads the entries that stand from index `at` on. Where what is read has no run, the entries after it are passed over.
+// Reads the entries that stand from index `at` on. The walk ends at the first that names a sequence not found to have a run: nothing further can
+// count. A step has one, so its row passes the same test.
 fn read_alternative(all: u64, steps: &[u64], table: &[u64], part: &[u32], at: usize) -> Read
     requires { ⌜ RowsReadable (now steps) (now table) (now part) × (at ≤ length (now part)) ⌝ }
     ensures { λ r. ⌜ AlternativeFolded all (now (steps .entry)) (now (table .entry)) (now (part .entry)) at r ⌝ }
@@ -52,17 +53,18 @@ fn read_alternative(all: u64, steps: &[u64], table: &[u64], part: &[u32], at: us
         if !is_entry(w) {
             return Read {
                 row: live(x),
-                next: i,
+                ended: i,
             };
         }
-        x = joined(x, entry_row(steps, table, w));
-        i += 1;
-        if x.run == 0 {
+        let y = entry_row(steps, table, w);
+        if y.run == 0 {
             return Read {
                 row: none(),
-                next: entries_end(part, i),
+                ended: i,
             };
         }
+        x = joined(x, y);
+        i += 1;
     }
 }
 
@@ -81,8 +83,8 @@ fn empties_end(part: &[u32], at: usize) -> usize
     i
 }
 
-// Unites the alternatives that stand from index `at` on, up to the next sequence. An alternative without entries has the row that
-// reading begins with, and where many of them stand in a row it is united once.
+// Unites the alternatives that stand from index `at` on, up to the next sequence, past the entries that a walk has left. An alternative
+// without entries has the row that reading begins with, and where many of them stand in a row it is united once.
 pub fn read_sequence(all: u64, steps: &[u64], table: &[u64], part: &[u32], at: usize) -> Row
     requires { ⌜ RowsReadable (now steps) (now table) (now part) × (at ≤ length (now part)) ⌝ }
     ensures { λ r. ⌜ r ≡ unitedFrom all (now (steps .entry)) (now (table .entry)) noRow (alternativesFrom (drop at (now (part .entry)))) ⌝ }
@@ -92,18 +94,21 @@ pub fn read_sequence(all: u64, steps: &[u64], table: &[u64], part: &[u32], at: u
     loop {
         let w = word_at(part, i);
         i += 1;
-        if is_kind(KIND_ALTERNATIVE, w) {
+        if !is_entry(w) {
+            if !is_kind(KIND_ALTERNATIVE, w) {
+                return x;
+            }
             if is_entry(word_at(part, i)) {
                 let r = read_alternative(all, steps, table, part, i);
                 let row = r.row;
                 x = united(x, row);
-                i = r.next;
+                i = r.ended;
             } else {
                 x = united(x, live(start(all)));
                 i = empties_end(part, i);
             }
-        } else if !is_entry(w) {
-            return x;
+        } else {
+            i = rest_end(part, i);
         }
     }
 }

@@ -22,10 +22,12 @@ use Rattle.rank.specs.Tables.{rankIn, passIn, lookIn, visitedRank, visit
 
 -- ---- what is made of entries depends on what is said of each
 
-depth-same : (f g : Entry → ℕ) (d : ℕ) (es : List Entry) → All (λ e. f e ≡ g e) es → depthFrom f d es ≡ depthFrom g d es
+depth-same : (none : ℕ) (f g : Entry → ℕ) (d : ℕ) (es : List Entry) → All (λ e. f e ≡ g e) es → depthFrom none f d es ≡ depthFrom none g d es
 unfolding depthFrom
-depth-same f g d [] a = refl
-depth-same f g d (e ∷ es) a = ap (λ (r : ℕ). depthFrom f (max d r) es) (a .0) ∙ depth-same f g (max d (g e)) es (a .1)
+depth-same none f g d [] a = refl
+depth-same none f g d (e ∷ es) a =
+    ap (λ (r : ℕ). cond (ltb r none) (depthFrom none f (max d r) es) none) (a .0)
+    ∙ ap (λ (r : ℕ). cond (ltb (g e) none) r none) (depth-same none f g (max d (g e)) es (a .1))
 
 every-same : (p q : Entry → Bool) (es : List Entry) → All (λ e. p e ≡ q e) es → every p es ≡ every q es
 unfolding every
@@ -84,7 +86,7 @@ module _ (q : Asked) (ahead behind T U : List ℕ) where
   look-local : (es : List Entry) → All Same es → lookIn q ahead behind T es ≡ lookIn q ahead behind U es
   look-local es a =
       let none = q .none in
-      ap₂ (λ (x y : ℕ). cond (eqb (q .mark) 2) x y) (depth-same (rankIn none 0 T) (rankIn none 0 U) 0 es (ranks-same 0 es a))
+      ap₂ (λ (x y : ℕ). cond (eqb (q .mark) 2) x y) (depth-same none (rankIn none 0 T) (rankIn none 0 U) 0 es (ranks-same 0 es a))
       (ap₂ (λ (x y : ℕ). cond (eqb (q .mark) 3) x y) (ap (λ (b : Bool). cond b 0 none) (every-same (passIn none T) (passIn none U) es (pass-same es a)))
       (fewest-same none (rankIn none none T) (rankIn none none U) (passIn none ahead) (passIn none behind) 0 none es (ranks-same none es a)))
 

@@ -1,17 +1,24 @@
 -- What an alternative comes to by the tables, and a rank that its alternatives lower, in the form that the loops ask.
 -- Assumes nothing.
-use Prim.Native.Nat.{ℕ, suc, _+_, min}
+use Prim.Native.Nat.{ℕ, suc, _+_, min, max}
 use native.Mathlib.Numerals.{one-add}
-use mathlib.Core.Path.{_≡_, refl, sym, ap, ap₂, _∙_}
-use mathlib.Core.Bool.{Bool, true, false, cond, _&&_}
-use mathlib.Core.List.{List, _∷_}
-use lib.ListN.{drop}
-use lib.Dec.{eqb}
-use borrow.Author.Tests.{eq-eqb, ne-eqb}
-use Rattle.library.specs.Library.{Entry, Alternative, entriesFrom}
+use native.Mathlib.Omega.{arith}
+use mathlib.Core.Path.{_≡_, refl, sym, ap, ap₂, _∙_, fun-ext}
+use mathlib.Core.Logic.{⊎-elim}
+use mathlib.Core.Bool.{Bool, true, false, cond, not, _&&_, _||_}
+use mathlib.Core.List.{List, [], _∷_}
+use lib.ListN.{getD, drop}
+use lib.Dec.{eqb, leb, ltb}
+use borrow.Author.Tests.{eq-eqb, ne-eqb, leb-true, ltb-false, not-true}
+use Rattle.image.specs.Word.{isKind, isEntry}
+use Rattle.library.specs.Library.{Entry, Alternative, entriesFrom, alternativesFrom}
 use Rattle.general.specs.Scan.{every}
-use Rattle.rank.specs.Walk.{loweredFrom}
-use Rattle.rank.specs.Tables.{passIn, depthIn, everyIn, fewestIn, lookIn, AlternativeRanked}
+use Rattle.library.specs.Walk.{walkEnd}
+use Rattle.library.proofs.Walking.{Walking, walking-out}
+use Rattle.general.proofs.Bools.{nor-left, nor-right, or-cases}
+use Rattle.rank.specs.Walk.{loweredFrom, depthFrom, fewestFrom}
+use Rattle.rank.specs.Tables.{passIn, depthIn, everyIn, fewestIn, lookIn, lacksIn, lostIn, deadIn, AlternativeRanked}
+use Rattle.rank.proofs.Walk.{cond-same, lowered-least}
 use Rattle.question.specs.declared.asked.Asked.{Asked}
 use Rattle.rank.specs.declared.read.Read.{Read}
 
@@ -25,28 +32,72 @@ every-cons none ranks e es b told = ap (λ (x : Bool). cond (x && every (passIn 
     go true y = refl
     go false y = refl
 
--- what it comes to by the mark asked for
+-- the depth so far, by the next entry
+pub depth-cons : (none : ℕ) (rank : Entry → ℕ) (d : ℕ) (e : Entry) (es : List Entry) (b : Bool) → ltb (rank e) none ≡ b
+    → depthFrom none rank d (e ∷ es) ≡ cond b (depthFrom none rank (max d (rank e)) es) none
+unfolding depthFrom
+depth-cons none rank d e es b told = ap (λ (x : Bool). cond x (depthFrom none rank (max d (rank e)) es) none) told
+
+-- no position counts where neither those so far nor those to come do
+fewest-shut : (none : ℕ) (rank : Entry → ℕ) (ahead behind : Entry → Bool) (es : List Entry) → fewestFrom none rank ahead behind none none es ≡ none
+unfolding fewestFrom
+fewest-shut none rank ahead behind [] = refl
+fewest-shut none rank ahead behind (e ∷ es) =
+    ap₂ (λ (floor best : ℕ). fewestFrom none rank ahead behind floor best es) (cond-same (ahead e) none) (best-none (behind e))
+    ∙ fewest-shut none rank ahead behind es
+  where
+    best-none : (b : Bool) → min (cond b none none) (max (rank e) none) ≡ none
+    best-none true = omega arith
+    best-none false = omega arith
+
+-- an entry without a rank that passes neither as one ahead nor as one behind
+pub fewest-lost : (none : ℕ) (rank : Entry → ℕ) (ahead behind : Entry → Bool) (floor best : ℕ) (e : Entry) (es : List Entry)
+    → not ((ahead e || behind e) || ltb (rank e) none) ≡ true → fewestFrom none rank ahead behind floor best (e ∷ es) ≡ none
+unfolding fewestFrom
+fewest-lost none rank ahead behind floor best e es lost =
+    let no = not-true _ lost in
+    let either = nor-left (ahead e || behind e) (ltb (rank e) none) no in
+    let le = ltb-false (rank e) none (nor-right (ahead e || behind e) (ltb (rank e) none) no) in
+    let high : min none (max (rank e) floor) ≡ none = omega arith in
+    ap₂ (λ (a b : Bool). fewestFrom none rank ahead behind (cond a floor none) (min (cond b best none) (max (rank e) floor)) es)
+    (nor-left (ahead e) (behind e) either) (nor-right (ahead e) (behind e) either)
+    ∙ ap (λ (x : ℕ). fewestFrom none rank ahead behind none x es) high ∙ fewest-shut none rank ahead behind es
+
+-- what it comes to, and where the walk ends, by the mark asked for
 module _ (q : Asked) (ahead behind ranks part : List ℕ) (at : ℕ) (r : Read) where
-  abbrev es : Alternative
-  es = entriesFrom (drop at part)
+  -- the looks and the dead entries of the three walks
+  abbrev by : {A : Type 0} → A → A → A → Bool → Bool → A
+  by depth run links b d = cond b depth (cond d run links)
 
-  abbrev by : Bool → Bool → ℕ
-  by b d = cond b (depthIn (q .none) ranks es) (cond d (everyIn (q .none) ranks es) (fewestIn (q .none) ahead behind ranks es))
+  look-same : (worth : Alternative → ℕ) (dead : Entry → Bool) → ((es : Alternative) → lookIn q ahead behind ranks es ≡ worth es)
+      → ((e : Entry) → deadIn q ahead behind ranks e ≡ dead e) → AlternativeRanked worth dead part at r
+      → AlternativeRanked (lookIn q ahead behind ranks) (deadIn q ahead behind ranks) part at r
+  look-same worth dead same ends read =
+      record {
+        value = read .value ∙ sym (same (entriesFrom (drop at part)));
+        ended = read .ended ∙ ap (λ (test : Entry → Bool). walkEnd test part at) (sym (fun-ext ends));
+      }
 
-  look-same : (worth : Alternative → ℕ) → lookIn q ahead behind ranks es ≡ worth es → AlternativeRanked worth part at r
-      → AlternativeRanked (lookIn q ahead behind ranks) part at r
-  look-same worth same read = record { value = read .value ∙ sym same; next = read .next }
+  -- by what the mark is found to be
+  look-by : (b d : Bool) → eqb (q .mark) 2 ≡ b → eqb (q .mark) 3 ≡ d
+      → AlternativeRanked (λ es. by (depthIn (q .none) ranks es) (everyIn (q .none) ranks es) (fewestIn (q .none) ahead behind ranks es) b d)
+      (λ e. by (lacksIn (q .none) ranks e) (lacksIn (q .none) ranks e) (lostIn (q .none) ahead behind ranks e) b d) part at r
+      → AlternativeRanked (lookIn q ahead behind ranks) (deadIn q ahead behind ranks) part at r
+  look-by b d two three =
+      look-same _ _ (λ es. ap₂ (by (depthIn (q .none) ranks es) (everyIn (q .none) ranks es) (fewestIn (q .none) ahead behind ranks es)) two three)
+      (λ e. ap₂ (by (lacksIn (q .none) ranks e) (lacksIn (q .none) ranks e) (lostIn (q .none) ahead behind ranks e)) two three)
 
-  pub look-depth : q .mark ≡ 2 → AlternativeRanked (depthIn (q .none) ranks) part at r → AlternativeRanked (lookIn q ahead behind ranks) part at r
-  look-depth e = look-same (depthIn (q .none) ranks) (ap (λ (b : Bool). by b (eqb (q .mark) 3)) (eq-eqb (q .mark) 2 e))
+  pub look-depth : q .mark ≡ 2 → AlternativeRanked (depthIn (q .none) ranks) (lacksIn (q .none) ranks) part at r
+      → AlternativeRanked (lookIn q ahead behind ranks) (deadIn q ahead behind ranks) part at r
+  look-depth e = look-by true (eqb (q .mark) 3) (eq-eqb (q .mark) 2 e) refl
 
-  pub look-every : (q .mark ≡ 2 → ⊥) → q .mark ≡ 3 → AlternativeRanked (everyIn (q .none) ranks) part at r
-      → AlternativeRanked (lookIn q ahead behind ranks) part at r
-  look-every e d = look-same (everyIn (q .none) ranks) (ap₂ by (ne-eqb (q .mark) 2 e) (eq-eqb (q .mark) 3 d))
+  pub look-every : (q .mark ≡ 2 → ⊥) → q .mark ≡ 3 → AlternativeRanked (everyIn (q .none) ranks) (lacksIn (q .none) ranks) part at r
+      → AlternativeRanked (lookIn q ahead behind ranks) (deadIn q ahead behind ranks) part at r
+  look-every e d = look-by false true (ne-eqb (q .mark) 2 e) (eq-eqb (q .mark) 3 d)
 
-  pub look-links : (q .mark ≡ 2 → ⊥) → (q .mark ≡ 3 → ⊥) → AlternativeRanked (fewestIn (q .none) ahead behind ranks) part at r
-      → AlternativeRanked (lookIn q ahead behind ranks) part at r
-  look-links e d = look-same (fewestIn (q .none) ahead behind ranks) (ap₂ by (ne-eqb (q .mark) 2 e) (ne-eqb (q .mark) 3 d))
+  pub look-links : (q .mark ≡ 2 → ⊥) → (q .mark ≡ 3 → ⊥) → AlternativeRanked (fewestIn (q .none) ahead behind ranks) (lostIn (q .none) ahead behind ranks) part at r
+      → AlternativeRanked (lookIn q ahead behind ranks) (deadIn q ahead behind ranks) part at r
+  look-links e d = look-by false false (ne-eqb (q .mark) 2 e) (ne-eqb (q .mark) 3 d)
 
 -- ---- the alternatives of a sequence
 
@@ -55,3 +106,14 @@ pub lowered-cons : (worth : Alternative → ℕ) (r v : ℕ) (es : Alternative) 
     → loweredFrom worth r (es ∷ alts) ≡ loweredFrom worth (min r (1 + v)) alts
 unfolding loweredFrom
 lowered-cons worth r v es alts is = ap (λ (x : ℕ). loweredFrom worth (min r x) alts) (sym (one-add v ∙ ap suc is))
+
+lowered-nil : (worth : Alternative → ℕ) (r : ℕ) → loweredFrom worth r [] ≡ r
+unfolding loweredFrom
+lowered-nil worth r = refl
+
+-- no alternative is left, or none lowers the rank
+pub lowered-done : (worth : Alternative → ℕ) (r : ℕ) {part : List ℕ} {whole i : ℕ} → Walking part whole (loweredFrom worth r) i → isEntry (getD part i 0) ≡ false
+    → leb r 1 || not (isKind 7 (getD part i 0)) ≡ true → r ≡ whole
+lowered-done worth r {part} {i = i} here none done =
+    ⊎-elim (λ low. sym (lowered-least worth r (alternativesFrom (drop i part)) (leb-true r 1 low)) ∙ here .same)
+    (λ other. sym (lowered-nil worth r) ∙ walking-out here (not-true _ other) none) (or-cases (leb r 1) _ done)

@@ -9,7 +9,7 @@ use mathlib.Core.List.{List, [], _∷_}
 use native.Mathlib.Omega.{arith}
 use lib.ListN.{length, getD, take, drop}
 use lib.Dec.{leb, ltb}
-use borrow.Author.Tests.{leb-true, le-leb, lt-leb, ltb-true, lt-ltb}
+use borrow.Author.Tests.{leb-true, le-leb, lt-leb, ltb-true, ltb-false, lt-ltb}
 use Rattle.library.specs.Library.{Alternative, Sequence, Entry, Item, entryAt}
 use Rattle.runs.specs.Run.{alternativesOf, alternativeOf}
 use Rattle.general.proofs.Bools.{and-parts, both-ways}
@@ -68,15 +68,21 @@ cond-index : (b : Bool) (i n : ℕ) → cond b i (suc i + n) ≡ i + cond b 0 (s
 cond-index true i n = omega arith
 cond-index false i n = omega arith
 
--- the greatest depth from left to right
-depth-max : (rank : Entry → ℕ) (d : ℕ) (es : List Entry) → depthFrom rank d es ≡ max d (greatest rank es)
+-- the greatest depth from left to right, where the entries so far have a rank
+depth-min : (none : ℕ) (rank : Entry → ℕ) (d : ℕ) (es : List Entry) → d ≤ none → depthFrom none rank d es ≡ min none (max d (greatest rank es))
 unfolding depthFrom greatest
-depth-max rank d [] = omega arith
-depth-max rank d (e ∷ es) = let h = depth-max rank (max d (rank e)) es in omega arith
+depth-min none rank d [] low = omega arith
+depth-min none rank d (e ∷ es) low = go (ltb (rank e) none) refl (depth-min none rank (max d (rank e)) es)
+  where
+    go : (b : Bool) → ltb (rank e) none ≡ b
+        → (max d (rank e) ≤ none → depthFrom none rank (max d (rank e)) es ≡ min none (max (max d (rank e)) (greatest rank es)))
+        → cond b (depthFrom none rank (max d (rank e)) es) none ≡ min none (max d (max (rank e) (greatest rank es)))
+    go true has rest = let lt = ltb-true (rank e) none has in let h = rest (omega arith) in omega arith
+    go false has rest = let le = ltb-false (rank e) none has in omega arith
 
-pub depth-from : (none : ℕ) (test : Item → Bool) (T : Ranks) (es : List Entry) → depthLook none test T es ≡ depthFrom (entryRank none test T) 0 es
+pub depth-from : (none : ℕ) (test : Item → Bool) (T : Ranks) (es : List Entry) → depthLook none test T es ≡ depthFrom none (entryRank none test T) 0 es
 unfolding depthLook
-depth-from none test T es = let h = depth-max (entryRank none test T) 0 es in omega arith
+depth-from none test T es = let h = depth-min none (entryRank none test T) 0 es (omega arith) in omega arith
 
 -- conditions one inside the other
 cond-and : (b x y : Bool) (r none : ℕ) → cond ((b && x) && y) r none ≡ cond b (cond (x && y) r none) none
@@ -89,7 +95,7 @@ least-cond true v none n = refl
 least-cond false v none zero = refl
 least-cond false v none (suc n) = let h = least-cond false v none n in omega arith
 
-cond-same : (b : Bool) (x : ℕ) → cond b x x ≡ x
+pub cond-same : (b : Bool) (x : ℕ) → cond b x x ≡ x
 cond-same true x = refl
 cond-same false x = refl
 

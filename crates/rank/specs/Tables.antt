@@ -3,14 +3,14 @@
 -- (proofs/Describes) shows that the tables of an accepted image say what `Ranks` says of its library.
 use Prim.Native.Nat.{ℕ, _+_, _*_, _≤_, _<_}
 use mathlib.Core.Path.{_≡_}
-use mathlib.Core.Bool.{Bool, cond, _||_}
+use mathlib.Core.Bool.{Bool, cond, not, _||_}
 use mathlib.Core.List.{List}
 use lib.ListN.{length, getD, set, take, drop}
 use lib.Dec.{eqb, ltb}
 use Rattle.column.specs.Sets.{inColumn}
 use Rattle.image.specs.Word.{kind, payload, isKind}
 use Rattle.library.specs.Library.{Alternative, Entry, step, item, call, entriesFrom}
-use Rattle.library.specs.Walk.{entriesEnd, alternativesAt}
+use Rattle.library.specs.Walk.{walkEnd, alternativesAt}
 use Rattle.settling.specs.Settling.{Settles}
 use Rattle.general.specs.Scan.{every}
 use Rattle.chains.specs.Ranks.{Ranks}
@@ -47,10 +47,23 @@ passIn none T e = ltb (rankIn none 0 T e) none
 abbrev pub traitsIn : ℕ → List ℕ → List ℕ → List ℕ → Entry → Traits
 traitsIn none ahead behind ranks e = record { rank = rankIn none none ranks e; ahead = passIn none ahead e; behind = passIn none behind e }
 
+-- "names a sequence not found to have one by then": an entry without a rank in the table that says which runs are found; where links are asked
+-- for, without a rank in any of the three tables. Crate `chain` (proofs/Dead) shows that such an entry names a sequence without a run, where
+-- any run will do
+abbrev pub lacksIn : ℕ → List ℕ → Entry → Bool
+lacksIn none T e = not (passIn none T e)
+
+abbrev pub lostIn : ℕ → List ℕ → List ℕ → List ℕ → Entry → Bool
+lostIn none ahead behind ranks e = not ((passIn none ahead e || passIn none behind e) || ltb (rankIn none none ranks e) none)
+
+abbrev pub deadIn : Asked → List ℕ → List ℕ → List ℕ → Entry → Bool
+deadIn q ahead behind ranks e =
+    cond (eqb (q .mark) 2) (lacksIn (q .none) ranks e) (cond (eqb (q .mark) 3) (lacksIn (q .none) ranks e) (lostIn (q .none) ahead behind ranks e))
+
 -- what an alternative comes to: its greatest depth where no touch is asked for (mark 2), 0 where all its entries have a rank if only that is
 -- asked (mark 3), otherwise the fewest links after this one
 abbrev pub depthIn : ℕ → List ℕ → Alternative → ℕ
-depthIn none ranks es = depthFrom (rankIn none 0 ranks) 0 es
+depthIn none ranks es = depthFrom none (rankIn none 0 ranks) 0 es
 
 abbrev pub everyIn : ℕ → List ℕ → Alternative → ℕ
 everyIn none ranks es = cond (every (passIn none ranks) es) 0 none
@@ -111,10 +124,10 @@ pub record Steppable (q : Asked) (masks ranks : List ℕ) : Type 0 where
 
 -- ---- the alternatives of a sequence
 
--- what a reader of an alternative promises, whose entries stand from an index on: what it comes to, and where its entries end
-pub record AlternativeRanked (worth : Alternative → ℕ) (part : List ℕ) (at : ℕ) (r : Read) : Type 0 where
+-- what a reader of an alternative promises, whose entries stand from an index on: what it comes to, and where it ended
+pub record AlternativeRanked (worth : Alternative → ℕ) (dead : Entry → Bool) (part : List ℕ) (at : ℕ) (r : Read) : Type 0 where
   pub value : r .value ≡ worth (entriesFrom (drop at part))
-  pub next : r .next ≡ entriesEnd part at
+  pub ended : r .ended ≡ walkEnd dead part at
 
 -- what a visit of the sequences below n asks of the areas
 pub record RanksVisitable (q : Asked) (n : ℕ) (ahead behind ranks part places : List ℕ) : Type 0 where

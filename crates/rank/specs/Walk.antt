@@ -15,10 +15,10 @@ unfoldable pub loweredFrom : (Alternative → ℕ) → ℕ → List Alternative 
 loweredFrom value r [] = r
 loweredFrom value r (es ∷ alts) = loweredFrom value (min r (suc (value es))) alts
 
--- the greatest depth d so far, and of the entries from here on
-unfoldable pub depthFrom : (Entry → ℕ) → ℕ → List Entry → ℕ
-depthFrom rank d [] = d
-depthFrom rank d (e ∷ es) = depthFrom rank (max d (rank e)) es
+-- the greatest depth d so far, and of the entries from here on; no rank from the first entry on that has none
+unfoldable pub depthFrom : ℕ → (Entry → ℕ) → ℕ → List Entry → ℕ
+depthFrom none rank d [] = d
+depthFrom none rank d (e ∷ es) = cond (ltb (rank e) none) (depthFrom none rank (max d (rank e)) es) none
 
 -- what a link asks of the entries of an alternative: `none` stands for no rank, an entry has a rank, and those ahead of the position and
 -- those behind it pass tests

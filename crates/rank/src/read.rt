@@ -6,7 +6,6 @@ use crate::entry::traits_of;
 use image::word::KIND_ALTERNATIVE;
 use image::word::is_entry;
 use image::word::is_kind;
-use library::walk::entries_end;
 use library::walk::word_at;
 use question::asked::Asked;
 use question::asked::RUN_MARK;
@@ -16,12 +15,12 @@ ghost use Prim.Native.Nat.{_+_, _≤_, min, max};
 ghost use lib.ListN.{length, drop};
 ghost use Rattle.library.specs.Library.{alternativesFrom};
 ghost use Rattle.rank.specs.Walk.{loweredFrom};
-ghost use Rattle.rank.specs.Tables.{depthIn, everyIn, fewestIn, lookIn, RanksReadable, Rankable, AlternativeRanked};
+ghost use Rattle.rank.specs.Tables.{depthIn, everyIn, fewestIn, lookIn, lacksIn, lostIn, deadIn, RanksReadable, Rankable, AlternativeRanked};
 
-// What an alternative comes to, and the index of the word after its entries.
+// What an alternative comes to, and the index at which the walk over its entries ended: that of the first dead one, or of the word after them.
 pub struct Read {
     pub value: u32,
-    pub next: usize,
+    pub ended: usize,
 }
 
 fn least(a: u32, b: u32) -> u32
@@ -42,10 +41,10 @@ fn greatest(a: u32, b: u32) -> u32
     a
 }
 
-// The greatest depth among the entries that stand from index `at` on.
+// The greatest depth among the entries that stand from index `at` on. The walk ends at the first without a rank.
 pub fn greatest_depth(none: u32, ranks: &[u32], part: &[u32], at: usize) -> Read
     requires { ⌜ Rankable none (now ranks) (now part) × (at ≤ length (now part)) ⌝ }
-    ensures { λ r. ⌜ AlternativeRanked (depthIn none (now (ranks .entry))) (now (part .entry)) at r ⌝ }
+    ensures { λ r. ⌜ AlternativeRanked (depthIn none (now (ranks .entry))) (lacksIn none (now (ranks .entry))) (now (part .entry)) at r ⌝ }
 {
     let mut depth = 0;
     let mut i = at;
@@ -54,17 +53,24 @@ pub fn greatest_depth(none: u32, ranks: &[u32], part: &[u32], at: usize) -> Read
         if !is_entry(w) {
             return Read {
                 value: depth,
-                next: i,
+                ended: i,
             };
         }
-        depth = greatest(depth, rank_of(none, ranks, w));
+        let rank = rank_of(none, ranks, w);
+        if none <= rank {
+            return Read {
+                value: none,
+                ended: i,
+            };
+        }
+        depth = greatest(depth, rank);
         i += 1;
     }
 }
 
 // The fewest links after this one, among the positions of the entries that stand from index `at` on: an entry that fails as one behind rules
 // out the positions so far. `floor` is 0 until an entry fails as one ahead, and then `none`: a number in place of a test, since processors
-// would guess it badly.
+// would guess it badly. An entry that no table has a rank for leaves no position that counts, before it, at it or after it: the walk ends there.
 fn fewest_links(
     none: u32,
     ahead: &[u32],
@@ -74,7 +80,7 @@ fn fewest_links(
     at: usize,
 ) -> Read
     requires { ⌜ RanksReadable none (now ahead) (now behind) (now ranks) (now part) × (at ≤ length (now part)) ⌝ }
-    ensures { λ r. ⌜ AlternativeRanked (fewestIn none (now (ahead .entry)) (now (behind .entry)) (now (ranks .entry))) (now (part .entry)) at r ⌝ }
+    ensures { λ r. ⌜ AlternativeRanked (fewestIn none (now (ahead .entry)) (now (behind .entry)) (now (ranks .entry))) (lostIn none (now (ahead .entry)) (now (behind .entry)) (now (ranks .entry))) (now (part .entry)) at r ⌝ }
 {
     let mut floor = 0;
     let mut best = none;
@@ -84,34 +90,40 @@ fn fewest_links(
         if !is_entry(w) {
             return Read {
                 value: best,
-                next: i,
+                ended: i,
             };
         }
         let t = traits_of(none, ahead, behind, ranks, w);
+        if !(t.ahead | t.behind | (t.rank < none)) {
+            return Read {
+                value: none,
+                ended: i,
+            };
+        }
         best = least(choose(t.behind, best, none), greatest(t.rank, floor));
         floor = choose(t.ahead, floor, none);
         i += 1;
     }
 }
 
-// Whether all entries that stand from index `at` on have a rank: 0 where they do. After the first without one the others are passed over.
+// Whether all entries that stand from index `at` on have a rank: 0 where they do. The walk ends at the first without one.
 fn all_ranked(none: u32, ranks: &[u32], part: &[u32], at: usize) -> Read
     requires { ⌜ Rankable none (now ranks) (now part) × (at ≤ length (now part)) ⌝ }
-    ensures { λ r. ⌜ AlternativeRanked (everyIn none (now (ranks .entry))) (now (part .entry)) at r ⌝ }
+    ensures { λ r. ⌜ AlternativeRanked (everyIn none (now (ranks .entry))) (lacksIn none (now (ranks .entry))) (now (part .entry)) at r ⌝ }
 {
     let mut i = at;
     loop {
         let w = word_at(part, i);
         if !is_entry(w) {
-            return Read { value: 0, next: i };
+            return Read { value: 0, ended: i };
         }
-        i += 1;
         if !passes(none, ranks, w) {
             return Read {
                 value: none,
-                next: entries_end(part, i),
+                ended: i,
             };
         }
+        i += 1;
     }
 }
 
@@ -125,7 +137,7 @@ pub fn read_alternative(
     at: usize,
 ) -> Read
     requires { ⌜ RanksReadable (q .none) (now ahead) (now behind) (now ranks) (now part) × (at ≤ length (now part)) ⌝ }
-    ensures { λ r. ⌜ AlternativeRanked (lookIn q (now (ahead .entry)) (now (behind .entry)) (now (ranks .entry))) (now (part .entry)) at r ⌝ }
+    ensures { λ r. ⌜ AlternativeRanked (lookIn q (now (ahead .entry)) (now (behind .entry)) (now (ranks .entry))) (deadIn q (now (ahead .entry)) (now (behind .entry)) (now (ranks .entry))) (now (part .entry)) at r ⌝ }
 {
     if q.mark == UNTOUCHED_MARK {
         return greatest_depth(q.none, ranks, part, at);
@@ -146,7 +158,8 @@ fn lower(r: u32, value: u32) -> u32
     r
 }
 
-// The rank lowered by the alternatives that stand from index `at` on, up to the next sequence. A sequence has no rank below 1.
+// The rank lowered by the alternatives that stand from index `at` on, up to the next sequence, past the entries that a walk has left. A
+// sequence has no rank below 1.
 pub fn lowered_rank(
     q: Asked,
     ahead: &[u32],
@@ -161,16 +174,16 @@ pub fn lowered_rank(
 {
     let mut r = rank;
     let mut i = at;
-    while 1 < r {
+    loop {
         let w = word_at(part, i);
         i += 1;
-        if is_kind(KIND_ALTERNATIVE, w) {
+        if !is_entry(w) {
+            if (r <= 1) | !is_kind(KIND_ALTERNATIVE, w) {
+                return r;
+            }
             let found = read_alternative(q, ahead, behind, ranks, part, i);
             r = lower(r, found.value);
-            i = found.next;
-        } else if !is_entry(w) {
-            break;
+            i = found.ended;
         }
     }
-    r
 }

@@ -27,7 +27,7 @@ row-at-requires : tie.Need-row-at-requires
 row-at-requires c κs =
     let kinds = c .before .before in
     let start = kinds .before .before .before in
-    rw (c .payload-of .ensures) (start .pre .0 .0 (eqb-true (kind (start .args .w)) 8 (sym (kinds .is-kind .ensures) ∙ c .before .if1 .taken)))
+    rw (c .payload-of .ensures) (start .pre .0 .step (eqb-true (kind (start .args .w)) 8 (sym (kinds .is-kind .ensures) ∙ c .before .if1 .taken)))
 
 returns : tie.Need-returns
 returns c =
@@ -47,7 +47,7 @@ row-at-requires-2 c κs =
     let kinds = c .before .before in
     let start = kinds .before .before .before in
     rw (c .payload-of2 .ensures)
-    (start .pre .0 .1
+    (start .pre .0 .sequence
     (entry-kinds (start .args .w) (start .pre .1) (eqb-false (kind (start .args .w)) 8 (sym (kinds .is-kind .ensures) ∙ c .before .if1 .left))))
 
 returns-2 : tie.Need-returns-2

@@ -1,24 +1,27 @@
 -- `outcome::read::read_alternative` meets its contract: what is joined so far, with the entries to come, is the whole alternative.
 -- Assumes nothing.
 use borrow.Author.Needs.{needs}
-use borrow.Author.Tests.{not-true, not-false}
+use borrow.Author.Tests.{not-true, not-false, lt-ltb}
 use native.Mathlib.Omega.{arith}
 use mathlib.Core.Path.{_≡_, refl, sym, ap, _∙_}
-use mathlib.Core.Bool.{true}
-use Prim.Native.Nat.{_+_, _-_}
+use mathlib.Core.Bool.{Bool, true, not}
+use Prim.Native.Nat.{ℕ, _-_, _<_}
 use lib.ListN.{length, getD, drop}
+use lib.Dec.{ltb}
 use Rattle.image.specs.Word.{isEntry}
 use Rattle.library.specs.Library.{entriesFrom}
-use Rattle.library.proofs.Walking.{tested, Folding, folding-start, folding-inside, folding-turn, folding-out, folding-end}
+use Rattle.library.specs.Walk.{entryOf}
+use Rattle.library.proofs.Walking.{tested, folding-inside, folding-out, Leaving, leaving-start, leaving-turn, leaving-dead, leaving-rest, leaving-out}
 use Rattle.row.specs.Words.{startRow, liveRow}
-use Rattle.outcome.specs.Walks.{joinedFrom}
-use Rattle.outcome.proofs.Walks.{dead-fold}
+use Rattle.row.specs.declared.words.Row.{Row}
+use Rattle.outcome.specs.Walks.{isDead, entryIn, joinedFrom}
+use Rattle.outcome.proofs.Walks.{dead-entry, dead-is}
 use Rattle.outcome.proofs.read.read_alternative.Statement.{statement}
 use Rattle.outcome.proofs.read.read_alternative.Tie as tie
 
 abbrev Inv-loop : tie.InvT-loop
 Inv-loop all steps table part at x₀ i₀ x i =
-    Folding part (joinedFrom steps table (startRow all) (entriesFrom (drop at part))) at (joinedFrom steps table x) i
+    Leaving part (joinedFrom steps table (startRow all) (entriesFrom (drop at part))) (isDead table) at (joinedFrom steps table x) i
 
 abbrev μ-loop : tie.MeasureT-loop
 μ-loop all steps table part at x₀ i₀ x i = length part - i
@@ -28,11 +31,35 @@ entry : (c : tie.Else1 Inv-loop μ-loop)
     → isEntry (getD (c .before .before .before .before .before .before .before .before .args .part .now) (c .before .before .before .loop .i) 0) ≡ true
 entry c = tested isEntry (c .before .before .word-at .ensures) (c .before .is-entry .ensures) (not-false _ (c .if1 .left))
 
+-- it is one of the words
+inside : (c : tie.Else1 Inv-loop μ-loop)
+    → c .before .before .before .loop .i < length (c .before .before .before .before .before .before .before .before .args .part .now)
+inside c = folding-inside (c .before .before .before .loop .inv .folding) (entry c)
+
+-- its row
+row-is : (c : tie.After-entry-row Inv-loop μ-loop)
+    → let start = c .before .before .before .before .before .before .before .before .before in
+    c .entry-row .result ≡ entryIn (start .args .steps .now) (start .args .table .now) (entryOf (getD (start .args .part .now) (c .before .before .before .before .loop .i) 0))
+row-is c =
+    let a = c .before .before .before .before .before .before .before .before .before .args in
+    c .entry-row .ensures ∙ ap (λ (w : ℕ). entryIn (a .steps .now) (a .table .now) (entryOf w)) (c .before .before .before .word-at .ensures)
+
+-- whether it is dead, by its row
+dead : (c : tie.After-entry-row Inv-loop μ-loop) (b : Bool) → not (ltb 0 (c .entry-row .result .run)) ≡ b
+    → let start = c .before .before .before .before .before .before .before .before .before in
+    isDead (start .args .table .now) (entryOf (getD (start .args .part .now) (c .before .before .before .before .loop .i) 0)) ≡ b
+dead c b told =
+    let at-loop = c .before .before .before .before in
+    let start = at-loop .before .before .before .before .before in
+    dead-is (start .args .steps .now) (start .args .table .now) (getD (start .args .part .now) (at-loop .loop .i) 0)
+    (start .pre .0 (at-loop .loop .i) (inside (c .before))) (entry (c .before))
+    ∙ ap (λ (r : Row). not (ltb 0 (r .run))) (sym (row-is c)) ∙ told
+
 start-requires : tie.Need-start-requires Inv-loop μ-loop
 start-requires c κs = search needs
 
 loop-holds : tie.Need-loop-holds Inv-loop μ-loop
-loop-holds c = rw (c .start .ensures) (folding-start (c .before .before .before .before .pre .1) refl)
+loop-holds c = rw (c .start .ensures) (leaving-start (c .before .before .before .before .pre .1) refl)
 
 word-at-requires : tie.Need-word-at-requires Inv-loop μ-loop
 word-at-requires c κs = search needs
@@ -49,53 +76,47 @@ returns c =
     let word = c .before .before .before in
     let here = word .before .loop .inv in
     let e = tested isEntry (word .word-at .ensures) (c .before .before .is-entry .ensures) (not-true _ (c .before .if1 .taken)) in
-    record { row = c .live .ensures ∙ ap liveRow (folding-out here e); next = folding-end here e }
+    record { row = c .live .ensures ∙ ap liveRow (folding-out (here .folding) e); ended = leaving-out here e }
 
 entry-row-requires : tie.Need-entry-row-requires Inv-loop μ-loop
 entry-row-requires c κs =
     let at-loop = c .before .before .before in
-    rw (c .before .before .word-at .ensures)
-    (at-loop .before .before .before .before .before .pre .0 (at-loop .loop .i) (folding-inside (at-loop .loop .inv) (entry c)), entry c)
+    rw (c .before .before .word-at .ensures) (at-loop .before .before .before .before .before .pre .0 (at-loop .loop .i) (inside c), entry c)
+
+none-requires : tie.Need-none-requires Inv-loop μ-loop
+none-requires c κs = search needs
+
+returns-2 : tie.Need-returns-2 Inv-loop μ-loop
+returns-2 c =
+    let left = c .before in
+    let row = left .before .before in
+    let test = row .before in
+    let here = test .before .before .before .loop .inv in
+    record {
+      row =
+          c .none .ensures ∙ sym (dead-entry _ _ _ _ _ (ap (λ (r : Row). r .run) (sym (row-is row)) ∙ left .if2 .taken))
+          ∙ ap liveRow (leaving-rest here (entry test));
+      ended = leaving-dead here (entry test) (dead row _ (ap (λ (n : ℕ). not (ltb 0 n)) (left .if2 .taken)));
+    }
 
 joined-requires : tie.Need-joined-requires Inv-loop μ-loop
 joined-requires c κs = search needs
 
 add-i : tie.Need-add-i Inv-loop μ-loop
 add-i c =
-    let test = c .before .before in
-    let at-loop = test .before .before .before in
-    omega (arith, at-loop .before .before .before .before .before .good, folding-inside (at-loop .loop .inv) (entry test))
-
-none-requires : tie.Need-none-requires Inv-loop μ-loop
-none-requires c κs = search needs
-
--- the entry is joined to those before it
-turn : (c : tie.After-joined Inv-loop μ-loop)
-    → let start = c .before .before .before .before .before .before .before .before .before .before in
-    Folding (start .args .part .now) (joinedFrom (start .args .steps .now) (start .args .table .now) (startRow (start .args .all)) (entriesFrom (drop (start .args .at) (start .args .part .now))))
-    (start .args .at) (joinedFrom (start .args .steps .now) (start .args .table .now) (c .joined .result)) (c .before .before .before .before .before .loop .i + 1)
-unfolding joinedFrom
-turn c =
-    let test = c .before .before in
-    rw (c .joined .ensures, c .before .entry-row .ensures, test .before .before .word-at .ensures)
-    (folding-turn (test .before .before .before .loop .inv) (entry test) refl)
-
-entries-end-requires : tie.Need-entries-end-requires Inv-loop μ-loop
-entries-end-requires c κs = turn (c .before .before .before) .within
-
-returns-2 : tie.Need-returns-2 Inv-loop μ-loop
-returns-2 c =
-    let dead = c .before .before in
-    let read = turn (dead .before .before) in
-    record { row = c .before .none .ensures ∙ sym (dead-fold _ _ _ _ (dead .if2 .taken)) ∙ ap liveRow (read .same); next = c .entries-end .ensures ∙ read .ends }
+    let test = c .before .before .before .before in
+    omega (arith, test .before .before .before .before .before .before .before .before .good, inside test)
 
 loop-less : tie.Need-loop-less Inv-loop μ-loop
-loop-less c =
-    let test = c .before .before .before .before in
-    omega (arith, folding-inside (test .before .before .before .loop .inv) (entry test))
+loop-less c = omega (arith, inside (c .before .before .before .before))
 
 loop-again : tie.Need-loop-again Inv-loop μ-loop
-loop-again c = turn (c .before .before)
+unfolding joinedFrom
+loop-again c =
+    let row = c .before .before .before in
+    let test = row .before in
+    rw (c .joined .ensures, row-is row)
+    (leaving-turn (test .before .before .before .loop .inv) (entry test) (dead row _ (ap not (lt-ltb 0 (row .entry-row .result .run) (omega (arith, c .before .if2 .left))))) refl)
 
 pub read-alternative-spec : {M : Type 1} → statement M
 read-alternative-spec =
@@ -110,10 +131,9 @@ read-alternative-spec =
     live-requires
     returns
     entry-row-requires
+    none-requires
+    returns-2
     joined-requires
     add-i
-    none-requires
-    entries-end-requires
-    returns-2
     loop-less
     loop-again)

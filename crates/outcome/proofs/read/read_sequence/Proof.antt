@@ -4,14 +4,14 @@ use borrow.Author.Needs.{needs}
 use borrow.Author.Tests.{not-true, not-false}
 use native.Mathlib.Omega.{arith}
 use mathlib.Core.Path.{_≡_, refl}
-use mathlib.Core.Bool.{true, false}
+use mathlib.Core.Bool.{true}
 use Prim.Native.Nat.{_-_}
 use lib.ListN.{length, getD, drop}
 use Rattle.image.specs.Word.{isKind, isEntry}
 use Rattle.library.specs.Library.{alternativesFrom}
-use Rattle.library.proofs.Walking.{tested, Walking, walking-start, walking-opener-inside, walking-turn, walking-skip, walking-entry-inside, walking-out}
+use Rattle.library.proofs.Walking.{tested, Walking, walking-start, walking-opener-inside, walking-turn, walking-pass, walking-entry-inside, walking-out}
 use Rattle.row.specs.Words.{noRow}
-use Rattle.outcome.specs.Walks.{unitedFrom}
+use Rattle.outcome.specs.Walks.{isDead, unitedFrom}
 use Rattle.outcome.proofs.Walks.{uniting-empties}
 use Rattle.outcome.proofs.read.read_sequence.Statement.{statement}
 use Rattle.outcome.proofs.read.read_sequence.Tie as tie
@@ -22,14 +22,15 @@ Inv-loop all steps table part at x₀ i₀ x i = Walking part (unitedFrom all st
 abbrev μ-loop : tie.MeasureT-loop
 μ-loop all steps table part at x₀ i₀ x i = length part - i
 
--- an alternative is opened there, or not
-opener : (c : tie.Then1 Inv-loop μ-loop)
-    → isKind 7 (getD (c .before .before .before .before .before .before .before .before .args .part .now) (c .before .before .before .loop .i) 0) ≡ true
-opener c = tested (isKind 7) (c .before .before .word-at .ensures) (c .before .is-kind .ensures) (c .if1 .taken)
+-- an alternative is opened there
+opener : (c : tie.Else2 Inv-loop μ-loop)
+    → isKind 7 (getD (c .before .before .before .before .before .before .before .before .before .before .args .part .now) (c .before .before .before .before .before .loop .i) 0) ≡ true
+opener c = tested (isKind 7) (c .before .before .before .before .word-at .ensures) (c .before .is-kind .ensures) (not-false _ (c .if2 .left))
 
-other : (c : tie.Else1 Inv-loop μ-loop)
-    → isKind 7 (getD (c .before .before .before .before .before .before .before .before .args .part .now) (c .before .before .before .loop .i) 0) ≡ false
-other c = tested (isKind 7) (c .before .before .word-at .ensures) (c .before .is-kind .ensures) (c .if1 .left)
+-- an entry that a walk has left stands there
+entry : (c : tie.Else1 Inv-loop μ-loop)
+    → isEntry (getD (c .before .before .before .before .before .before .before .before .args .part .now) (c .before .before .before .loop .i) 0) ≡ true
+entry c = tested isEntry (c .before .before .word-at .ensures) (c .before .is-entry .ensures) (not-false _ (c .if1 .left))
 
 none-requires : tie.Need-none-requires Inv-loop μ-loop
 none-requires c κs = search needs
@@ -43,19 +44,30 @@ word-at-requires c κs = search needs
 add-i : tie.Need-add-i Inv-loop μ-loop
 add-i c = let at-loop = c .before in omega (arith, at-loop .loop .inv .within, at-loop .before .before .before .before .before .good)
 
+is-entry-requires : tie.Need-is-entry-requires Inv-loop μ-loop
+is-entry-requires c κs = search needs
+
 is-kind-requires : tie.Need-is-kind-requires Inv-loop μ-loop
 is-kind-requires c κs = search needs
+
+returns : tie.Need-returns Inv-loop μ-loop
+unfolding unitedFrom
+returns c =
+    let test = c .before .before in
+    let word = test .before .before in
+    walking-out (word .before .loop .inv) (tested (isKind 7) (word .word-at .ensures) (c .before .is-kind .ensures) (not-true _ (c .if2 .taken)))
+    (tested isEntry (word .word-at .ensures) (test .before .is-entry .ensures) (not-true _ (test .if1 .taken)))
 
 word-at-requires-2 : tie.Need-word-at-requires-2 Inv-loop μ-loop
 word-at-requires-2 c κs = search needs
 
-is-entry-requires : tie.Need-is-entry-requires Inv-loop μ-loop
-is-entry-requires c κs = search needs
+is-entry-requires-2 : tie.Need-is-entry-requires-2 Inv-loop μ-loop
+is-entry-requires-2 c κs = search needs
 
 read-alternative-requires : tie.Need-read-alternative-requires Inv-loop μ-loop
 read-alternative-requires c κs =
     let test = c .before .before .before in
-    let at-loop = test .before .before .before in
+    let at-loop = test .before .before .before .before .before in
     (at-loop .before .before .before .before .before .pre .0, omega (arith, walking-opener-inside (at-loop .loop .inv) (opener test)))
 
 united-requires : tie.Need-united-requires Inv-loop μ-loop
@@ -65,15 +77,17 @@ loop-less : tie.Need-loop-less Inv-loop μ-loop
 loop-less c =
     let read = c .before .before in
     let test = read .before .before .before .before in
-    omega (arith, read .read-alternative .ensures .next, walking-opener-inside (test .before .before .before .loop .inv) (opener test))
+    omega (arith, read .read-alternative .ensures .ended, walking-opener-inside (test .before .before .before .before .before .loop .inv) (opener test))
 
 loop-again : tie.Need-loop-again Inv-loop μ-loop
 unfolding unitedFrom
 loop-again c =
     let read = c .before .before in
     let test = read .before .before .before .before in
+    let at-loop = test .before .before .before .before .before in
+    let a = at-loop .before .before .before .before .before .args in
     rw (c .united .ensures, read .read-alternative .ensures .row)
-    (walking-turn (test .before .before .before .loop .inv) (opener test) (read .read-alternative .ensures .next) refl)
+    (walking-turn (at-loop .loop .inv) (isDead (a .table .now)) (opener test) (read .read-alternative .ensures .ended) refl)
 
 start-requires : tie.Need-start-requires Inv-loop μ-loop
 start-requires c κs = search needs
@@ -87,12 +101,12 @@ united-requires-2 c κs = search needs
 empties-end-requires : tie.Need-empties-end-requires Inv-loop μ-loop
 empties-end-requires c κs =
     let test = c .before .before .before .before .before .before in
-    omega (arith, walking-opener-inside (test .before .before .before .loop .inv) (opener test))
+    omega (arith, walking-opener-inside (test .before .before .before .before .before .loop .inv) (opener test))
 
 loop-less-2 : tie.Need-loop-less-2 Inv-loop μ-loop
 loop-less-2 c =
     let test = c .before .before .before .before .before .before .before in
-    omega (arith, c .empties-end .ensures .low, walking-opener-inside (test .before .before .before .loop .inv) (opener test))
+    omega (arith, c .empties-end .ensures .low, walking-opener-inside (test .before .before .before .before .before .loop .inv) (opener test))
 
 loop-again-2 : tie.Need-loop-again-2 Inv-loop μ-loop
 loop-again-2 c =
@@ -101,29 +115,19 @@ loop-again-2 c =
     let word = none .before .before in
     let test = word .before in
     rw (c .before .united2 .ensures, live .live .ensures, live .before .start .ensures)
-    (uniting-empties _ _ _ _ (test .before .before .before .loop .inv) (opener test)
-    (tested isEntry (word .word-at2 .ensures) (none .before .is-entry .ensures) (none .if2 .left)) (c .empties-end .ensures))
+    (uniting-empties _ _ _ _ (test .before .before .before .before .before .loop .inv) (opener test)
+    (tested isEntry (word .word-at2 .ensures) (none .before .is-entry2 .ensures) (none .if3 .left)) (c .empties-end .ensures))
 
-is-entry-requires-2 : tie.Need-is-entry-requires-2 Inv-loop μ-loop
-is-entry-requires-2 c κs = search needs
-
-returns : tie.Need-returns Inv-loop μ-loop
-unfolding unitedFrom
-returns c =
-    let word = c .before .before .before .before in
-    walking-out (word .before .loop .inv) (other (c .before .before))
-    (tested isEntry (word .word-at .ensures) (c .before .is-entry2 .ensures) (not-true _ (c .if3 .taken)))
+rest-end-requires : tie.Need-rest-end-requires Inv-loop μ-loop
+rest-end-requires c κs = omega (arith, walking-entry-inside (c .before .before .before .loop .inv) (entry c))
 
 loop-less-3 : tie.Need-loop-less-3 Inv-loop μ-loop
 loop-less-3 c =
-    let word = c .before .before .before .before in
-    omega (arith, walking-entry-inside (word .before .loop .inv) (tested isEntry (word .word-at .ensures) (c .before .is-entry2 .ensures) (not-false _ (c .if3 .left))))
+    let test = c .before in
+    omega (arith, c .rest-end .ensures, walking-entry-inside (test .before .before .before .loop .inv) (entry test))
 
 loop-again-3 : tie.Need-loop-again-3 Inv-loop μ-loop
-loop-again-3 c =
-    let word = c .before .before .before .before in
-    walking-skip (word .before .loop .inv) (other (c .before .before))
-    (tested isEntry (word .word-at .ensures) (c .before .is-entry2 .ensures) (not-false _ (c .if3 .left)))
+loop-again-3 c = let test = c .before in walking-pass (test .before .before .before .loop .inv) (entry test) (c .rest-end .ensures)
 
 pub read-sequence-spec : {M : Type 1} → statement M
 read-sequence-spec =
@@ -135,9 +139,11 @@ read-sequence-spec =
     loop-holds
     word-at-requires
     add-i
-    is-kind-requires
-    word-at-requires-2
     is-entry-requires
+    is-kind-requires
+    returns
+    word-at-requires-2
+    is-entry-requires-2
     read-alternative-requires
     united-requires
     loop-less
@@ -148,7 +154,6 @@ read-sequence-spec =
     empties-end-requires
     loop-less-2
     loop-again-2
-    is-entry-requires-2
-    returns
+    rest-end-requires
     loop-less-3
     loop-again-3)
