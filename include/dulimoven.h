@@ -33,13 +33,13 @@ extern "C" {
  * number rises with every change of either, so that a program that was written
  * for one layout can tell. The version is 1,000 times the format, plus the
  * number of changes since that leave the format as it is, such as a new call, a
- * new refusal or another choice among chains.
+ * new refusal, another choice among chains, or calls that take less time.
  *
  * The numbers from here to the refusals are plain numbers and no enumerators,
  * since they are multiplied and added with one another.
  */
 #define DULIMOVEN_FORMAT 1
-#define DULIMOVEN_VERSION (DULIMOVEN_FORMAT * 1000 + 2)
+#define DULIMOVEN_VERSION (DULIMOVEN_FORMAT * 1000 + 3)
 
 /* How many words of 64 bits a card has, and how many of 32 bits a link. */
 #define DULIMOVEN_CARD_WORDS 7

@@ -4,6 +4,7 @@
  * call the image as it was. C11 and C++17. Prints a line for each word that
  * differs, then a count; the exit status is 0 where nothing differs.
  */
+#include "dead.h"
 #include "harness.h"
 #include "pulses.h"
 #include "samples.h"
@@ -235,6 +236,46 @@ static void columns(void)
     cards("fact 63 set and cleared", CARD, REFUSED(13, 6));
 }
 
+/* The libraries of dead.h. */
+static void dead(void)
+{
+    uint32_t left;
+
+    /* only <clear> gives sequence 0 a run, only <> one to 3, and only <3, 0>
+       one to 4, sequence 0's clear after nothing; 1 and 2 have none */
+    BUILD_DEAD(dead_places);
+    lend();
+    EXPECT(0, 0x101, 0, 0, 0, 1, 0, 1);
+    EXPECT(1, 0, 0, 0, 0, 0, 0, 0);
+    EXPECT(2, 0, 0, 0, 0, 0, 0, 0);
+    EXPECT(3, 3, 0, 0, 0, 0, 0, 0);
+    EXPECT(4, 0x101, 0, 0, 0, 1, 0, 1);
+    cards("dead places", 5 * CARD, 5);
+
+    /* sequence 3 has the runs <set> and <>; 0 and 2 have them by <3>, and 1 by
+       <0>. The only step sets. */
+    BUILD_DEAD(found_later);
+    lend();
+    EXPECT(0, 0x103, 0, 0, 1, 0, 0, 0);
+    EXPECT(1, 0x103, 0, 0, 1, 0, 0, 0);
+    EXPECT(2, 0x103, 0, 0, 1, 0, 0, 0);
+    EXPECT(3, 0x103, 0, 0, 1, 0, 0, 0);
+    cards("found later", 4 * CARD, 4);
+
+    /* sequences 0 and 2 have the run <clear> alone, 1 has none */
+    for (left = 0; left <= MOST_LEFT; left++) {
+        char name[64];
+        snprintf(name, sizeof name, "%u entries after a dead one",
+                 (unsigned)left);
+        build_left(left);
+        lend();
+        EXPECT(0, 0x101, 0, 0, 0, 1, 0, 1);
+        EXPECT(1, 0, 0, 0, 0, 0, 0, 0);
+        EXPECT(2, 0x101, 0, 0, 0, 1, 0, 1);
+        cards(name, 3 * CARD, 3);
+    }
+}
+
 /* All 64 facts set by 64 steps: the count is 64, in bits 8 to 14. */
 static void all_facts(void)
 {
@@ -298,6 +339,7 @@ int main(void)
     refusals();
     set_and_cleared();
     columns();
+    dead();
     all_facts();
     deep("each calls the next", 1);
     deep("each calls the one before", 0);

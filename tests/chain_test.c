@@ -8,6 +8,7 @@
  * Below, "set", "clear" and "need" are steps that do this to fact 0, "other" is
  * a step that does neither, and <..> is an alternative with its entries.
  */
+#include "dead.h"
 #include "harness.h"
 #include "pulses.h"
 #include "samples.h"
@@ -730,6 +731,96 @@ static void newest(void)
 }
 
 /*
+ * The libraries of dead.h, and every question of the first two. No step needs,
+ * so that question 3 has no chain.
+ */
+static void dead(void)
+{
+    uint32_t left;
+    uint64_t c;
+
+    /* sequence 0 has the run <clear> alone, by alternative 3: last cleared, and
+       untouched on the first side, where a clear is no touch */
+    BUILD_DEAD(dead_places);
+    none("dead places, 0, question 0", 0, 0, 0);
+    SHOWN("dead places, 0, question 1", 0, 1, 0, CHOICE(0, 3), AT(0));
+    none("dead places, 0, question 2", 0, 2, 0);
+    none("dead places, 0, question 3", 0, 3, 0);
+    none("dead places, 0, question 4", 0, 4, 0);
+    SHOWN("dead places, 0, question 5", 0, 5, 0, CHOICE(0, 3), UNTOUCHED);
+    all_none("dead places, 1", 1);
+    all_none("dead places, 2", 2);
+    /* 3 has the empty run alone, by alternative 1 */
+    none("dead places, 3, question 0", 3, 0, 0);
+    none("dead places, 3, question 1", 3, 1, 0);
+    SHOWN("dead places, 3, question 2", 3, 2, 0, CHOICE(3, 1), UNTOUCHED);
+    none("dead places, 3, question 3", 3, 3, 0);
+    none("dead places, 3, question 4", 3, 4, 0);
+    SHOWN("dead places, 3, question 5", 3, 5, 0, CHOICE(3, 1), UNTOUCHED);
+    /* 4 has sequence 3's run and then sequence 0's, by alternative 0: the clear
+       comes from the call at 1 */
+    none("dead places, 4, question 0", 4, 0, 0);
+    SHOWN("dead places, 4, question 1", 4, 1, 0, CHOICE(4, 0), AT(1),
+          CHOICE(0, 3), AT(0));
+    none("dead places, 4, question 2", 4, 2, 0);
+    none("dead places, 4, question 3", 4, 3, 0);
+    none("dead places, 4, question 4", 4, 4, 0);
+    SHOWN("dead places, 4, question 5", 4, 5, 0, CHOICE(4, 0), UNTOUCHED);
+
+    /* set, on either side alike: sequence 3 has 1 link, by <set>; 0 has 1, by
+       <1, set>, since 1 has a run, an untouched one too, and <3> has 2; 2 has
+       2, by <3>, and 1 has 2, by <0>, where <1> and <2, 2> have 3.
+       Untouched: 3 has depth 1, by <>; 0 and 2 have depth 2, by <3>, and of 2
+       <1> has depth 4; of 1 both have depth 3, so alternative 1. No step
+       clears. */
+    BUILD_DEAD(found_later);
+    SHOWN("found later, 0, question 0", 0, 0, 0, CHOICE(0, 0), AT(1));
+    SHOWN("found later, 0, question 2", 0, 2, 0, CHOICE(0, 1), UNTOUCHED);
+    SHOWN("found later, 0, question 4", 0, 4, 0, CHOICE(0, 0), AT(1));
+    SHOWN("found later, 0, question 5", 0, 5, 0, CHOICE(0, 1), UNTOUCHED);
+    SHOWN("found later, 1, question 0", 1, 0, 0, CHOICE(1, 1), AT(0),
+          CHOICE(0, 0), AT(1));
+    SHOWN("found later, 1, question 2", 1, 2, 0, CHOICE(1, 1), UNTOUCHED);
+    SHOWN("found later, 1, question 4", 1, 4, 0, CHOICE(1, 1), AT(0),
+          CHOICE(0, 0), AT(1));
+    SHOWN("found later, 1, question 5", 1, 5, 0, CHOICE(1, 1), UNTOUCHED);
+    SHOWN("found later, 2, question 0", 2, 0, 0, CHOICE(2, 0), AT(0),
+          CHOICE(3, 0), AT(0));
+    SHOWN("found later, 2, question 2", 2, 2, 0, CHOICE(2, 0), UNTOUCHED);
+    SHOWN("found later, 2, question 4", 2, 4, 0, CHOICE(2, 0), AT(0),
+          CHOICE(3, 0), AT(0));
+    SHOWN("found later, 2, question 5", 2, 5, 0, CHOICE(2, 0), UNTOUCHED);
+    SHOWN("found later, 3, question 0", 3, 0, 0, CHOICE(3, 0), AT(0));
+    SHOWN("found later, 3, question 2", 3, 2, 0, CHOICE(3, 1), UNTOUCHED);
+    SHOWN("found later, 3, question 4", 3, 4, 0, CHOICE(3, 0), AT(0));
+    SHOWN("found later, 3, question 5", 3, 5, 0, CHOICE(3, 1), UNTOUCHED);
+    for (c = 0; c < 4; c++) {
+        none("found later, question 1", c, 1, 0);
+        none("found later, question 3", c, 3, 0);
+    }
+
+    /* the clear of sequence 0 stands in alternative 1, that of 2 in 0, and no
+       other alternative has a run */
+    for (left = 0; left <= MOST_LEFT; left++) {
+        char name[64];
+        snprintf(name, sizeof name, "%u entries after a dead one",
+                 (unsigned)left);
+        build_left(left);
+        none(name, 0, 0, 0);
+        SHOWN(name, 0, 1, 0, CHOICE(0, 1), AT(0));
+        none(name, 0, 2, 0);
+        none(name, 0, 4, 0);
+        SHOWN(name, 0, 5, 0, CHOICE(0, 1), UNTOUCHED);
+        all_none(name, 1);
+        none(name, 2, 0, 0);
+        SHOWN(name, 2, 1, 0, CHOICE(2, 0), AT(0));
+        none(name, 2, 2, 0);
+        none(name, 2, 4, 0);
+        SHOWN(name, 2, 5, 0, CHOICE(2, 0), UNTOUCHED);
+    }
+}
+
+/*
  * As many sequences as there can be, each calling the next (`up`) or the one
  * before, the one at the end a step that needs and sets fact 0.
  */
@@ -862,6 +953,7 @@ int main(void)
     choices();
     untouched();
     newest();
+    dead();
     deep("each calls the next", 1);
     deep("each calls the one before", 0);
     longest();

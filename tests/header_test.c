@@ -21,9 +21,9 @@ static_assert(DULIMOVEN_CARD_WORDS + DULIMOVEN_MAY_SET == 10, "");
 /* the second word of the last link that there can be: 511 */
 static_assert(DULIMOVEN_MOST_CHAIN_WORDS - DULIMOVEN_LINK_WORDS + 1 == 511, "");
 
-/* format 1, and since then refusal 13, and ties to the newest alternative; a
-   preprocessor can tell */
+/* format 1, and since then refusal 13, ties to the newest alternative, and dead
+   alternatives that are left early; a preprocessor can tell */
 static_assert(DULIMOVEN_VERSION / 1000 == DULIMOVEN_FORMAT, "");
-#if DULIMOVEN_FORMAT != 1 || DULIMOVEN_VERSION != 1002
-#error "the format is 1, the version 1002"
+#if DULIMOVEN_FORMAT != 1 || DULIMOVEN_VERSION != 1003
+#error "the format is 1, the version 1003"
 #endif
