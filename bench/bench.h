@@ -11,7 +11,7 @@
 #include "../tests/second/second.h"
 #include "dulimoven.h"
 
-enum { CARD = DULIMOVEN_CARD_WORDS, SHAPES = 12, GROWTH = 6 };
+enum { CARD = DULIMOVEN_CARD_WORDS, SHAPES = 15, GROWTH = 6 };
 
 /* An image of the generator. */
 struct shape {

@@ -107,14 +107,21 @@ static void everyday(struct shape *shape, const char *name, uint32_t words)
     end();
 }
 
-static void random_words(struct shape *shape)
+/* 512 steps, of up to two needs, sets and clears each. */
+static void random_steps(void)
 {
-    uint32_t a, c;
-    size_t stop;
-    begin(shape, "random", 64, 512, 256);
+    uint32_t a;
     for (a = 0; a < 512; a++)
         step(a, some(below(3), 0, 64), some(below(3), 0, 64),
              some(below(3), 0, 64));
+}
+
+static void random_words(struct shape *shape)
+{
+    uint32_t c;
+    size_t stop;
+    begin(shape, "random", 64, 512, 256);
+    random_steps();
     for (c = 0; c < 256; c++) {
         stop = out->length + room() / (256 - c);
         put(KIND_SEQUENCE, c);
@@ -274,6 +281,48 @@ static void full_steps(struct shape *shape)
     end();
 }
 
+/*
+ * 8,191 words: 64 sequences, of which the last calls itself and is endless.
+ * Each other one has an alternative of one step, then alternatives of 40
+ * entries, of which the one at `place` calls the endless sequence, and last an
+ * alternative of steps. The other entries of the 40 are steps, or one time in
+ * eight a call of one of the 63.
+ */
+static void dead_alternatives(struct shape *shape, const char *name,
+                              uint32_t place)
+{
+    enum { WORDS = 8191, ENDLESS_WORDS = 3, LIVE = 63, ENTRIES = 40 };
+    uint32_t c, i;
+    size_t stop;
+    begin(shape, name, 64, 512, LIVE + 1);
+    random_steps();
+    for (c = 0; c < LIVE; c++) {
+        stop = out->length +
+               (WORDS - 1 - ENDLESS_WORDS - out->length) / (LIVE - c);
+        put(KIND_SEQUENCE, c);
+        put(KIND_ALTERNATIVE, 0);
+        put(KIND_STEP_ENTRY, below(512));
+        while (out->length + ENTRIES + 2 < stop) {
+            put(KIND_ALTERNATIVE, 0);
+            for (i = 0; i < ENTRIES; i++) {
+                if (i == place)
+                    put(KIND_SEQUENCE_ENTRY, LIVE);
+                else if (below(8) == 0)
+                    put(KIND_SEQUENCE_ENTRY, below(LIVE));
+                else
+                    put(KIND_STEP_ENTRY, below(512));
+            }
+        }
+        put(KIND_ALTERNATIVE, 0);
+        while (out->length < stop)
+            put(KIND_STEP_ENTRY, below(512));
+    }
+    put(KIND_SEQUENCE, LIVE);
+    put(KIND_ALTERNATIVE, 0);
+    put(KIND_SEQUENCE_ENTRY, LIVE);
+    end();
+}
+
 void write_shapes(struct shape shapes[SHAPES])
 {
     everyday(&shapes[0], "everyday", 200);
@@ -288,6 +337,9 @@ void write_shapes(struct shape shapes[SHAPES])
     empty_alternatives(&shapes[9]);
     calling(&shapes[10], "all endless", ENDLESS);
     full_steps(&shapes[11]);
+    dead_alternatives(&shapes[12], "dead at first entry", 0);
+    dead_alternatives(&shapes[13], "dead at middle entry", 20);
+    dead_alternatives(&shapes[14], "dead at last entry", 39);
 }
 
 void write_growth(struct shape shapes[GROWTH])
