@@ -124,7 +124,7 @@ module _ (L : Library) (q : Asked) (Q : Question) (masks : List ℕ) (asks : Ask
 -- ---- what a table says of an entry
 
 module _ (none past : ℕ) (test : Item → Bool) (T : List ℕ) (steps : StepsBy none past test T) where
-  rank-is : rankIn none past T ≡ entryRank none test (inRanks none T)
+  pub rank-is : rankIn none past T ≡ entryRank none test (inRanks none T)
   rank-is = fun-ext go
     where
       go : (e : Entry) → rankIn none past T e ≡ entryRank none test (inRanks none T) e

@@ -1,3 +1,4 @@
 pub mod Calls
 pub mod Describes
+pub mod Dead
 pub mod Finding

@@ -1,24 +1,30 @@
--- The words of a settled table are the outcome table's.
+-- The words of a settled table are the outcome table's, and its dead entries name the sequences without a run.
 -- Assumes nothing.
 use Prim.Native.Nat.{ℕ, zero, suc, _+_, _-_, _*_, _^_, _≤_, _<_}
 use native.Mathlib.Nat.{add-zero, zero-add, add-suc, suc-add}
 use native.Mathlib.Omega.{arith}
 use mathlib.Core.Path.{_≡_, refl, sym, ap, _∙_, subst}
+use mathlib.Core.Bool.{Bool, true, false, not}
 use mathlib.Core.List.{List, _∷_, _++_}
 use lib.ListN.{length, getD, drop, length-drop, take-append-drop, drop-of-length-le}
 use lib.Seq.{getD-drop}
-use lib.Dec.{eqb}
+use lib.Dec.{eqb, ltb}
+use lib.Pow.{pow-mono}
+use borrow.Author.Tests.{lt-ltb}
 use mir.Val.{boolByte}
-use Rattle.column.specs.Column.{bit}
-use Rattle.column.proofs.Bits.{bit-le, column-is}
-use Rattle.library.specs.Library.{Library}
+use Rattle.column.specs.Column.{bit, column}
+use Rattle.column.proofs.Bits.{bit-le, column-is, column-none}
+use Rattle.column.proofs.Operations.{column-all}
+use Rattle.library.specs.Library.{Library, Entry, item, call}
+use Rattle.library.specs.Walk.{namesNone}
 use Rattle.image.specs.declared.answer.Head.{Head}
 use Rattle.runs.specs.Touch.{Side, last, first, Mark, present, absent, untouched}
-use Rattle.runs.specs.Possible.{columnPossible}
+use Rattle.runs.specs.Possible.{columnPossible, hasRun}
 use Rattle.outcome.specs.Area.{outcomeWord, outcomeRows, outcomes}
 use Rattle.runs.specs.Rows.{columnNumber}
 use Rattle.row.specs.Words.{rowWords, allFacts, rowIn, wordsOf}
 use Rattle.settling.specs.Settling.{Reached, Settled}
+use Rattle.outcome.specs.Walks.{isDead}
 use Rattle.outcome.specs.Visited.{visited}
 use Rattle.row.specs.declared.words.Row.{Row}
 use Rattle.outcome.proofs.Low.{LowRow, none-low, reached-low}
@@ -56,6 +62,16 @@ bit-set : (x : ℕ) → x ≤ 1 → x ≡ boolByte (eqb x 1)
 bit-set zero l = refl
 bit-set (suc zero) l = refl
 bit-set (suc (suc x)) l = absurd (omega arith)
+
+-- a column in which all bits are alike
+column-some : (n : ℕ) → 1 ≤ n → (b : Bool) → ltb 0 (column n (λ (f : ℕ). b)) ≡ b
+column-some n some false = ap (ltb 0) (column-none n)
+column-some n some true = lt-ltb 0 (column n (λ (f : ℕ). true)) (omega (arith, column-all n, pow-mono {i = 1} {j = n} some))
+
+-- the column of runs says the same of all facts
+run-word : (L : Library) (c : ℕ) → outcomeWord L 0 c ≡ column (L .facts) (λ (f : ℕ). hasRun L c)
+unfolding outcomeWord
+run-word L c = refl
 
 -- a table of n rows by its words
 table-rows : (L : Library) (n c : ℕ) (t : List ℕ) → length t ≡ rowWords * n → ((i j : ℕ) → i < n → j < rowWords → getD t (rowWords * i + j) 0 ≡ outcomeWord L j (c + i))
@@ -99,3 +115,10 @@ module _ (L : Library) (h : Head) (steps part places : List ℕ) (given : Given 
   table-filled =
       table-rows L (length (L .sequences)) 0 t (omega (arith, reached-length (visits-lower (allFacts (L .facts)) steps part places (h .sequences)) reached, given .sequences))
       (λ i j l k. word-is i j k ∙ ap (outcomeWord L j) (sym (zero-add i)))
+
+  -- an entry is dead exactly where it names a sequence without a run
+  pub settled-dead : 1 ≤ L .facts → (e : Entry) → isDead t e ≡ namesNone (λ d. hasRun L d) e
+  settled-dead some (item a) = refl
+  settled-dead some (call d) =
+      ap (λ (n : ℕ). not (ltb 0 n)) (ap (λ (k : ℕ). getD t k 0) (sym (add-zero (rowWords * d))) ∙ word-is d 0 (omega arith) ∙ run-word L d)
+      ∙ ap not (column-some (L .facts) some (hasRun L d))
