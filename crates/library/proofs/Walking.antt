@@ -17,7 +17,7 @@ use Rattle.general.proofs.Bools.{and-parts}
 use Rattle.general.proofs.Scan.{first-le}
 use Rattle.image.specs.Word.{isKind, isEntry}
 use Rattle.library.specs.Library.{Entry, Alternative, entryAt, entriesFrom, alternativesFrom}
-use Rattle.library.specs.Walk.{entryOf, entriesEnd, EntriesPassed, walkEnd}
+use Rattle.library.specs.Walk.{entryOf, entriesEnd, walkEnd}
 use Rattle.library.proofs.Decode.{entry-opens-none, entries-nil, entries-cons, entries-short, alternatives-nil, alternatives-cons}
 
 -- what a test says of the word at an index, by the word that was read there
@@ -156,7 +156,10 @@ module _ (part : List ℕ) (at : ℕ) where
     pub walk-next : isEntry (getD part at 0) ≡ true → dead (entryOf (getD part at 0)) ≡ false → walkEnd dead part (at + 1) ≡ walkEnd dead part at
     walk-next e told = sym (walk-entry false e told)
 
--- entries passed by fours
+-- the words from index `at` up to i are entries, passed by fours
+pub record EntriesPassed (part : List ℕ) (at i : ℕ) : Type 0 where
+  pub within : i ≤ length part
+  pub ends : entriesEnd part i ≡ entriesEnd part at
 
 pub passed-start : {part : List ℕ} {at : ℕ} → at ≤ length part → EntriesPassed part at at
 passed-start l = record { within = l; ends = refl }

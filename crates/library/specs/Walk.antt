@@ -18,11 +18,6 @@ entryOf w = cond (isKind 8 w) (item (step (payload w))) (call (payload w))
 abbrev pub entriesEnd : List ℕ → ℕ → ℕ
 entriesEnd part at = at + length (entriesFrom (drop at part))
 
--- from index `at` up to i all words are entries
-pub record EntriesPassed (part : List ℕ) (at i : ℕ) : Type 0 where
-  pub within : i ≤ length part
-  pub ends : entriesEnd part i ≡ entriesEnd part at
-
 -- "names a sequence not found to have one", by what is found of the sequences
 abbrev pub namesNone : (ℕ → Bool) → Entry → Bool
 namesNone found (item a) = false

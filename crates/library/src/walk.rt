@@ -8,7 +8,7 @@ ghost use mathlib.Core.Bool.{cond, _&&_};
 ghost use Prim.Native.Nat.{_≤_};
 ghost use lib.ListN.{length, getD};
 ghost use Rattle.image.specs.Word.{mostWords, isEntry};
-ghost use Rattle.library.specs.Walk.{entriesEnd, EntriesPassed, AllBefore, openerBefore};
+ghost use Rattle.library.specs.Walk.{entriesEnd, AllBefore, openerBefore};
 
 // How many alternatives a sequence has, and the index of the last one's opener.
 pub struct Alternatives {
@@ -49,27 +49,19 @@ fn four_entries(a: u32, b: u32, c: u32, d: u32) -> bool
     first & second & third & fourth
 }
 
-// Passes entries by fours, from index `at` on.
-fn pass_entries(part: &[u32], at: usize) -> usize
-    requires { ⌜ at ≤ length (now part) ⌝ }
-    ensures { λ r. ⌜ EntriesPassed (now (part .entry)) at r ⌝ }
-{
-    let mut i = at;
-    while AT_ONCE <= part.len() - i {
-        if !four_entries(part[i], part[i + 1], part[i + 2], part[i + 3]) {
-            return i;
-        }
-        i += AT_ONCE;
-    }
-    i
-}
-
-// The same where a walk has left many entries.
+// The same by fours, where a walk has left many entries.
 pub fn rest_end(part: &[u32], at: usize) -> usize
     requires { ⌜ at ≤ length (now part) ⌝ }
     ensures { λ r. ⌜ r ≡ entriesEnd (now (part .entry)) at ⌝ }
 {
-    entries_end(part, pass_entries(part, at))
+    let mut i = at;
+    while AT_ONCE <= part.len() - i {
+        if !four_entries(part[i], part[i + 1], part[i + 2], part[i + 3]) {
+            return entries_end(part, i);
+        }
+        i += AT_ONCE;
+    }
+    entries_end(part, i)
 }
 
 // The index where the test holds, otherwise the other one.

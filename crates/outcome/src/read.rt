@@ -40,6 +40,16 @@ fn entry_row(steps: &[u64], table: &[u64], w: u32) -> Row
     row_at(table, payload_of(w) as usize)
 }
 
+// What is answered where a walk is left at a dead entry: nothing is possible.
+fn left_at(i: usize) -> Read
+    ensures { λ r. ⌜ (r .row ≡ noRow) × (r .ended ≡ i) ⌝ }
+{
+    Read {
+        row: none(),
+        ended: i,
+    }
+}
+
 // Reads the entries that stand from index `at` on. The walk ends at the first that names a sequence not found to have a run: nothing further can
 // count. A step has one, so its row passes the same test.
 fn read_alternative(all: u64, steps: &[u64], table: &[u64], part: &[u32], at: usize) -> Read
@@ -58,10 +68,7 @@ fn read_alternative(all: u64, steps: &[u64], table: &[u64], part: &[u32], at: us
         }
         let y = entry_row(steps, table, w);
         if y.run == 0 {
-            return Read {
-                row: none(),
-                ended: i,
-            };
+            return left_at(i);
         }
         x = joined(x, y);
         i += 1;

@@ -83,8 +83,8 @@ entry-row-requires c κs =
     let at-loop = c .before .before .before in
     rw (c .before .before .word-at .ensures) (at-loop .before .before .before .before .before .pre .0 (at-loop .loop .i) (inside c), entry c)
 
-none-requires : tie.Need-none-requires Inv-loop μ-loop
-none-requires c κs = search needs
+left-at-requires : tie.Need-left-at-requires Inv-loop μ-loop
+left-at-requires c κs = search needs
 
 returns-2 : tie.Need-returns-2 Inv-loop μ-loop
 returns-2 c =
@@ -94,9 +94,9 @@ returns-2 c =
     let here = test .before .before .before .loop .inv in
     record {
       row =
-          c .none .ensures ∙ sym (dead-entry _ _ _ _ _ (ap (λ (r : Row). r .run) (sym (row-is row)) ∙ left .if2 .taken))
+          c .left-at .ensures .0 ∙ sym (dead-entry _ _ _ _ _ (ap (λ (r : Row). r .run) (sym (row-is row)) ∙ left .if2 .taken))
           ∙ ap liveRow (leaving-rest here (entry test));
-      ended = leaving-dead here (entry test) (dead row _ (ap (λ (n : ℕ). not (ltb 0 n)) (left .if2 .taken)));
+      ended = c .left-at .ensures .1 ∙ leaving-dead here (entry test) (dead row _ (ap (λ (n : ℕ). not (ltb 0 n)) (left .if2 .taken)));
     }
 
 joined-requires : tie.Need-joined-requires Inv-loop μ-loop
@@ -131,7 +131,7 @@ read-alternative-spec =
     live-requires
     returns
     entry-row-requires
-    none-requires
+    left-at-requires
     returns-2
     joined-requires
     add-i

@@ -1,4 +1,4 @@
--- `library::walk::pass_entries` meets its contract: the words that were passed are entries.
+-- `library::walk::rest_end` meets its contract: the words that were passed are entries.
 -- Assumes nothing.
 use borrow.Author.Needs.{needs}
 use borrow.Author.Tests.{not-false}
@@ -6,12 +6,12 @@ use native.Mathlib.Omega.{arith}
 use mathlib.Core.Path.{sym, _∙_}
 use Prim.Native.Nat.{_-_}
 use lib.ListN.{length}
-use Rattle.library.specs.Walk.{EntriesPassed}
-use Rattle.library.proofs.Walking.{passed-start, passed-four}
-use Rattle.library.proofs.walk.pass_entries.Statement.{statement}
-use Rattle.library.proofs.walk.pass_entries.Tie as tie
-use Rattle.library.proofs.walk.pass_entries.Reads as reads
-use Rattle.library.proofs.walk.pass_entries.Lts as lts
+use Rattle.library.proofs.Walking.{EntriesPassed, passed-start, passed-four}
+use Rattle.library.proofs.walk.rest_end.Statement.{statement}
+use Rattle.library.proofs.walk.rest_end.Tie as tie
+use Rattle.library.proofs.walk.rest_end.Reads as reads
+use Rattle.library.proofs.walk.rest_end.Lts as lts
+use Rattle.library.proofs.walk.entries_end.Reads as entries-end-reads
 use Rattle.library.proofs.walk.four_entries.Reads as four-entries-reads
 
 abbrev Inv-loop : tie.InvT-loop
@@ -62,8 +62,11 @@ shared-slice-read-four-entries-4 c = search needs
 four-entries-requires : tie.Need-four-entries-requires Inv-loop μ-loop
 four-entries-requires c κs = search needs
 
+entries-end-requires : tie.Need-entries-end-requires Inv-loop μ-loop
+entries-end-requires c κs = search needs
+
 returns : tie.Need-returns Inv-loop μ-loop
-returns c = c .before .before .before .before .before .before .before .loop .inv
+returns c = c .entries-end .ensures ∙ c .before .before .before .before .before .before .before .before .loop .inv .ends
 
 add-i : tie.Need-add-i Inv-loop μ-loop
 add-i c = search needs
@@ -78,11 +81,14 @@ loop-again c =
     passed-four (test .before .loop .inv) (omega (arith, test .loop-test .taken, test .before .loop .inv .within))
     (sym (four .four-entries .ensures) ∙ not-false _ (c .if1 .left))
 
-returns-2 : tie.Need-returns-2 Inv-loop μ-loop
-returns-2 c = c .before .loop .inv
+entries-end-requires-2 : tie.Need-entries-end-requires-2 Inv-loop μ-loop
+entries-end-requires-2 c κs = search needs
 
-pub pass-entries-spec : {M : Type 1} → statement M
-pass-entries-spec =
+returns-2 : tie.Need-returns-2 Inv-loop μ-loop
+returns-2 c = c .entries-end2 .ensures ∙ c .before .before .loop .inv .ends
+
+pub rest-end-spec : {M : Type 1} → statement M
+rest-end-spec =
     tie.close
     (tie.spec
     Inv-loop
@@ -101,8 +107,10 @@ pass-entries-spec =
     mul-four-entries-4
     shared-slice-read-four-entries-4
     four-entries-requires
+    entries-end-requires
     returns
     add-i
     loop-less
     loop-again
+    entries-end-requires-2
     returns-2)
