@@ -101,21 +101,18 @@ pub fn read_sequence(all: u64, steps: &[u64], table: &[u64], part: &[u32], at: u
     loop {
         let w = word_at(part, i);
         i += 1;
-        if !is_entry(w) {
-            if !is_kind(KIND_ALTERNATIVE, w) {
-                return x;
-            }
-            if is_entry(word_at(part, i)) {
-                let r = read_alternative(all, steps, table, part, i);
-                let row = r.row;
-                x = united(x, row);
-                i = r.ended;
-            } else {
-                x = united(x, live(start(all)));
-                i = empties_end(part, i);
-            }
-        } else {
+        if is_entry(w) {
             i = rest_end(part, i);
+        } else if !is_kind(KIND_ALTERNATIVE, w) {
+            return x;
+        } else if is_entry(word_at(part, i)) {
+            let r = read_alternative(all, steps, table, part, i);
+            let row = r.row;
+            x = united(x, row);
+            i = r.ended;
+        } else {
+            x = united(x, live(start(all)));
+            i = empties_end(part, i);
         }
     }
 }

@@ -28,9 +28,9 @@ opener : (c : tie.Else2 Inv-loop μ-loop)
 opener c = tested (isKind 7) (c .before .before .before .before .word-at .ensures) (c .before .is-kind .ensures) (not-false _ (c .if2 .left))
 
 -- an entry that a walk has left stands there
-entry : (c : tie.Else1 Inv-loop μ-loop)
+entry : (c : tie.Then1 Inv-loop μ-loop)
     → isEntry (getD (c .before .before .before .before .before .before .before .before .args .part .now) (c .before .before .before .loop .i) 0) ≡ true
-entry c = tested isEntry (c .before .before .word-at .ensures) (c .before .is-entry .ensures) (not-false _ (c .if1 .left))
+entry c = tested isEntry (c .before .before .word-at .ensures) (c .before .is-entry .ensures) (c .if1 .taken)
 
 none-requires : tie.Need-none-requires Inv-loop μ-loop
 none-requires c κs = search needs
@@ -47,6 +47,17 @@ add-i c = let at-loop = c .before in omega (arith, at-loop .loop .inv .within, a
 is-entry-requires : tie.Need-is-entry-requires Inv-loop μ-loop
 is-entry-requires c κs = search needs
 
+rest-end-requires : tie.Need-rest-end-requires Inv-loop μ-loop
+rest-end-requires c κs = omega (arith, walking-entry-inside (c .before .before .before .loop .inv) (entry c))
+
+loop-less : tie.Need-loop-less Inv-loop μ-loop
+loop-less c =
+    let test = c .before in
+    omega (arith, c .rest-end .ensures, walking-entry-inside (test .before .before .before .loop .inv) (entry test))
+
+loop-again : tie.Need-loop-again Inv-loop μ-loop
+loop-again c = let test = c .before in walking-pass (test .before .before .before .loop .inv) (entry test) (c .rest-end .ensures)
+
 is-kind-requires : tie.Need-is-kind-requires Inv-loop μ-loop
 is-kind-requires c κs = search needs
 
@@ -56,7 +67,7 @@ returns c =
     let test = c .before .before in
     let word = test .before .before in
     walking-out (word .before .loop .inv) (tested (isKind 7) (word .word-at .ensures) (c .before .is-kind .ensures) (not-true _ (c .if2 .taken)))
-    (tested isEntry (word .word-at .ensures) (test .before .is-entry .ensures) (not-true _ (test .if1 .taken)))
+    (tested isEntry (word .word-at .ensures) (test .before .is-entry .ensures) (test .if1 .left))
 
 word-at-requires-2 : tie.Need-word-at-requires-2 Inv-loop μ-loop
 word-at-requires-2 c κs = search needs
@@ -73,15 +84,15 @@ read-alternative-requires c κs =
 united-requires : tie.Need-united-requires Inv-loop μ-loop
 united-requires c κs = search needs
 
-loop-less : tie.Need-loop-less Inv-loop μ-loop
-loop-less c =
+loop-less-2 : tie.Need-loop-less-2 Inv-loop μ-loop
+loop-less-2 c =
     let read = c .before .before in
     let test = read .before .before .before .before in
     omega (arith, read .read-alternative .ensures .ended, walking-opener-inside (test .before .before .before .before .before .loop .inv) (opener test))
 
-loop-again : tie.Need-loop-again Inv-loop μ-loop
+loop-again-2 : tie.Need-loop-again-2 Inv-loop μ-loop
 unfolding unitedFrom
-loop-again c =
+loop-again-2 c =
     let read = c .before .before in
     let test = read .before .before .before .before in
     let at-loop = test .before .before .before .before .before in
@@ -103,13 +114,13 @@ empties-end-requires c κs =
     let test = c .before .before .before .before .before .before in
     omega (arith, walking-opener-inside (test .before .before .before .before .before .loop .inv) (opener test))
 
-loop-less-2 : tie.Need-loop-less-2 Inv-loop μ-loop
-loop-less-2 c =
+loop-less-3 : tie.Need-loop-less-3 Inv-loop μ-loop
+loop-less-3 c =
     let test = c .before .before .before .before .before .before .before in
     omega (arith, c .empties-end .ensures .low, walking-opener-inside (test .before .before .before .before .before .loop .inv) (opener test))
 
-loop-again-2 : tie.Need-loop-again-2 Inv-loop μ-loop
-loop-again-2 c =
+loop-again-3 : tie.Need-loop-again-3 Inv-loop μ-loop
+loop-again-3 c =
     let live = c .before .before in
     let none = live .before .before in
     let word = none .before .before in
@@ -117,17 +128,6 @@ loop-again-2 c =
     rw (c .before .united2 .ensures, live .live .ensures, live .before .start .ensures)
     (uniting-empties _ _ _ _ (test .before .before .before .before .before .loop .inv) (opener test)
     (tested isEntry (word .word-at2 .ensures) (none .before .is-entry2 .ensures) (none .if3 .left)) (c .empties-end .ensures))
-
-rest-end-requires : tie.Need-rest-end-requires Inv-loop μ-loop
-rest-end-requires c κs = omega (arith, walking-entry-inside (c .before .before .before .loop .inv) (entry c))
-
-loop-less-3 : tie.Need-loop-less-3 Inv-loop μ-loop
-loop-less-3 c =
-    let test = c .before in
-    omega (arith, c .rest-end .ensures, walking-entry-inside (test .before .before .before .loop .inv) (entry test))
-
-loop-again-3 : tie.Need-loop-again-3 Inv-loop μ-loop
-loop-again-3 c = let test = c .before in walking-pass (test .before .before .before .loop .inv) (entry test) (c .rest-end .ensures)
 
 pub read-sequence-spec : {M : Type 1} → statement M
 read-sequence-spec =
@@ -140,20 +140,20 @@ read-sequence-spec =
     word-at-requires
     add-i
     is-entry-requires
+    rest-end-requires
+    loop-less
+    loop-again
     is-kind-requires
     returns
     word-at-requires-2
     is-entry-requires-2
     read-alternative-requires
     united-requires
-    loop-less
-    loop-again
+    loop-less-2
+    loop-again-2
     start-requires
     live-requires
     united-requires-2
     empties-end-requires
-    loop-less-2
-    loop-again-2
-    rest-end-requires
     loop-less-3
     loop-again-3)
