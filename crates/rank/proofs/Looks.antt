@@ -1,25 +1,28 @@
 -- What an alternative comes to by the tables, and a rank that its alternatives lower, in the form that the loops ask.
 -- Assumes nothing.
-use Prim.Native.Nat.{ℕ, suc, _+_, min, max}
+use Prim.Native.Nat.{ℕ, suc, _+_, _≤_, _<_, min, max}
 use native.Mathlib.Numerals.{one-add}
 use native.Mathlib.Omega.{arith}
 use mathlib.Core.Path.{_≡_, refl, sym, ap, ap₂, _∙_, fun-ext}
 use mathlib.Core.Logic.{⊎-elim}
-use mathlib.Core.Bool.{Bool, true, false, cond, not, _&&_, _||_}
+use mathlib.Core.Bool.{Bool, true, false, cond, not, _&&_, _||_, false≢true}
 use mathlib.Core.List.{List, [], _∷_}
-use lib.ListN.{getD, drop}
+use lib.ListN.{length, getD, drop}
 use lib.Dec.{eqb, leb, ltb}
 use borrow.Author.Tests.{eq-eqb, ne-eqb, leb-true, ltb-false, not-true}
 use Rattle.image.specs.Word.{isKind, isEntry}
 use Rattle.library.specs.Library.{Entry, Alternative, entriesFrom, alternativesFrom}
 use Rattle.general.specs.Scan.{every}
-use Rattle.library.specs.Walk.{walkEnd}
-use Rattle.library.proofs.Walking.{Walking, walking-out}
-use Rattle.general.proofs.Bools.{nor-left, nor-right, or-cases}
+use Rattle.library.specs.Walk.{entryOf, walkEnd}
+use Rattle.library.proofs.Walking.{folding-inside, folding-out, Leaving, leaving-start, leaving-turn, leaving-dead, leaving-rest, leaving-out, Walking, walking-out}
+use Rattle.general.proofs.Bools.{nor-left, nor-right, or-left, or-right, or-cases}
 use Rattle.rank.specs.Walk.{loweredFrom, depthFrom, fewestFrom}
-use Rattle.rank.specs.Tables.{passIn, depthIn, everyIn, fewestIn, lookIn, lacksIn, lostIn, deadIn, AlternativeRanked}
+use Rattle.rank.specs.Tables.{rankIn, passIn, traitsIn, depthIn, everyIn, fewestAfter, fewestIn, lookIn, lacksIn, lostIn, deadIn, TraitsFound, AlternativeRanked}
 use Rattle.rank.proofs.Walk.{cond-same, lowered-least}
 use Rattle.question.specs.declared.asked.Asked.{Asked}
+use Rattle.rank.specs.declared.entry.Traits.{Traits}
+use Rattle.rank.specs.declared.read.Found.{Found}
+use Rattle.rank.specs.declared.read.Positions.{Positions}
 use Rattle.rank.specs.declared.read.Read.{Read}
 
 -- whether all entries have a rank, by the first of them
@@ -62,6 +65,63 @@ fewest-lost none rank ahead behind floor best e es lost =
     ap₂ (λ (a b : Bool). fewestFrom none rank ahead behind (cond a floor none) (min (cond b best none) (max (rank e) floor)) es)
     (nor-left (ahead e) (behind e) either) (nor-right (ahead e) (behind e) either)
     ∙ ap (λ (x : ℕ). fewestFrom none rank ahead behind none x es) high ∙ fewest-shut none rank ahead behind es
+
+-- an entry that passes as one behind or as one ahead, by the table that was asked
+pub beside-passes : (first a b : Bool) → (first && b) || (not first && a) ≡ true → a || b ≡ true
+beside-passes true a b told = or-right a b (⊎-elim (λ h. h) (λ h. absurd (false≢true h)) (or-cases b false told))
+beside-passes false a b told = or-left a b (⊎-elim (λ h. absurd (false≢true h)) (λ h. h) (or-cases false a told))
+
+-- a walk over the positions, which come to x so far: with the entries from i on they come to the whole
+pub record Linking (none : ℕ) (ahead behind ranks part : List ℕ) (whole at : ℕ) (x : Positions) (i : ℕ) : Type 0 where
+  pub leaving : Leaving part whole (lostIn none ahead behind ranks) at (fewestAfter none ahead behind ranks x) i
+
+pub links-start : {none : ℕ} {ahead behind ranks part : List ℕ} {at : ℕ} {x : Positions} → at ≤ length part
+    → Linking none ahead behind ranks part (fewestAfter none ahead behind ranks x (entriesFrom (drop at part))) at x at
+links-start l = record { leaving = leaving-start l refl }
+
+-- whether no table has a rank for an entry, by its traits
+abbrev pub lost : ℕ → Traits → Bool
+lost none t = not ((t .ahead || t .behind) || ltb (t .rank) none)
+
+-- at a word of which it was found whether it is an entry, and which traits it has
+module _ {none : ℕ} {ahead behind ranks part : List ℕ} {whole at : ℕ} {x : Positions} {i : ℕ} {r : Found}
+    (here : Linking none ahead behind ranks part whole at x i) (found : TraitsFound none ahead behind ranks (getD part i 0) r)
+  where
+    -- no entry stands there
+    pub links-out : r .entry ≡ false → (x .best ≡ whole) × (i ≡ walkEnd (lostIn none ahead behind ranks) part at)
+    unfolding fewestFrom
+    links-out e = let over = sym (found .entry) ∙ e in (folding-out (here .leaving .folding) over, leaving-out (here .leaving) over)
+
+    module _ (e : r .entry ≡ true) where
+      stands : isEntry (getD part i 0) ≡ true
+      stands = sym (found .entry) ∙ e
+
+      lost-read : (b : Bool) → lost none (r .traits) ≡ b → lostIn none ahead behind ranks (entryOf (getD part i 0)) ≡ b
+      lost-read b told = sym (ap (lost none) (found .traits stands)) ∙ told
+
+      pub links-inside : i < length part
+      links-inside = folding-inside (here .leaving .folding) stands
+
+      -- a dead one
+      pub links-dead : lost none (r .traits) ≡ true → (none ≡ whole) × (i ≡ walkEnd (lostIn none ahead behind ranks) part at)
+      links-dead told =
+          let dead = lost-read true told in
+          (sym (fewest-lost none (rankIn none none ranks) (passIn none ahead) (passIn none behind) (x .floor) (x .best) _ _ dead) ∙ leaving-rest (here .leaving) stands, leaving-dead (here .leaving) stands dead)
+
+      -- one that is not, with which the positions come to y
+      pub links-turn : lost none (r .traits) ≡ false → {y : Positions}
+          → (y .best ≡ min (cond (r .traits .behind) (x .best) none) (max (r .traits .rank) (x .floor))) × (y .floor ≡ cond (r .traits .ahead) (x .floor) none)
+          → Linking none ahead behind ranks part whole at y (i + 1)
+      unfolding fewestFrom
+      links-turn told more =
+          record {
+            leaving =
+                leaving-turn (here .leaving) stands (lost-read false told)
+                (sym
+                (ap₂ (λ (floor best : ℕ). fewestFrom none (rankIn none none ranks) (passIn none ahead) (passIn none behind) floor best (entriesFrom (drop (i + 1) part)))
+                (more .1 ∙ ap (λ (t : Traits). cond (t .ahead) (x .floor) none) (found .traits stands))
+                (more .0 ∙ ap (λ (t : Traits). min (cond (t .behind) (x .best) none) (max (t .rank) (x .floor))) (found .traits stands))));
+          }
 
 -- what it comes to, and where the walk ends, by the mark asked for
 module _ (q : Asked) (ahead behind ranks part : List ℕ) (at : ℕ) (r : Read) where

@@ -3,20 +3,22 @@
 -- (proofs/Describes) shows that the tables of an accepted image say what `Ranks` says of its library.
 use Prim.Native.Nat.{ℕ, _+_, _*_, _≤_, _<_}
 use mathlib.Core.Path.{_≡_}
-use mathlib.Core.Bool.{Bool, cond, not, _||_}
+use mathlib.Core.Bool.{Bool, true, cond, not, _||_}
 use mathlib.Core.List.{List}
 use lib.ListN.{length, getD, set, take, drop}
 use lib.Dec.{eqb, ltb}
 use Rattle.column.specs.Sets.{inColumn}
-use Rattle.image.specs.Word.{kind, payload, isKind}
+use Rattle.image.specs.Word.{kind, payload, isKind, isEntry}
 use Rattle.library.specs.Library.{Alternative, Entry, step, item, call, entriesFrom}
-use Rattle.library.specs.Walk.{walkEnd, alternativesAt}
+use Rattle.library.specs.Walk.{entryOf, walkEnd, alternativesAt}
 use Rattle.settling.specs.Settling.{Settles}
 use Rattle.general.specs.Scan.{every}
 use Rattle.chains.specs.Ranks.{Ranks}
 use Rattle.rank.specs.Walk.{loweredFrom, depthFrom, fewestFrom}
 use Rattle.question.specs.declared.asked.Asked.{Asked}
 use Rattle.rank.specs.declared.entry.Traits.{Traits}
+use Rattle.rank.specs.declared.read.Found.{Found}
+use Rattle.rank.specs.declared.read.Positions.{Positions}
 use Rattle.rank.specs.declared.read.Read.{Read}
 
 -- the number that an entry names
@@ -68,8 +70,13 @@ depthIn none ranks es = depthFrom none (rankIn none 0 ranks) 0 es
 abbrev pub everyIn : ℕ → List ℕ → Alternative → ℕ
 everyIn none ranks es = cond (every (passIn none ranks) es) 0 none
 
+-- the fewest links by what the positions so far come to and the entries from here on
+abbrev pub fewestAfter : ℕ → List ℕ → List ℕ → List ℕ → Positions → Alternative → ℕ
+fewestAfter none ahead behind ranks x es = fewestFrom none (rankIn none none ranks) (passIn none ahead) (passIn none behind) (x .floor) (x .best) es
+
+-- of a whole alternative: no position counts so far, and no entry has failed as one ahead
 abbrev pub fewestIn : ℕ → List ℕ → List ℕ → List ℕ → Alternative → ℕ
-fewestIn none ahead behind ranks es = fewestFrom none (rankIn none none ranks) (passIn none ahead) (passIn none behind) 0 none es
+fewestIn none ahead behind ranks es = fewestAfter none ahead behind ranks (record { best = none; floor = 0 }) es
 
 abbrev pub lookIn : Asked → List ℕ → List ℕ → List ℕ → Alternative → ℕ
 lookIn q ahead behind ranks es =
@@ -123,6 +130,11 @@ pub record Steppable (q : Asked) (masks ranks : List ℕ) : Type 0 where
   pub masked : 3 * length ranks ≤ length masks + 3 * q .none
 
 -- ---- the alternatives of a sequence
+
+-- what is found at a word: whether it is an entry, and then its traits
+pub record TraitsFound (none : ℕ) (ahead behind ranks : List ℕ) (w : ℕ) (r : Found) : Type 0 where
+  pub entry : r .entry ≡ isEntry w
+  pub traits : isEntry w ≡ true → r .traits ≡ traitsIn none ahead behind ranks (entryOf w)
 
 -- what a reader of an alternative promises, whose entries stand from an index on: what it comes to, and where it ended
 pub record AlternativeRanked (worth : Alternative → ℕ) (dead : Entry → Bool) (part : List ℕ) (at : ℕ) (r : Read) : Type 0 where
