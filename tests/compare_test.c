@@ -55,8 +55,16 @@
  *     entry another touches the fact, or has no run
  *   rank, an entry behind the position is held to what is asked of one ahead
  *     (`passes(none, ahead, w)`): none, and a run has the outcome
- *   rank, entries ahead of the position may touch (`floor = floor`): a chain,
- *     and no run has the outcome
+ *   rank, entries ahead of the position may touch
+ *     (`choose(t.ahead, x.floor, x.floor)`): a chain, and no run has the
+ *     outcome
+ *   rank, with an entry that is dead an alternative comes to the depth so far,
+ *     to 0, or to the fewest links so far (three breaks): a chain, and no run
+ *     has the outcome
+ *   outcome, an alternative with a dead entry has the row of what was read
+ *     before it, or a run: word 1 of a card, 3 for 0
+ *   library, after a dead entry five words are passed where four were tested,
+ *     or an opener after three entries (two breaks): word 1 of a card
  *   question, one word more is written: words past the chain are changed
  *   settling, callers are stale where a visit changed nothing, and not where it
  *     did (`if !changed`): the time limit is over, and no answer from
@@ -65,15 +73,18 @@
  *     lowered a rank: the time limit is over, and no answer from
  *     dulimoven_cards, and from dulimoven_chain
  * And the must-fail edits of the crates that changed the code of the three
- * calls when this was tried, 62 of them: all are reported but six. What shows
- * in no answer and no area is not: bits from F upward in the outcome table
- * (row/bits_above); an order of visits that is never asked for
- * (order/one_number), and the test that would ask for it (order/untested);
- * clear words judged one by one where they could be read together
- * (column/apart_if_empty); small areas for one sequence more, which then have
- * the room (tables/small_for_more). Nor is the order of refusals 10 and 11
- * (question/eleven_before_ten), since all questions here are in range;
- * chain_test has it.
+ * calls when this was tried, 62 of them, and the nine of request 3: all are
+ * reported but ten. What shows in no answer and no area is not: bits from F
+ * upward in the outcome table (row/bits_above); an order of visits that is
+ * never asked for (order/one_number), and the test that would ask for it
+ * (order/untested); clear words judged one by one where they could be read
+ * together (column/apart_if_empty); small areas for one sequence more, which
+ * then have the room (tables/small_for_more); where a walk over entries ended
+ * (outcome/left_where_it_began, rank/all_ranked_where_it_began), or that it
+ * went on past a dead one (rank/dead_unasked), or would end at an entry that
+ * links go through, which it never asks of one (rank/links_as_lost). Nor is
+ * the order of refusals 10 and 11 (question/eleven_before_ten), since all
+ * questions here are in range; chain_test has it.
  *
  * C11 and C++17. Prints a line for each of the first dozen differences, the
  * counts of each kind, and last the total with its differences; the exit status

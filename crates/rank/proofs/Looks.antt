@@ -102,9 +102,9 @@ module _ {none : ℕ} {ahead behind ranks part : List ℕ} {whole at : ℕ} {x :
       pub links-inside : i < length part
       links-inside = folding-inside (here .leaving .folding) stands
 
-      -- a dead one
-      pub links-dead : lost none (r .traits) ≡ true → (none ≡ whole) × (i ≡ walkEnd (lostIn none ahead behind ranks) part at)
-      links-dead told =
+      -- a dead one, at which the walk is left
+      pub links-left : lost none (r .traits) ≡ true → (none ≡ whole) × (i ≡ walkEnd (lostIn none ahead behind ranks) part at)
+      links-left told =
           let dead = lost-read true told in
           (sym (fewest-lost none (rankIn none none ranks) (passIn none ahead) (passIn none behind) (x .floor) (x .best) _ _ dead) ∙ leaving-rest (here .leaving) stands, leaving-dead (here .leaving) stands dead)
 

@@ -7,7 +7,7 @@ use Prim.Native.Nat.{_-_}
 use lib.ListN.{length, drop}
 use Rattle.library.specs.Library.{entriesFrom}
 use Rattle.rank.specs.Tables.{fewestAfter}
-use Rattle.rank.proofs.Looks.{Linking, links-start, links-out, links-inside, links-dead, links-turn}
+use Rattle.rank.proofs.Looks.{Linking, links-start, links-out, links-inside, links-left, links-turn}
 use Rattle.rank.proofs.read.links_from.Statement.{statement}
 use Rattle.rank.proofs.read.links_from.Tie as tie
 
@@ -34,7 +34,7 @@ returns-2 : tie.Need-returns-2 Inv-loop μ-loop
 returns-2 c =
     let test = c .before .before .before .before in
     let found = test .before .before in
-    let dead = links-dead (found .before .loop .inv) (found .found-at .ensures) (not-false _ (test .if1 .left)) (c .if2 .taken) in
+    let dead = links-left (found .before .loop .inv) (found .found-at .ensures) (not-false _ (test .if1 .left)) (c .if2 .taken) in
     record { value = dead .0; ended = dead .1 }
 
 with-entry-requires : tie.Need-with-entry-requires Inv-loop μ-loop
