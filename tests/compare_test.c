@@ -73,18 +73,17 @@
  *     lowered a rank: the time limit is over, and no answer from
  *     dulimoven_cards, and from dulimoven_chain
  * And the must-fail edits of the crates that changed the code of the three
- * calls when this was tried, 62 of them, and the nine of request 3: all are
- * reported but ten. What shows in no answer and no area is not: bits from F
+ * calls when this was tried, 62 of them, and the eight of request 3: all are
+ * reported but nine. What shows in no answer and no area is not: bits from F
  * upward in the outcome table (row/bits_above); an order of visits that is
  * never asked for (order/one_number), and the test that would ask for it
  * (order/untested); clear words judged one by one where they could be read
  * together (column/apart_if_empty); small areas for one sequence more, which
  * then have the room (tables/small_for_more); where a walk over entries ended
  * (outcome/left_where_it_began, rank/all_ranked_where_it_began), or that it
- * went on past a dead one (rank/dead_unasked), or would end at an entry that
- * links go through, which it never asks of one (rank/links_as_lost). Nor is
- * the order of refusals 10 and 11 (question/eleven_before_ten), since all
- * questions here are in range; chain_test has it.
+ * went on past a dead one (rank/dead_unasked). Nor is the order of refusals 10
+ * and 11 (question/eleven_before_ten), since all questions here are in range;
+ * chain_test has it.
  *
  * C11 and C++17. Prints a line for each of the first dozen differences, the
  * counts of each kind, and last the total with its differences; the exit status
