@@ -4,7 +4,7 @@ use Prim.Native.Nat.{ℕ, _≤_}
 use native.Mathlib.Omega.{arith}
 use mathlib.Core.Path.{_≡_, refl}
 use mathlib.Core.Bool.{Bool, true, false, _||_}
-use mathlib.Core.Logic.{⊎-elim}
+use mathlib.Core.Logic.{_⊎_, inl, inr, ⊎-elim}
 use borrow.Author.Tests.{eqb-true, eqb-false}
 use Rattle.image.specs.Word.{kind, isKind, isFact, isEntry}
 use Rattle.general.proofs.Bools.{or-cases}
@@ -26,10 +26,19 @@ fact-kind w s =
     (λ s. omega (arith, eqb-true (kind w) 4 s))
     (or-cases (isKind 2 w || isKind 3 w) (isKind 4 w) s)
 
--- an entry is of kind 8 or 9
-pub entry-kinds : (w : ℕ) → isEntry w ≡ true → (kind w ≡ 8 → ⊥) → kind w ≡ 9
-entry-kinds w e d = ⊎-elim (λ p. absurd (d (eqb-true (kind w) 8 p))) (λ p. eqb-true (kind w) 9 p) (or-cases (isKind 8 w) (isKind 9 w) e)
+-- an entry is of kind 8, 9 or 13
+pub entry-cases : (w : ℕ) → isEntry w ≡ true → (kind w ≡ 8) ⊎ (kind w ≡ 9) ⊎ (kind w ≡ 13)
+entry-cases w e =
+    ⊎-elim
+    (λ s. ⊎-elim (λ p. inl (eqb-true (kind w) 8 p)) (λ p. inr (inl (eqb-true (kind w) 9 p))) (or-cases (isKind 8 w) (isKind 9 w) s))
+    (λ p. inr (inr (eqb-true (kind w) 13 p)))
+    (or-cases (isKind 8 w || isKind 9 w) (isKind 13 w) e)
+
+pub entry-of : (w : ℕ) → (kind w ≡ 8) ⊎ (kind w ≡ 9) ⊎ (kind w ≡ 13) → isEntry w ≡ true
+entry-of w is = ⊎-elim (λ k. rw k) (λ k. ⊎-elim (λ l. rw l) (λ l. rw l) k) is
+
+pub entry-kinds : (w : ℕ) → isEntry w ≡ true → (kind w ≡ 8 → ⊥) → (kind w ≡ 13 → ⊥) → kind w ≡ 9
+entry-kinds w e step check = ⊎-elim (λ k. absurd (step k)) (λ k. ⊎-elim (λ l. l) (λ l. absurd (check l)) k) (entry-cases w e)
 
 pub entry-high : (w : ℕ) → isEntry w ≡ true → 8 ≤ kind w
-entry-high w e =
-    ⊎-elim (λ p. omega (arith, eqb-true (kind w) 8 p)) (λ p. omega (arith, eqb-true (kind w) 9 p)) (or-cases (isKind 8 w) (isKind 9 w) e)
+entry-high w e = ⊎-elim (λ k. omega arith) (λ k. ⊎-elim (λ l. omega arith) (λ l. omega arith) k) (entry-cases w e)

@@ -34,9 +34,9 @@ isKind k w = eqb (kind w) k
 abbrev pub isFact : ℕ → Bool
 isFact w = isKind 2 w || isKind 3 w || isKind 4 w
 
--- "Kind 8 is an entry naming a step, kind 9 an entry naming a sequence."
+-- "Kind 8 is an entry naming a step, kind 9 an entry naming a sequence." Document 02: "Kind 13, an entry, checks that its fact stands"
 abbrev pub isEntry : ℕ → Bool
-isEntry w = isKind 8 w || isKind 9 w
+isEntry w = isKind 8 w || isKind 9 w || isKind 13 w
 
 -- "Let s be the sum of all earlier words with wrap at 2^32"
 abbrev pub wrappedSum : List ℕ → ℕ

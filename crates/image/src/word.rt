@@ -31,6 +31,8 @@ pub const KIND_POSITION: u32 = 11;
 
 pub const KIND_UNTOUCHED: u32 = 12;
 
+pub const KIND_CHECK: u32 = 13;
+
 pub const KIND_SUM: u32 = 15;
 
 // An alternative's opener: its payload is 0.
@@ -93,12 +95,12 @@ pub fn is_fact(w: u32) -> bool
     (k == KIND_NEEDS) | (k == KIND_SETS) | (k == KIND_CLEARS)
 }
 
-// An entry: kind 8 or 9.
+// An entry: kind 8, 9 or 13.
 pub fn is_entry(w: u32) -> bool
     ensures { λ r. ⌜ r ≡ isEntry w ⌝ }
 {
     let k = w / PAYLOADS;
-    (k == KIND_STEP_ENTRY) | (k == KIND_SEQUENCE_ENTRY)
+    (k == KIND_STEP_ENTRY) | (k == KIND_SEQUENCE_ENTRY) | (k == KIND_CHECK)
 }
 
 // The words' sum with wrap at 2^32.

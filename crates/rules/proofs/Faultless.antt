@@ -54,6 +54,7 @@ pub record Payloads (h : Head) (e : Earlier) (w : ℕ) : Type 0 where
   pub sequence : kind w ≡ 6 → (payload w ≡ e .sequences) × (payload w < h .sequences)
   pub names-step : kind w ≡ 8 → payload w < h .steps
   pub names-sequence : kind w ≡ 9 → payload w < h .sequences
+  pub names-fact : kind w ≡ 13 → payload w < h .facts
   pub fact : isFact w ≡ true → payload w < h .facts
 
 pub payloads : (h : Head) (e : Earlier) (w : ℕ) → payloadRight h e w ≡ true → Payloads h e w
@@ -61,9 +62,14 @@ payloads h e w s =
     let p = payload w in
     let five = eqb p (e .steps) && ltb p (h .steps) in
     let six = eqb p (e .sequences) && ltb p (h .sequences) in
-    let t =
-    and-six (whereKind (isKind 5 w) five) (whereKind (isKind 6 w) six) (whereKind (isKind 8 w) (ltb p (h .steps)))
-    (whereKind (isKind 9 w) (ltb p (h .sequences))) (whereKind (isFact w) (ltb p (h .facts))) (whereKind (isKind 7 w) (eqb p 0)) s in
+    let a = whereKind (isKind 5 w) five in
+    let b = whereKind (isKind 6 w) six in
+    let c = whereKind (isKind 8 w) (ltb p (h .steps)) in
+    let d = whereKind (isKind 9 w) (ltb p (h .sequences)) in
+    let f = whereKind (isFact w) (ltb p (h .facts)) in
+    let g = whereKind (isKind 7 w) (eqb p 0) in
+    let check = whereKind (isKind 13 w) (ltb p (h .facts)) in
+    let t = and-six a b c d f g (and-left (a && b && c && d && f && g) check s) in
     let opens-step : kind w ≡ 5 → five ≡ true = λ k. where-kind (isKind 5 w) five (t .0) (eq-eqb (kind w) 5 k) in
     let opens-sequence : kind w ≡ 6 → six ≡ true = λ k. where-kind (isKind 6 w) six (t .1) (eq-eqb (kind w) 6 k) in
     record {
@@ -72,6 +78,7 @@ payloads h e w s =
           λ k. (eqb-true _ _ (and-left (eqb p (e .sequences)) _ (opens-sequence k)), ltb-true _ _ (and-right (eqb p (e .sequences)) _ (opens-sequence k)));
       names-step = λ k. ltb-true _ _ (where-kind (isKind 8 w) (ltb p (h .steps)) (t .2) (eq-eqb (kind w) 8 k));
       names-sequence = λ k. ltb-true _ _ (where-kind (isKind 9 w) (ltb p (h .sequences)) (t .3) (eq-eqb (kind w) 9 k));
+      names-fact = λ k. ltb-true _ _ (where-kind (isKind 13 w) (ltb p (h .facts)) (and-right (a && b && c && d && f && g) check s) (eq-eqb (kind w) 13 k));
       fact = λ k. ltb-true _ _ (where-kind (isFact w) (ltb p (h .facts)) (t .4) k);
     }
 

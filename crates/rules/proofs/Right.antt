@@ -2,10 +2,10 @@
 -- It has: a law for each kind of word, and what a reader needs of the words that it passes by (`Passing`). That the walk over the
 -- words is the scan of document 01 is in Checked.
 -- Assumes nothing.
-use Prim.Native.Nat.{ℕ, _+_, _*_, _%_, _^_, _≤_, _<_}
+use Prim.Native.Nat.{ℕ, _+_, _-_, _*_, _%_, _^_, _≤_, _<_}
 use native.Mathlib.Omega.{arith}
 use mathlib.Core.Path.{_≡_, sym, ap, _∙_}
-use mathlib.Core.Bool.{true, false, not, _&&_, _||_}
+use mathlib.Core.Bool.{Bool, true, false, not, _&&_, _||_}
 use mathlib.Core.Logic.{_⊎_, inl, inr, ⊎-elim}
 use lib.Dec.{eqb, leb, ltb}
 use borrow.Author.Tests.{eqb-true, ne-eqb, eq-eqb, ltb-true, lt-ltb}
@@ -13,29 +13,41 @@ use mir.Val.{boolByte}
 use Rattle.column.specs.Sets.{inColumn}
 use Rattle.image.specs.Word.{kind, payload, isKind, isFact, isEntry}
 use Rattle.rules.specs.Rules.{whereKind, setsAfter, faultAt}
-use Rattle.rules.specs.Quick.{entryRight, alternativeRight, bodyRight, insideRight, Counts, stepRight, sequenceRight, FactFollows, after, further, withLast, inAlternative}
+use Rattle.rules.specs.Quick.{entryCounted, entryRight, alternativeRight, bodyRight, insideRight, Counts, stepRight, sequenceRight, FactFollows, after, further, withLast, inAlternative}
 use Rattle.image.specs.declared.answer.Head.{Head}
 use Rattle.rules.specs.declared.rules.Earlier.{Earlier}
 use Rattle.rules.specs.declared.rules.Fault.the-variants.{Nothing}
 use Rattle.general.proofs.Bools.{and-left, and-right, or-left, or-right, or-cases, and-six}
-use Rattle.image.proofs.Words.{fact-of, fact-kind}
+use Rattle.image.proofs.Words.{fact-of, fact-kind, entry-of, entry-high}
 use Rattle.rules.proofs.Faultless.{Fine, none-found, kind-where}
+
+-- a word of kind k whose payload is below n
+abbrev EntryOf : ℕ → ℕ → ℕ → Type 0
+EntryOf w k n = (kind w ≡ k) × (ltb (payload w) n ≡ true)
+
+-- an entry that names what the head counts, by its kind
+counted-cases : (h : Head) (w : ℕ) → entryCounted h w ≡ true → EntryOf w 8 (h .steps) ⊎ EntryOf w 9 (h .sequences) ⊎ EntryOf w 13 (h .facts)
+counted-cases h w counted =
+    ⊎-elim
+    (λ s. ⊎-elim (λ s. inl (both 8 (h .steps) s)) (λ s. inr (inl (both 9 (h .sequences) s)))
+    (or-cases (isKind 8 w && ltb (payload w) (h .steps)) (isKind 9 w && ltb (payload w) (h .sequences)) s))
+    (λ s. inr (inr (both 13 (h .facts) s)))
+    (or-cases (isKind 8 w && ltb (payload w) (h .steps) || isKind 9 w && ltb (payload w) (h .sequences)) (isKind 13 w && ltb (payload w) (h .facts)) counted)
+  where
+    both : (k n : ℕ) → isKind k w && ltb (payload w) n ≡ true → EntryOf w k n
+    both k n s = (eqb-true (kind w) k (and-left (isKind k w) (ltb (payload w) n) s), and-right (isKind k w) (ltb (payload w) n) s)
 
 module _ (h : Head) (e : Earlier) (p w : ℕ) where
   pub entry-faultless : entryRight h (e .last) w ≡ true → Nothing ≡ faultAt h e p w
   entry-faultless right =
       let after-one = and-left (isKind 7 (e .last) || isEntry (e .last)) _ right in
-      let named = and-right (isKind 7 (e .last) || isEntry (e .last)) _ right in
-      ⊎-elim
-      (λ (step : isKind 8 w && ltb (payload w) (h .steps) ≡ true).
-      let k = eqb-true (kind w) 8 (and-left (isKind 8 w) (ltb (payload w) (h .steps)) step) in
-      let low = and-right (isKind 8 w) (ltb (payload w) (h .steps)) step in
-      rw (k, after-one, low))
-      (λ (call : isKind 9 w && ltb (payload w) (h .sequences) ≡ true).
-      let k = eqb-true (kind w) 9 (and-left (isKind 9 w) (ltb (payload w) (h .sequences)) call) in
-      let low = and-right (isKind 9 w) (ltb (payload w) (h .sequences)) call in
-      rw (k, after-one, low))
-      (or-cases (isKind 8 w && ltb (payload w) (h .steps)) (isKind 9 w && ltb (payload w) (h .sequences)) named)
+      go after-one (counted-cases h w (and-right (isKind 7 (e .last) || isEntry (e .last)) _ right))
+    where
+      go : isKind 7 (e .last) || isEntry (e .last) ≡ true
+          → EntryOf w 8 (h .steps) ⊎ EntryOf w 9 (h .sequences) ⊎ EntryOf w 13 (h .facts) → Nothing ≡ faultAt h e p w
+      go after-one (inl entry) = rw (entry .0, after-one, entry .1)
+      go after-one (inr (inl entry)) = rw (entry .0, after-one, entry .1)
+      go after-one (inr (inr entry)) = rw (entry .0, after-one, entry .1)
 
   pub alternative-faultless : alternativeRight e w ≡ true → Nothing ≡ faultAt h e p w
   alternative-faultless right =
@@ -86,21 +98,22 @@ sets-nothing sets w three five = rw (ne-eqb (kind w) 3 three, ne-eqb (kind w) 5 
 
 -- a word of a sequence's body
 module _ (h : Head) (e : Earlier) (last w : ℕ) (right : bodyRight h e last w ≡ true) where
-  body-kind : (kind w ≡ 8) ⊎ (kind w ≡ 9) ⊎ (kind w ≡ 7)
+  body-kind : (kind w ≡ 7) ⊎ (isEntry w ≡ true)
   body-kind =
       ⊎-elim
-      (λ (entry : entryRight h last w ≡ true).
-      ⊎-elim
-      (λ (step : isKind 8 w && ltb (payload w) (h .steps) ≡ true). inl (eqb-true (kind w) 8 (and-left (isKind 8 w) (ltb (payload w) (h .steps)) step)))
-      (λ (call : isKind 9 w && ltb (payload w) (h .sequences) ≡ true). inr (inl (eqb-true (kind w) 9 (and-left (isKind 9 w) (ltb (payload w) (h .sequences)) call))))
-      (or-cases (isKind 8 w && ltb (payload w) (h .steps)) (isKind 9 w && ltb (payload w) (h .sequences)) (and-right (isKind 7 last || isEntry last) _ entry)))
+      (λ (entry : entryRight h last w ≡ true). inr (named (counted-cases h w (and-right (isKind 7 last || isEntry last) _ entry))))
       (λ (alternative : alternativeRight e w ≡ true).
       let whole = eqb-true w (7 * 2 ^ 28) (and-left (eqb w (7 * 2 ^ 28)) (ltb 0 (e .sequences)) alternative) in
-      inr (inr (rw whole)))
+      inl (rw whole))
       (or-cases (entryRight h last w) (alternativeRight e w) right)
+    where
+      named : EntryOf w 8 (h .steps) ⊎ EntryOf w 9 (h .sequences) ⊎ EntryOf w 13 (h .facts) → isEntry w ≡ true
+      named (inl entry) = entry-of w (inl (entry .0))
+      named (inr (inl entry)) = entry-of w (inr (inl (entry .0)))
+      named (inr (inr entry)) = entry-of w (inr (inr (entry .0)))
 
   body-high : 7 ≤ kind w
-  body-high = ⊎-elim (λ k. omega arith) (λ k. ⊎-elim (λ l. omega arith) (λ l. omega arith) k) body-kind
+  body-high = ⊎-elim (λ k. omega arith) (λ k. omega (arith, entry-high w k)) body-kind
 
   pub body-passing : Passing h (withLast e last) w (withLast e w)
   body-passing =
@@ -115,41 +128,39 @@ module _ (h : Head) (e : Earlier) (last w : ℕ) (right : bodyRight h e last w �
       }
 
   pub body-follows : inAlternative w ≡ true
-  body-follows = ⊎-elim (λ k. rw k) (λ k. ⊎-elim (λ l. rw l) (λ l. rw l) k) body-kind
+  body-follows = ⊎-elim (λ k. or-left (isKind 7 w) (isEntry w) (eq-eqb (kind w) 7 k)) (or-right (isKind 7 w) (isEntry w)) body-kind
 
 pub inside-body : (h : Head) (e : Earlier) (last w : ℕ) → 0 < e .sequences → inAlternative last ≡ true → insideRight h w ≡ true
     → bodyRight h e last w ≡ true
 inside-body h e last w opened follows right =
-    let named = isKind 8 w && ltb (payload w) (h .steps) || isKind 9 w && ltb (payload w) (h .sequences) in
     ⊎-elim
-    (λ (entry : named ≡ true). or-left (entryRight h last w) (alternativeRight e w) (rw (follows, entry)))
+    (λ (entry : entryCounted h w ≡ true). or-left (entryRight h last w) (alternativeRight e w) (rw (follows, entry)))
     (λ (alternative : eqb w (7 * 2 ^ 28) ≡ true).
     or-right (entryRight h last w) (alternativeRight e w) (rw (alternative, lt-ltb 0 (e .sequences) opened)))
-    (or-cases named (eqb w (7 * 2 ^ 28)) right)
+    (or-cases (entryCounted h w) (eqb w (7 * 2 ^ 28)) right)
 
--- the kinds 8 and 9 with a payload below a count are a range of numbers each: a is the distance from kind 8's first word, b from kind 9's
-pub inside-ranges : (h : Head) (w a b : ℕ) → w < 2 ^ 32 → Counts h → a ≡ (w + 8 * 2 ^ 28) % 2 ^ 32 → b ≡ (w + 7 * 2 ^ 28) % 2 ^ 32
-    → ltb a (h .steps) || ltb b (h .sequences) || eqb w (7 * 2 ^ 28) ≡ true → insideRight h w ≡ true
-inside-ranges h w a b bound counts from-eight from-nine tested =
-    let step = isKind 8 w && ltb (payload w) (h .steps) in
-    let call = isKind 9 w && ltb (payload w) (h .sequences) in
-    ⊎-elim
-    (λ (entry : ltb a (h .steps) || ltb b (h .sequences) ≡ true).
-    or-left (step || call) (eqb w (7 * 2 ^ 28))
-    (⊎-elim
-    (λ (low : ltb a (h .steps) ≡ true).
-    let l = ltb-true a (h .steps) low in
-    let k : kind w ≡ 8 = omega (arith, counts .steps) in
-    let p : payload w < h .steps = omega (arith, counts .steps) in
-    or-left step call (rw (eq-eqb (kind w) 8 k, lt-ltb (payload w) (h .steps) p)))
-    (λ (low : ltb b (h .sequences) ≡ true).
-    let l = ltb-true b (h .sequences) low in
-    let k : kind w ≡ 9 = omega (arith, counts .sequences) in
-    let p : payload w < h .sequences = omega (arith, counts .sequences) in
-    or-right step call (rw (eq-eqb (kind w) 9 k, lt-ltb (payload w) (h .sequences) p)))
-    (or-cases (ltb a (h .steps)) (ltb b (h .sequences)) entry)))
-    (or-right (step || call) (eqb w (7 * 2 ^ 28)))
-    (or-cases (ltb a (h .steps) || ltb b (h .sequences)) (eqb w (7 * 2 ^ 28)) tested)
+-- where each side of a disjunction gives a side of another
+or-map : (a b x y : Bool) → (a ≡ true → x ≡ true) → (b ≡ true → y ≡ true) → a || b ≡ true → x || y ≡ true
+or-map a b x y f g e = ⊎-elim (λ p. or-left x y (f p)) (λ p. or-right x y (g p)) (or-cases a b e)
+
+-- the words of a kind with a payload below a count are a range of numbers: what is left of them less the kind's first word is below the count
+in-range : (k n w a : ℕ) → w < 2 ^ 32 → k ≤ 15 → n ≤ 2 ^ 28 → a ≡ (w + (16 - k) * 2 ^ 28) % 2 ^ 32 → ltb a n ≡ true → isKind k w && ltb (payload w) n ≡ true
+in-range k n w a bound few small distance tested =
+    let l = ltb-true a n tested in
+    let is : kind w ≡ k = omega arith in
+    let low : payload w < n = omega arith in
+    rw (eq-eqb (kind w) k is, lt-ltb (payload w) n low)
+
+pub inside-ranges : (h : Head) (w a b c : ℕ) → w < 2 ^ 32 → Counts h → a ≡ (w + 8 * 2 ^ 28) % 2 ^ 32 → b ≡ (w + 7 * 2 ^ 28) % 2 ^ 32
+    → c ≡ (w + 3 * 2 ^ 28) % 2 ^ 32 → ltb a (h .steps) || ltb b (h .sequences) || ltb c (h .facts) || eqb w (7 * 2 ^ 28) ≡ true
+    → insideRight h w ≡ true
+inside-ranges h w a b c bound counts from-eight from-nine from-thirteen tested =
+    or-map _ _ _ _
+    (or-map _ _ _ _
+    (or-map _ _ _ _ (in-range 8 (h .steps) w a bound (omega arith) (omega (arith, counts .steps)) from-eight)
+    (in-range 9 (h .sequences) w b bound (omega arith) (omega (arith, counts .sequences)) from-nine))
+    (in-range 13 (h .facts) w c bound (omega arith) (omega (arith, counts .facts)) from-thirteen))
+    (λ alternative. alternative) tested
 
 -- a fact word of kind k: it follows a word that it may follow, or another of its kind that is less
 module _ (h : Head) (k last w : ℕ) (low : 2 ≤ k) (high : k ≤ 4) (is : kind w ≡ k) (counted : payload w < h .facts)
@@ -197,6 +208,7 @@ module _ (h : Head) (k last w : ℕ) (low : 2 ≤ k) (high : k ≤ 4) (is : kind
                   other 7 (omega arith),
                   other 8 (omega arith),
                   other 9 (omega arith),
+                  other 13 (omega arith),
                   lt-ltb (payload w) (h .facts) counted,
                 );
             follows = in-order;

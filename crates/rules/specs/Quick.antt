@@ -13,9 +13,12 @@ use Rattle.rules.specs.declared.rules.Earlier.{Earlier}
 -- A word that is right by the rules of its kind alone has no fault: `proofs/Right` proves it. An entry after a kind 7 or another entry
 -- that names what the head counts; an alternative's opener after the first sequence's; the next step's opener before the first
 -- sequence's; the next sequence's opener after all steps
+abbrev pub entryCounted : Head → ℕ → Bool
+entryCounted h w =
+    isKind 8 w && ltb (payload w) (h .steps) || isKind 9 w && ltb (payload w) (h .sequences) || isKind 13 w && ltb (payload w) (h .facts)
+
 abbrev pub entryRight : Head → ℕ → ℕ → Bool
-entryRight h last w =
-    (isKind 7 last || isEntry last) && (isKind 8 w && ltb (payload w) (h .steps) || isKind 9 w && ltb (payload w) (h .sequences))
+entryRight h last w = (isKind 7 last || isEntry last) && entryCounted h w
 
 abbrev pub alternativeRight : Earlier → ℕ → Bool
 alternativeRight e w = eqb w (7 * 2 ^ 28) && ltb 0 (e .sequences)
@@ -35,7 +38,7 @@ FactFollows last k = (kind last ≡ 5) ⊎ ((2 ≤ kind last) × (kind last < k)
 
 -- an entry or an alternative's opener, where the word before is one too
 abbrev pub insideRight : Head → ℕ → Bool
-insideRight h w = isKind 8 w && ltb (payload w) (h .steps) || isKind 9 w && ltb (payload w) (h .sequences) || eqb w (7 * 2 ^ 28)
+insideRight h w = entryCounted h w || eqb w (7 * 2 ^ 28)
 
 -- what the head counts: no more facts than a column holds, and fewer steps and sequences than a payload may be
 pub record Counts (h : Head) : Type 0 where

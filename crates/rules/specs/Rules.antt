@@ -1,6 +1,6 @@
 -- The rules for a word between head and sum word: what may stand where (refusal 4), the payloads (5), the order of fact words (6)
 -- and that no step clears what it sets (13). Each is a rule on the word and on the words before it, the head among them (document 01,
--- "The image"; document 02, request 1).
+-- "The image"; document 02, requests 1 and 4).
 use Prim.Native.Nat.{ℕ, _+_}
 use mathlib.Core.Path.{_≡_}
 use mathlib.Core.Bool.{Bool, cond, not, _&&_, _||_}
@@ -55,7 +55,7 @@ earlier before = record { steps = opened 5 before; sequences = opened 6 before; 
 -- "A kind 2, 3 or 4 word stands only after a step's opener or another such word."
 -- "A kind 5 word stands only before the first kind 6, a kind 6 word only once A steps have been opened."
 -- "A kind 7 word stands anywhere after the first kind 6, an entry only after a kind 7 or another entry."
--- "No other kind stands between head and sum word."
+-- "No other kind stands between head and sum word." Document 02 has kind 13 among the entries
 abbrev pub mayStand : Head → Earlier → ℕ → Bool
 mayStand h e w =
     isFact w && (isKind 5 (e .last) || isFact (e .last))
@@ -69,7 +69,8 @@ abbrev pub whereKind : Bool → Bool → Bool
 whereKind is rule = not is || rule
 
 -- 5: "an opener's is not the next number or not below the head's count, an entry names nothing that the head counts, a fact is
--- not below F, or a kind 7 payload is not 0"; numbers are "counted from 0 in the order of the image"
+-- not below F, or a kind 7 payload is not 0"; numbers are "counted from 0 in the order of the image". Document 02: "Kind 13, an entry,
+-- checks that its fact stands; its payload is below F under 5."
 abbrev pub payloadRight : Head → Earlier → ℕ → Bool
 payloadRight h e w =
     whereKind (isKind 5 w) (eqb (payload w) (e .steps) && ltb (payload w) (h .steps))
@@ -78,6 +79,7 @@ payloadRight h e w =
     && whereKind (isKind 9 w) (ltb (payload w) (h .sequences))
     && whereKind (isFact w) (ltb (payload w) (h .facts))
     && whereKind (isKind 7 w) (eqb (payload w) 0)
+    && whereKind (isKind 13 w) (ltb (payload w) (h .facts))
 
 -- 6: "A fact word of a step is not greater, as a 32-bit number, than the fact word before it in that step." Fact words of one
 -- step stand together, so the fact word before it in that step is the word right before it, if that is one

@@ -5,6 +5,7 @@ use image::answer::Head;
 use image::answer::Refusal;
 use image::word::ALTERNATIVE_WORD;
 use image::word::KIND_ALTERNATIVE;
+use image::word::KIND_CHECK;
 use image::word::KIND_CLEARS;
 use image::word::KIND_NEEDS;
 use image::word::KIND_SEQUENCE;
@@ -21,10 +22,12 @@ ghost use Rattle.image.specs.Word.{mostFacts, payload, isKind};
 ghost use Rattle.rules.specs.Rules.{mayStand, payloadRight, inOrder, setsAfter, clearsUnset, faultAt};
 ghost use Rattle.rules.specs.Quick.{entryRight, alternativeRight, bodyRight, insideRight, Counts, stepRight, sequenceRight, after};
 
-// Added with wrap, these take 8 × 2^28 and 9 × 2^28 away: what is left of an entry is its payload.
+// Added with wrap, these take 8, 9 and 13 × 2^28 away: what is left of an entry is its payload.
 const LESS_STEP_ENTRY: u32 = 0x80000000;
 
 const LESS_SEQUENCE_ENTRY: u32 = 0x70000000;
+
+const LESS_CHECK: u32 = 0x30000000;
 
 // What the rules ask of the words before a word: how many steps and sequences they open, the word right before it, and the column of
 // the facts that the step sets that they opened last.
@@ -52,8 +55,9 @@ fn may_stand(h: Head, e: Earlier, w: u32) -> bool
         | (k == KIND_STEP) & (e.sequences == 0)
         | (k == KIND_SEQUENCE) & (h.steps <= e.steps)
         | (k == KIND_ALTERNATIVE) & (0 < e.sequences)
-        | ((k == KIND_STEP_ENTRY) | (k == KIND_SEQUENCE_ENTRY))
-            & ((l == KIND_ALTERNATIVE) | ((l == KIND_STEP_ENTRY) | (l == KIND_SEQUENCE_ENTRY)))
+        | ((k == KIND_STEP_ENTRY) | (k == KIND_SEQUENCE_ENTRY) | (k == KIND_CHECK))
+            & ((l == KIND_ALTERNATIVE)
+                | ((l == KIND_STEP_ENTRY) | (l == KIND_SEQUENCE_ENTRY) | (l == KIND_CHECK)))
 }
 
 // Refusal 5: whether the payload keeps the rule of its kind.
@@ -68,6 +72,7 @@ fn payload_right(h: Head, e: Earlier, w: u32) -> bool
         & (!(k == KIND_SEQUENCE_ENTRY) | (p < h.sequences))
         & (!((k == KIND_NEEDS) | (k == KIND_SETS) | (k == KIND_CLEARS)) | (p < h.facts))
         & (!(k == KIND_ALTERNATIVE) | (p == 0))
+        & (!(k == KIND_CHECK) | (p < h.facts))
 }
 
 // Refusal 6: whether a fact word is greater than the fact word right before it.
@@ -93,16 +98,18 @@ fn clears_unset(sets: u64, w: u32) -> bool
     !(w / PAYLOADS == KIND_CLEARS) | !set
 }
 
-// Whether a word of kind 8 or 9 is right: an entry after a kind 7 or another entry that names what the head counts.
+// Whether a word of kind 8, 9 or 13 is right: an entry after a kind 7 or another entry that names what the head counts.
 fn entry_right(h: Head, last: u32, w: u32) -> bool
     ensures { λ r. ⌜ r ≡ entryRight h last w ⌝ }
 {
     let k = w / PAYLOADS;
     let p = w % PAYLOADS;
     let l = last / PAYLOADS;
-    ((l == KIND_ALTERNATIVE) | ((l == KIND_STEP_ENTRY) | (l == KIND_SEQUENCE_ENTRY)))
+    ((l == KIND_ALTERNATIVE)
+        | ((l == KIND_STEP_ENTRY) | (l == KIND_SEQUENCE_ENTRY) | (l == KIND_CHECK)))
         & (((k == KIND_STEP_ENTRY) & (p < h.steps))
-            | ((k == KIND_SEQUENCE_ENTRY) & (p < h.sequences)))
+            | ((k == KIND_SEQUENCE_ENTRY) & (p < h.sequences))
+            | ((k == KIND_CHECK) & (p < h.facts)))
 }
 
 // Whether a word of kind 7 is right.
@@ -112,7 +119,7 @@ fn alternative_right(e: Earlier, w: u32) -> bool
     (w == ALTERNATIVE_WORD) & (0 < e.sequences)
 }
 
-// Whether a word of kind 7, 8 or 9 is right after a word `last`.
+// Whether a word of kind 7, 8, 9 or 13 is right after a word `last`.
 pub fn body_right(h: Head, e: Earlier, last: u32, w: u32) -> bool
     ensures { λ r. ⌜ r ≡ bodyRight h e last w ⌝ }
 {
@@ -139,14 +146,15 @@ fn sequence_right(h: Head, e: Earlier, w: u32) -> bool
     (k == KIND_SEQUENCE) & (h.steps <= e.steps) & (p == e.sequences) & (p < h.sequences)
 }
 
-// Whether a word of kind 7, 8 or 9 is right after another such word. Counts below 2^28 leave a kind's payloads in one range of numbers.
+// Whether a word of kind 7, 8, 9 or 13 is right after another such word. Counts below 2^28 leave a kind's payloads in one range of numbers.
 pub fn inside_right(h: Head, w: u32) -> bool
     requires { ⌜ Counts h ⌝ }
     ensures { λ r. ⌜ (r ≡ true → insideRight h w ≡ true) ⌝ }
 {
     let step = std::num::wrapping_add_u32(w, LESS_STEP_ENTRY);
     let sequence = std::num::wrapping_add_u32(w, LESS_SEQUENCE_ENTRY);
-    (step < h.steps) | (sequence < h.sequences) | (w == ALTERNATIVE_WORD)
+    let check = std::num::wrapping_add_u32(w, LESS_CHECK);
+    (step < h.steps) | (sequence < h.sequences) | (check < h.facts) | (w == ALTERNATIVE_WORD)
 }
 
 // The first refusal of 4, 5, 6 and 13 that a word at position `p` meets, by each rule.

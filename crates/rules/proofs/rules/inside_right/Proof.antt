@@ -15,13 +15,18 @@ wrapping-add-u32-requires c κs = search needs
 wrapping-add-u32-requires-2 : tie.Need-wrapping-add-u32-requires-2
 wrapping-add-u32-requires-2 c κs = search needs
 
+wrapping-add-u32-requires-3 : tie.Need-wrapping-add-u32-requires-3
+wrapping-add-u32-requires-3 c κs = search needs
+
 returns : tie.Need-returns
 returns c =
-    let second = c .before .before in
-    let start = second .before .before in
-    inside-ranges (start .args .h) (start .args .w) (second .before .wrapping-add-u32 .result) (second .wrapping-add-u322 .result)
-    (omega (arith, start .fits .w)) (start .pre) (second .before .wrapping-add-u32 .ensures) (second .wrapping-add-u322 .ensures)
+    let third = c .before .before .before in
+    let second = third .before in
+    let first = second .before in
+    let start = first .before in
+    inside-ranges (start .args .h) (start .args .w) (first .wrapping-add-u32 .result) (second .wrapping-add-u322 .result) (third .wrapping-add-u323 .result)
+    (omega (arith, start .fits .w)) (start .pre) (first .wrapping-add-u32 .ensures) (second .wrapping-add-u322 .ensures) (third .wrapping-add-u323 .ensures)
 
 pub inside-right-spec : {M : Type 1} → statement M
 inside-right-spec =
-    tie.close (tie.spec wrapping-add-u32-requires wrapping-add-u32-requires-2 returns)
+    tie.close (tie.spec wrapping-add-u32-requires wrapping-add-u32-requires-2 wrapping-add-u32-requires-3 returns)
