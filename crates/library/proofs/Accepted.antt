@@ -22,8 +22,7 @@ use Rattle.rules.specs.Rules.{opened, earlier, mayStand, faultAt}
 use Rattle.rules.specs.Quick.{after}
 use Rattle.rules.specs.Checked.{scan, allButLast, between, firstWord, lastWord, checked}
 use Rattle.rules.specs.Walk.{walk, opening}
-use Rattle.library.specs.Library.{step, item, call, factsFrom, stepsFrom, alternativesFrom, sequencesFrom, beforeSequences, fromSequences, stepsPart, sequencesPart, libraryOf}
-use Rattle.library.specs.Walk.{entryOf}
+use Rattle.library.specs.Library.{step, check, item, call, entryOf, factsFrom, stepsFrom, alternativesFrom, sequencesFrom, beforeSequences, fromSequences, stepsPart, sequencesPart, libraryOf}
 use Rattle.general.specs.Tests.{All}
 use Rattle.library.specs.Accepted.{Faultless, StepWord, SequenceWord, Parts, Named, Below, Counted}
 use Rattle.image.specs.declared.answer.Head.{Head}
@@ -33,7 +32,7 @@ use Rattle.rules.specs.declared.rules.Earlier.{Earlier}
 use Rattle.rules.specs.declared.rules.Fault.the-variants.{Nothing}
 use Rattle.general.proofs.Bools.{and-left, and-right, or-cases, or-five}
 use Rattle.image.proofs.Head.{HeadRule, head-rule}
-use Rattle.image.proofs.Words.{fact-kind, entry-kinds}
+use Rattle.image.proofs.Words.{fact-kind, entry-kinds, entry-high}
 use Rattle.library.proofs.Decode.{is-not, kind-is, alternatives-all, parts-opened, parts-joined, steps-length, sequences-length}
 use Rattle.rules.proofs.Checked.{checked-walk}
 use Rattle.rules.proofs.Faultless.{Fine, fine, payloads}
@@ -68,16 +67,13 @@ place h e w s = go (or-five (isFact w && after-step) (isKind 5 w && eqb (e .sequ
     go (inr (inr (inr (inl t)))) = alternative-opener (kind-is 7 w (and-left (isKind 7 w) _ t)) (ltb-true _ _ (and-right (isKind 7 w) _ t))
     go (inr (inr (inr (inr t)))) = entry-word (and-left (isEntry w) after-entry t) (and-right (isEntry w) after-entry t)
 
-entry-kind : (w : ℕ) → isEntry w ≡ true → (8 ≤ kind w) × (kind w ≤ 9)
-entry-kind w s = ⊎-elim (λ s. omega (arith, kind-is 8 w s)) (λ s. omega (arith, kind-is 9 w s)) (or-cases (isKind 8 w) (isKind 9 w) s)
-
 -- ---- the words of the two parts
 
 small : (w : ℕ) → (isKind 5 w || isFact w) ≡ true → kind w ≤ 5
 small w s = ⊎-elim (λ t. omega (arith, kind-is 5 w t)) (λ t. omega (arith, fact-kind w t)) (or-cases (isKind 5 w) (isFact w) s)
 
 large : (w : ℕ) → (isKind 7 w || isEntry w) ≡ true → 7 ≤ kind w
-large w s = ⊎-elim (λ t. omega (arith, kind-is 7 w t)) (λ t. omega (arith, entry-kind w t)) (or-cases (isKind 7 w) (isEntry w) s)
+large w s = ⊎-elim (λ t. omega (arith, kind-is 7 w t)) (λ t. omega (arith, entry-high w t)) (or-cases (isKind 7 w) (isEntry w) s)
 
 step-word : (h : Head) (e : Earlier) (w : ℕ) → Fine h e w → e .sequences ≡ 0 → kind (e .last) ≤ 5 → (kind w ≡ 6 → ⊥) → StepWord h w
 step-word h e w f none last other = go (place h e w (f .stands))
@@ -93,22 +89,22 @@ step-word h e w f none last other = go (place h e w (f .stands))
 sequence-word : (h : Head) (e : Earlier) (w : ℕ) → Fine h e w → (kind w ≡ 6) ⊎ ((0 < e .sequences) × (6 ≤ kind (e .last))) → SequenceWord h w
 sequence-word h e w f late =
     record {
-      low = kinds .0;
-      high = kinds .1;
+      among = go (place h e w (f .stands)) late;
       step = payloads h e w (f .pays) .names-step;
       sequence = payloads h e w (f .pays) .names-sequence;
+      check = payloads h e w (f .pays) .names-fact;
     }
   where
-    go : Place h e w → (kind w ≡ 6) ⊎ ((0 < e .sequences) × (6 ≤ kind (e .last))) → (6 ≤ kind w) × (kind w ≤ 9)
-    go p (inl six) = omega arith
+    go : Place h e w → (kind w ≡ 6) ⊎ ((0 < e .sequences) × (6 ≤ kind (e .last))) → (kind w ≡ 6) ⊎ (kind w ≡ 7) ⊎ (isEntry w ≡ true)
+    go p (inl six) = inl six
     go (fact-word t a) (inr l) = absurd (omega (arith, small (e .last) a))
     go (step-opener t a) (inr l) = absurd (omega arith)
-    go (sequence-opener t a) (inr l) = omega arith
-    go (alternative-opener t a) (inr l) = omega arith
-    go (entry-word t a) (inr l) = omega (arith, entry-kind w t)
+    go (sequence-opener t a) (inr l) = inl t
+    go (alternative-opener t a) (inr l) = inr (inl t)
+    go (entry-word t a) (inr l) = inr (inr t)
 
-    kinds : (6 ≤ kind w) × (kind w ≤ 9)
-    kinds = go (place h e w (f .stands)) late
+sequence-high : {h : Head} (w : ℕ) → SequenceWord h w → 6 ≤ kind w
+sequence-high w word = ⊎-elim (λ k. omega arith) (λ k. ⊎-elim (λ l. omega arith) (λ l. omega (arith, entry-high w l)) k) (word .among)
 
 opens : (k w : ℕ) → (kind w ≡ k → ⊥) → boolByte (isKind k w) ≡ 0
 opens k w d = ap boolByte (is-not k w d)
@@ -135,7 +131,7 @@ later-words h e p [] g a some last = tt
 later-words h e p (w ∷ ws) g a some last =
     let c = walk-cons h e p w ws g a in
     let word = sequence-word h e w (fine h e p w (c .0)) (inr (some, last)) in
-    (word, later-words h (after e w) (suc p) ws g (c .1) (omega arith) (word .low))
+    (word, later-words h (after e w) (suc p) ws g (c .1) (omega arith) (sequence-high w word))
 
 sequences-words : (h : Head) (e : Earlier) (p : ℕ) (ws : List ℕ) (g : Head) → walk h e p ws ≡ Accepted g → All (SequenceWord h) (fromSequences ws)
 unfolding fromSequences
@@ -217,7 +213,7 @@ sequences-numbers h e p (w ∷ ws) g a i = go (isKind 6 w) refl (sequences-numbe
 no-steps : (h : Head) (ws : List ℕ) → All (SequenceWord h) ws → opened 5 ws ≡ 0
 unfolding opened
 no-steps h [] a = refl
-no-steps h (w ∷ ws) a = omega (arith, no-steps h ws (a .1), opens 5 w (λ k. omega (arith, a .0 .low)))
+no-steps h (w ∷ ws) a = omega (arith, no-steps h ws (a .1), opens 5 w (λ k. omega (arith, sequence-high w (a .0))))
 
 -- no sequence is opened among the steps
 no-sequences : (h : Head) (ws : List ℕ) → All (StepWord h) ws → opened 6 ws ≡ 0
@@ -249,11 +245,12 @@ steps-below h (w ∷ ws) a = go (isKind 5 w) (steps-below h ws (a .1))
     go false rest = rest
 
 entry-named : (h : Head) (w : ℕ) → SequenceWord h w → isEntry w ≡ true → Named h (entryOf w)
-entry-named h w s e = go (isKind 8 w) refl
+entry-named h w s e = go (isKind 8 w) (isKind 13 w) refl refl
   where
-    go : (b : Bool) → isKind 8 w ≡ b → Named h (cond b (item (step (payload w))) (call (payload w)))
-    go true q = s .step (kind-is 8 w q)
-    go false q = s .sequence (entry-kinds w e (eqb-false (kind w) 8 q))
+    go : (b c : Bool) → isKind 8 w ≡ b → isKind 13 w ≡ c → Named h (cond b (item (step (payload w))) (cond c (item (check (payload w))) (call (payload w))))
+    go true c q r = s .step (kind-is 8 w q)
+    go false true q r = s .check (kind-is 13 w r)
+    go false false q r = s .sequence (entry-kinds w e (eqb-false (kind w) 8 q) (eqb-false (kind w) 13 r))
 
 pub alternatives-named : (h : Head) (ws : List ℕ) → All (SequenceWord h) ws → All (All (Named h)) (alternativesFrom ws)
 alternatives-named h = alternatives-all (Named h) (All (SequenceWord h)) (λ w ws o a. a .1) (λ w ws e a. entry-named h w (a .0) e)

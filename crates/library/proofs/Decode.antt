@@ -9,7 +9,7 @@ use native.Mathlib.Nat.{le-of-suc-le-suc, zero-add}
 use native.Mathlib.Numerals.{one-add}
 use native.Mathlib.Omega.{arith}
 use mathlib.Core.Path.{_≡_, refl, sym, ap, _∙_, subst}
-use mathlib.Core.Bool.{Bool, true, false, cond, _||_}
+use mathlib.Core.Bool.{Bool, true, false, cond}
 use mathlib.Core.List.{List, [], _∷_, _++_}
 use lib.ListN.{length, getD, take, drop}
 use borrow.Author.Tests.{eq-eqb, ne-eqb, eqb-true}
@@ -17,8 +17,7 @@ use mir.Val.{boolByte}
 use Rattle.image.specs.Word.{kind, payload, isKind, isEntry}
 use Rattle.rules.specs.Rules.{opened}
 use Rattle.general.specs.Tests.{All}
-use Rattle.library.specs.Library.{has, Step, Entry, step, item, call, factsFrom, stepsFrom, entriesFrom, alternativesFrom, sequencesFrom, beforeSequences, fromSequences}
-use Rattle.library.specs.Walk.{entryOf}
+use Rattle.library.specs.Library.{has, Step, Entry, entryOf, factsFrom, stepsFrom, entriesFrom, alternativesFrom, sequencesFrom, beforeSequences, fromSequences}
 use Rattle.image.proofs.Words.{fact-of, entry-high}
 
 -- ---- kinds
@@ -50,13 +49,7 @@ entries-nil = refl
 -- an entry, or the alternative's end
 pub entries-cons : (w : ℕ) (ws : List ℕ) (b : Bool) → isEntry w ≡ b → entriesFrom (w ∷ ws) ≡ cond b (entryOf w ∷ entriesFrom ws) []
 unfolding entriesFrom
-entries-cons w ws b e = go (isKind 8 w) (isKind 9 w) (entriesFrom ws) ∙ ap (λ (c : Bool). cond c (entryOf w ∷ entriesFrom ws) []) e
-  where
-    go : (x y : Bool) (es : List Entry) → cond x (item (step (payload w)) ∷ es) (cond y (call (payload w) ∷ es) [])
-        ≡ cond (x || y) (cond x (item (step (payload w))) (call (payload w)) ∷ es) []
-    go true y es = refl
-    go false true es = refl
-    go false false es = refl
+entries-cons w ws b e = ap (λ (c : Bool). cond c (entryOf w ∷ entriesFrom ws) []) e
 
 pub alternatives-nil : alternativesFrom [] ≡ []
 unfolding alternativesFrom

@@ -2,15 +2,16 @@
 -- these records, and `proofs/Accepted` proves each of an accepted image.
 use Prim.Native.Nat.{ℕ, _+_, _-_, _≤_, _<_}
 use mathlib.Core.Path.{_≡_}
-use mathlib.Core.Bool.{false, _&&_}
+use mathlib.Core.Bool.{true, false, _&&_}
+use mathlib.Core.Logic.{_⊎_}
 use mathlib.Core.List.{List, []}
 use lib.ListN.{length, getD, take}
 use Rattle.general.specs.Tests.{All}
-use Rattle.image.specs.Word.{kind, payload, headOf}
+use Rattle.image.specs.Word.{kind, payload, isEntry, headOf}
 use Rattle.image.specs.Answer.{headPayload}
 use Rattle.rules.specs.Rules.{opened, earlier, faultAt}
 use Rattle.rules.specs.Checked.{firstWord}
-use Rattle.library.specs.Library.{Step, has, Entry, step, item, call, Library, stepsPart, sequencesPart}
+use Rattle.library.specs.Library.{Step, has, Entry, step, check, item, call, Library, stepsPart, sequencesPart}
 use Rattle.image.specs.declared.answer.Head.{Head}
 use Rattle.rules.specs.declared.rules.Fault.the-variants.{Nothing}
 
@@ -32,13 +33,13 @@ pub record StepWord (h : Head) (w : ℕ) : Type 0 where
   pub high : kind w ≤ 5
   pub fact : kind w ≤ 4 → payload w < h .facts
 
--- a word of the sequences' part: an opener of a sequence or an alternative, or an entry, which names a step or a sequence that
+-- a word of the sequences' part: an opener of a sequence or an alternative, or an entry, which names a step, a sequence or a fact that
 -- the head counts
 pub record SequenceWord (h : Head) (w : ℕ) : Type 0 where
-  pub low : 6 ≤ kind w
-  pub high : kind w ≤ 9
+  pub among : (kind w ≡ 6) ⊎ (kind w ≡ 7) ⊎ (isEntry w ≡ true)
   pub step : kind w ≡ 8 → payload w < h .steps
   pub sequence : kind w ≡ 9 → payload w < h .sequences
+  pub check : kind w ≡ 13 → payload w < h .facts
 
 -- the openers of kind k among the words have their numbers, counted from 0 in their order
 abbrev pub Numbered : ℕ → List ℕ → Type 0
@@ -54,9 +55,10 @@ pub record Parts (image : List ℕ) (h : Head) : Type 0 where
   pub sequences-opened : opened 6 (sequencesPart image) ≡ h .sequences
   pub sequences-short : length (sequencesPart image) ≤ 8192
 
--- an entry names a step below A or a sequence below C
+-- an entry names a step below A, a fact below F or a sequence below C
 abbrev pub Named : Head → Entry → Type 0
 Named h (item (step a)) = a < h .steps
+Named h (item (check f)) = f < h .facts
 Named h (call c) = c < h .sequences
 
 abbrev pub Below : ℕ → Step → Type 0

@@ -1,5 +1,5 @@
 -- The library that an image holds: its steps, and its sequences with their alternatives and entries, "counted from 0 in the order
--- of the image" (document 01, "The image"). In the papers a step is a primitive task, a sequence a compound task and an
+-- of the image" (document 01, "The image"; document 02, request 4). In the papers a step is a primitive task, a sequence a compound task and an
 -- alternative a method.
 --
 -- Each list is read off the words from a word on: a step's facts up to the next word that is no fact word, an alternative's
@@ -23,11 +23,12 @@ unfoldable pub has : ℕ → List ℕ → Bool
 has f [] = false
 has f (g ∷ gs) = eqb g f || has f gs
 
--- what a run is made of: a step, by its number
+-- what a run is made of: a step, by its number, or a check, by its fact
 pub data Item : Type 0 where
   step : ℕ → Item
+  check : ℕ → Item
 
--- "Kind 8 is an entry naming a step, kind 9 an entry naming a sequence.": an entry is an item, or calls a sequence
+-- an entry is an item, or calls a sequence
 pub data Entry : Type 0 where
   item : Item → Entry
   call : ℕ → Entry
@@ -60,11 +61,15 @@ stepsFrom [] = []
 stepsFrom (w ∷ ws) =
     cond (isKind 5 w) (record { needs = factsFrom 2 ws; sets = factsFrom 3 ws; clears = factsFrom 4 ws } ∷ stepsFrom ws) (stepsFrom ws)
 
+-- "Kind 8 is an entry naming a step, kind 9 an entry naming a sequence." Document 02: "Kind 13, an entry, checks that its fact stands".
+-- The entry that a word names, if it is an entry
+abbrev pub entryOf : ℕ → Entry
+entryOf w = cond (isKind 8 w) (item (step (payload w))) (cond (isKind 13 w) (item (check (payload w))) (call (payload w)))
+
 -- the entries from here to the alternative's end
 unfoldable pub entriesFrom : List ℕ → List Entry
 entriesFrom [] = []
-entriesFrom (w ∷ ws) =
-    cond (isKind 8 w) (item (step (payload w)) ∷ entriesFrom ws) (cond (isKind 9 w) (call (payload w) ∷ entriesFrom ws) [])
+entriesFrom (w ∷ ws) = cond (isEntry w) (entryOf w ∷ entriesFrom ws) []
 
 -- "Kind 7 opens an alternative": those from here to the sequence's end
 unfoldable pub alternativesFrom : List ℕ → List Alternative

@@ -1,18 +1,15 @@
--- The words of a sequence from an index on, in the form that a loop follows: the entry that a word names, where the entries of an
+-- The words of a sequence from an index on, in the form that a loop follows: the entry that a word names (Library's), where the entries of an
 -- alternative end and where a walk over them does, the alternatives of a sequence by its place, and those of them that stand before an index.
 use Prim.Native.Nat.{ℕ, _+_, _≤_, _<_}
 use mathlib.Core.Path.{_≡_}
-use mathlib.Core.Bool.{Bool, true, false, cond, not, _||_}
+use mathlib.Core.Bool.{Bool, true, false, not, _||_}
 use mathlib.Core.List.{List}
 use lib.ListN.{length, getD, drop}
 use Rattle.general.specs.Scan.{firstIndex, lastIndex}
-use Rattle.image.specs.Word.{payload, isKind, isEntry}
-use Rattle.library.specs.Library.{Entry, step, item, call, Alternative, entryAt, entriesFrom, alternativesFrom}
+use Rattle.image.specs.Word.{isKind, isEntry}
+use Rattle.library.specs.Library.{Entry, item, call, Alternative, entryAt, entriesFrom, alternativesFrom}
+pub use Rattle.library.specs.Library.{entryOf}
 use Rattle.library.specs.declared.walk.Alternatives.{Alternatives}
-
--- the entry that a word names, if it is an entry
-abbrev pub entryOf : ℕ → Entry
-entryOf w = cond (isKind 8 w) (item (step (payload w))) (call (payload w))
 
 -- the index after the entries that stand from index `at` on
 abbrev pub entriesEnd : List ℕ → ℕ → ℕ
