@@ -8,8 +8,8 @@ use native.Mathlib.Omega.{arith}
 use native.Mathlib.Nat.{add-zero}
 use native.Mathlib.Decide.{ℕ-discrete, decLt}
 use mathlib.Core.Path.{_≡_, refl, sym, ap, ap₂, _∙_}
-use mathlib.Core.Bool.{Bool, true, false, cond, _&&_, _||_}
-use mathlib.Core.Logic.{⊎-elim}
+use mathlib.Core.Bool.{Bool, true, false, _&&_, _||_}
+use mathlib.Core.Logic.{inl, inr, ⊎-elim}
 use mathlib.Core.List.{List, [], _∷_}
 use lib.Bits.{bitOr, or-zero-l}
 use lib.Dec.{eqb, ltb}
@@ -19,10 +19,12 @@ use lib.Seq.{getD-set-same, getD-set-other}
 use mir.Val.{boolByte}
 use borrow.Author.Tests.{eqb-true, eqb-false, eq-eqb, ne-eqb, lt-ltb, le-ltb}
 use Rattle.image.specs.Word.{kind, payload, isKind, isEntry}
+use Rattle.image.proofs.Words.{entry-of}
 use Rattle.general.specs.Tests.{some}
-use Rattle.general.proofs.Bools.{or-left, or-right, or-cases, nor-left, nor-right}
-use Rattle.library.specs.Library.{Entry, step, item, call, Alternative, entriesFrom, alternativesFrom}
-use Rattle.library.specs.Walk.{entryOf, entriesEnd}
+use Rattle.general.proofs.Bools.{or-right, or-cases, nor-left, nor-right}
+use Rattle.library.specs.Library.{Item, step, check, Entry, item, entryOf, Alternative, entriesFrom, alternativesFrom}
+use Rattle.library.specs.Walk.{entriesEnd}
+use Rattle.library.proofs.Decode.{kind-is, step-entry, check-entry, call-entry}
 use Rattle.library.proofs.Walking.{end-skips, end-ends}
 use Rattle.callers.proofs.Calls.{left, left-entry, left-opener, left-none}
 use Rattle.column.specs.Column.{bit, withFact}
@@ -207,21 +209,19 @@ module _ (part : List ℕ) (at c : ℕ) (s₀ s : List ℕ) (i : ℕ) (here : Ad
   adding-call s′ long nine put =
       let w = getD part i 0 in
       let kind-nine = eqb-true (kind w) 9 nine in
-      let entry : isEntry w ≡ true = or-right (isKind 8 w) (isKind 9 w) nine in
       record {
         long = long ∙ here .long;
         same = λ d b low room.
             let es = some (isCallOf d) (entriesFrom (drop (i + 1) part)) in
             let alts = callsOf (alternativesFrom (drop (i + 1) part)) d in
-            let names : isCallOf d (entryOf w) ≡ eqb (payload w) d =
-            ap (λ (x : Bool). isCallOf d (cond x (item (step (payload w))) (call (payload w)))) (ne-eqb (kind w) 8 (λ q. omega arith)) in
+            let names : isCallOf d (entryOf w) ≡ eqb (payload w) d = ap (isCallOf d) (call-entry w kind-nine) in
             ap (λ (x : Bool). x || (eqb b c && (es || alts))) (put d b low (omega (arith, here .long)))
             ∙ shift (isCaller s d b) (eqb b c) (eqb (payload w) d) es alts
-            ∙ ap (λ (x : Bool). isCaller s d b || (eqb b c && x)) (ap (λ (x : Bool). (x || es) || alts) (sym names) ∙ sym (left-entry part i d entry))
+            ∙ ap (λ (x : Bool). isCaller s d b || (eqb b c && x)) (ap (λ (x : Bool). (x || es) || alts) (sym names) ∙ sym (left-entry part i d (entry-of w (inr (inl kind-nine)))))
             ∙ here .same d b low room;
       }
 
-  -- the opener of an alternative, or a step
+  -- the opener of an alternative, or an item
   adding-same : ((d : ℕ) → left part (i + 1) d ≡ left part i d) → Adding part at c s₀ s (i + 1)
   adding-same stays =
       record {
@@ -232,18 +232,22 @@ module _ (part : List ℕ) (at c : ℕ) (s₀ s : List ℕ) (i : ℕ) (here : Ad
   adding-opener : isKind 7 (getD part i 0) ≡ true → Adding part at c s₀ s (i + 1)
   adding-opener seven = adding-same (λ d. sym (left-opener part i d seven))
 
-  adding-step : isKind 8 (getD part i 0) ≡ true → Adding part at c s₀ s (i + 1)
-  adding-step eight =
-      let w = getD part i 0 in
+  adding-item : isEntry (getD part i 0) ≡ true → (x : Item) → entryOf (getD part i 0) ≡ item x → Adding part at c s₀ s (i + 1)
+  adding-item entry x is =
       adding-same
       (λ d.
-      let names : isCallOf d (entryOf w) ≡ false = ap (λ (x : Bool). isCallOf d (cond x (item (step (payload w))) (call (payload w)))) eight in
-      ap (λ (x : Bool). (x || some (isCallOf d) (entriesFrom (drop (i + 1) part))) || callsOf (alternativesFrom (drop (i + 1) part)) d) (sym names)
-      ∙ sym (left-entry part i d (or-left (isKind 8 w) (isKind 9 w) eight)))
+      ap (λ (e : Entry). (isCallOf d e || some (isCallOf d) (entriesFrom (drop (i + 1) part))) || callsOf (alternativesFrom (drop (i + 1) part)) d) (sym is)
+      ∙ sym (left-entry part i d entry))
 
-  pub adding-on : (isKind 7 (getD part i 0) || isKind 8 (getD part i 0)) ≡ true → Adding part at c s₀ s (i + 1)
+  pub adding-on : isKind 7 (getD part i 0) || isKind 8 (getD part i 0) || isKind 13 (getD part i 0) ≡ true → Adding part at c s₀ s (i + 1)
   adding-on inside =
-      ⊎-elim adding-opener adding-step (or-cases (isKind 7 (getD part i 0)) (isKind 8 (getD part i 0)) inside)
+      let w = getD part i 0 in
+      ⊎-elim
+      (λ (on : isKind 7 w || isKind 8 w ≡ true).
+      ⊎-elim adding-opener
+      (λ eight. let k = kind-is 8 w eight in adding-item (entry-of w (inl k)) (step (payload w)) (step-entry w k)) (or-cases (isKind 7 w) (isKind 8 w) on))
+      (λ thirteen. let k = kind-is 13 w thirteen in adding-item (entry-of w (inr (inr k))) (check (payload w)) (check-entry w k))
+      (or-cases (isKind 7 w || isKind 8 w) (isKind 13 w) inside)
 
   -- no call is left
   adding-done : ((d : ℕ) → left part i d ≡ false) → Put c (λ d. callsOf (alternativesFrom (drop at part)) d) s₀ s
@@ -256,12 +260,13 @@ module _ (part : List ℕ) (at c : ℕ) (s₀ s : List ℕ) (i : ℕ) (here : Ad
       and-none true = refl
       and-none false = refl
 
-  pub adding-out : isKind 9 (getD part i 0) ≡ false → (isKind 7 (getD part i 0) || isKind 8 (getD part i 0)) ≡ false
+  pub adding-out : isKind 9 (getD part i 0) ≡ false → isKind 7 (getD part i 0) || isKind 8 (getD part i 0) || isKind 13 (getD part i 0) ≡ false
       → Put c (λ d. callsOf (alternativesFrom (drop at part)) d) s₀ s
   adding-out nine outside =
-      let seven = nor-left (isKind 7 (getD part i 0)) (isKind 8 (getD part i 0)) outside in
-      let eight = nor-right (isKind 7 (getD part i 0)) (isKind 8 (getD part i 0)) outside in
-      adding-done (λ d. left-none part i d seven (ap₂ (λ (x y : Bool). x || y) eight nine))
+      let w = getD part i 0 in
+      let early = nor-left (isKind 7 w || isKind 8 w) (isKind 13 w) outside in
+      let none : isEntry w ≡ false = rw (nor-right (isKind 7 w) (isKind 8 w) early, nine, nor-right (isKind 7 w || isKind 8 w) (isKind 13 w) outside) in
+      adding-done (λ d. left-none part i d (nor-left (isKind 7 w) (isKind 8 w) early) none)
 
   pub adding-end : length part ≤ i → Put c (λ d. callsOf (alternativesFrom (drop at part)) d) s₀ s
   adding-end past =

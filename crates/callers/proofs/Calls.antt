@@ -1,4 +1,4 @@
--- Calls: what holds of the steps, and of the sequences that alternatives call, holds of each of their entries; and the calls that are left
+-- Calls: what holds of the items, and of the sequences that alternatives call, holds of each of their entries; and the calls that are left
 -- from an index of the words on.
 -- Assumes nothing.
 use Prim.Native.Nat.{ℕ, _+_}
@@ -9,8 +9,7 @@ use lib.Dec.{eqb}
 use lib.ListN.{getD, drop}
 use borrow.Author.Tests.{eq-eqb}
 use Rattle.image.specs.Word.{isKind, isEntry}
-use Rattle.library.specs.Library.{Entry, step, item, call, Alternative, entriesFrom, alternativesFrom}
-use Rattle.library.specs.Walk.{entryOf}
+use Rattle.library.specs.Library.{Item, Entry, item, call, entryOf, Alternative, entriesFrom, alternativesFrom}
 use Rattle.library.proofs.Decode.{entry-opens-none}
 use Rattle.library.proofs.Walking.{entries-at, alternatives-at}
 use Rattle.general.specs.Tests.{All, some}
@@ -19,11 +18,11 @@ use Rattle.callers.specs.Callers.{isCallOf, callsOf}
 
 -- ---- something of each entry
 
-module _ (P : Entry → Type 0) (steps : (a : ℕ) → P (item (step a))) where
+module _ (P : Entry → Type 0) (items : (x : Item) → P (item x)) where
   entries-called : (es : List Entry) → ((d : ℕ) → some (isCallOf d) es ≡ true → P (call d)) → All P es
   unfolding some
   entries-called [] holds = tt
-  entries-called (item (step a) ∷ es) holds = (steps a, entries-called es (λ d e. holds d e))
+  entries-called (item x ∷ es) holds = (items x, entries-called es (λ d e. holds d e))
   entries-called (call c ∷ es) holds = (
     holds c (or-left (eqb c c) (some (isCallOf c) es) (eq-eqb c c refl)),
     entries-called es (λ d e. holds d (or-right (eqb c d) (some (isCallOf d) es) e)),

@@ -4,6 +4,7 @@ use crate::sets::WORD_BITS;
 use crate::sets::bit_of;
 use column::with_fact;
 use image::word::KIND_ALTERNATIVE;
+use image::word::KIND_CHECK;
 use image::word::KIND_SEQUENCE_ENTRY;
 use image::word::KIND_STEP_ENTRY;
 use image::word::PAYLOADS;
@@ -30,13 +31,13 @@ fn add(callers: &mut [u64], w: u32, c: usize)
     }
 }
 
-// Whether a word that is no call belongs to the sequence: an alternative's opener, or a step. It is one test, since the two follow each other
-// in no order that processors could guess.
+// Whether a word that is no call belongs to the sequence: an alternative's opener, a step or a check. It is one test, since these follow each
+// other in no order that processors could guess.
 fn goes_on(w: u32) -> bool
-    ensures { λ r. ⌜ r ≡ (isKind 7 w || isKind 8 w) ⌝ }
+    ensures { λ r. ⌜ r ≡ (isKind 7 w || isKind 8 w || isKind 13 w) ⌝ }
 {
     let k = w / PAYLOADS;
-    (k == KIND_ALTERNATIVE) | (k == KIND_STEP_ENTRY)
+    (k == KIND_ALTERNATIVE) | (k == KIND_STEP_ENTRY) | (k == KIND_CHECK)
 }
 
 // Makes sequence `c` a caller of those that its alternatives call, which stand from index `at` on.

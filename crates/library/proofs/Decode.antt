@@ -1,6 +1,6 @@
 -- How the library is read off the words, one word at a time, and what stands where: the laws by which the crates above follow the
 -- decoding without opening it.
--- It has: kinds of words; one word more of entries, alternatives, sequences, steps and facts (`entries-cons`, `alternatives-cons`, `sequences-
+-- It has: kinds of words, and the entry that a word names by its kind; one word more of entries, alternatives, sequences, steps and facts (`entries-cons`, `alternatives-cons`, `sequences-
 -- open`, `steps-open`, `facts-here`); the two parts; how many steps and sequences there are, and the one at a number (`step-at`, `sequence-
 -- at`). Loops over them are in Walking.
 -- Assumes nothing.
@@ -17,7 +17,7 @@ use mir.Val.{boolByte}
 use Rattle.image.specs.Word.{kind, payload, isKind, isEntry}
 use Rattle.rules.specs.Rules.{opened}
 use Rattle.general.specs.Tests.{All}
-use Rattle.library.specs.Library.{has, Step, Entry, entryOf, factsFrom, stepsFrom, entriesFrom, alternativesFrom, sequencesFrom, beforeSequences, fromSequences}
+use Rattle.library.specs.Library.{has, Step, step, check, Entry, item, call, entryOf, factsFrom, stepsFrom, entriesFrom, alternativesFrom, sequencesFrom, beforeSequences, fromSequences}
 use Rattle.image.proofs.Words.{fact-of, entry-high}
 
 -- ---- kinds
@@ -33,6 +33,17 @@ kind-is k w e = eqb-true (kind w) k e
 
 pub entry-opens-none : (w : ℕ) → isEntry w ≡ true → isKind 7 w ≡ false
 entry-opens-none w e = is-not 7 w (λ q. omega (arith, entry-high w e))
+
+-- ---- the entry that a word names, by its kind
+
+pub step-entry : (w : ℕ) → kind w ≡ 8 → entryOf w ≡ item (step (payload w))
+step-entry w k = rw k
+
+pub check-entry : (w : ℕ) → kind w ≡ 13 → entryOf w ≡ item (check (payload w))
+check-entry w k = rw k
+
+pub call-entry : (w : ℕ) → kind w ≡ 9 → entryOf w ≡ call (payload w)
+call-entry w k = rw k
 
 -- ---- facts of a list
 
