@@ -69,7 +69,8 @@ payloads h e w s =
     let f = whereKind (isFact w) (ltb p (h .facts)) in
     let g = whereKind (isKind 7 w) (eqb p 0) in
     let check = whereKind (isKind 13 w) (ltb p (h .facts)) in
-    let t = and-six a b c d f g (and-left (a && b && c && d && f && g) check s) in
+    let others = a && b && c && d && f && g in
+    let t = and-six a b c d f g (and-left others check s) in
     let opens-step : kind w ≡ 5 → five ≡ true = λ k. where-kind (isKind 5 w) five (t .0) (eq-eqb (kind w) 5 k) in
     let opens-sequence : kind w ≡ 6 → six ≡ true = λ k. where-kind (isKind 6 w) six (t .1) (eq-eqb (kind w) 6 k) in
     record {
@@ -78,7 +79,7 @@ payloads h e w s =
           λ k. (eqb-true _ _ (and-left (eqb p (e .sequences)) _ (opens-sequence k)), ltb-true _ _ (and-right (eqb p (e .sequences)) _ (opens-sequence k)));
       names-step = λ k. ltb-true _ _ (where-kind (isKind 8 w) (ltb p (h .steps)) (t .2) (eq-eqb (kind w) 8 k));
       names-sequence = λ k. ltb-true _ _ (where-kind (isKind 9 w) (ltb p (h .sequences)) (t .3) (eq-eqb (kind w) 9 k));
-      names-fact = λ k. ltb-true _ _ (where-kind (isKind 13 w) (ltb p (h .facts)) (and-right (a && b && c && d && f && g) check s) (eq-eqb (kind w) 13 k));
+      names-fact = λ k. ltb-true _ _ (where-kind (isKind 13 w) (ltb p (h .facts)) (and-right others check s) (eq-eqb (kind w) 13 k));
       fact = λ k. ltb-true _ _ (where-kind (isFact w) (ltb p (h .facts)) (t .4) k);
     }
 

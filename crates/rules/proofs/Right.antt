@@ -18,8 +18,17 @@ use Rattle.image.specs.declared.answer.Head.{Head}
 use Rattle.rules.specs.declared.rules.Earlier.{Earlier}
 use Rattle.rules.specs.declared.rules.Fault.the-variants.{Nothing}
 use Rattle.general.proofs.Bools.{and-left, and-right, or-left, or-right, or-cases, and-six}
-use Rattle.image.proofs.Words.{fact-of, fact-kind, entry-of, entry-high}
+use Rattle.image.proofs.Words.{fact-of, fact-kind, entry-high}
 use Rattle.rules.proofs.Faultless.{Fine, none-found, kind-where}
+
+-- where each side of a disjunction gives a side of another
+or-map : (a b x y : Bool) → (a ≡ true → x ≡ true) → (b ≡ true → y ≡ true) → a || b ≡ true → x || y ≡ true
+or-map a b x y f g e = ⊎-elim (λ p. or-left x y (f p)) (λ p. or-right x y (g p)) (or-cases a b e)
+
+counted-entry : (h : Head) (w : ℕ) → entryCounted h w ≡ true → isEntry w ≡ true
+counted-entry h w =
+    or-map _ _ _ _ (or-map _ _ _ _ (and-left (isKind 8 w) (ltb (payload w) (h .steps))) (and-left (isKind 9 w) (ltb (payload w) (h .sequences))))
+    (and-left (isKind 13 w) (ltb (payload w) (h .facts)))
 
 -- a word of kind k whose payload is below n
 abbrev EntryOf : ℕ → ℕ → ℕ → Type 0
@@ -101,16 +110,11 @@ module _ (h : Head) (e : Earlier) (last w : ℕ) (right : bodyRight h e last w �
   body-kind : (kind w ≡ 7) ⊎ (isEntry w ≡ true)
   body-kind =
       ⊎-elim
-      (λ (entry : entryRight h last w ≡ true). inr (named (counted-cases h w (and-right (isKind 7 last || isEntry last) _ entry))))
+      (λ (entry : entryRight h last w ≡ true). inr (counted-entry h w (and-right (isKind 7 last || isEntry last) _ entry)))
       (λ (alternative : alternativeRight e w ≡ true).
       let whole = eqb-true w (7 * 2 ^ 28) (and-left (eqb w (7 * 2 ^ 28)) (ltb 0 (e .sequences)) alternative) in
       inl (rw whole))
       (or-cases (entryRight h last w) (alternativeRight e w) right)
-    where
-      named : EntryOf w 8 (h .steps) ⊎ EntryOf w 9 (h .sequences) ⊎ EntryOf w 13 (h .facts) → isEntry w ≡ true
-      named (inl entry) = entry-of w (inl (entry .0))
-      named (inr (inl entry)) = entry-of w (inr (inl (entry .0)))
-      named (inr (inr entry)) = entry-of w (inr (inr (entry .0)))
 
   body-high : 7 ≤ kind w
   body-high = ⊎-elim (λ k. omega arith) (λ k. omega (arith, entry-high w k)) body-kind
@@ -138,10 +142,6 @@ inside-body h e last w opened follows right =
     (λ (alternative : eqb w (7 * 2 ^ 28) ≡ true).
     or-right (entryRight h last w) (alternativeRight e w) (rw (alternative, lt-ltb 0 (e .sequences) opened)))
     (or-cases (entryCounted h w) (eqb w (7 * 2 ^ 28)) right)
-
--- where each side of a disjunction gives a side of another
-or-map : (a b x y : Bool) → (a ≡ true → x ≡ true) → (b ≡ true → y ≡ true) → a || b ≡ true → x || y ≡ true
-or-map a b x y f g e = ⊎-elim (λ p. or-left x y (f p)) (λ p. or-right x y (g p)) (or-cases a b e)
 
 -- the words of a kind with a payload below a count are a range of numbers: what is left of them less the kind's first word is below the count
 in-range : (k n w a : ℕ) → w < 2 ^ 32 → k ≤ 15 → n ≤ 2 ^ 28 → a ≡ (w + (16 - k) * 2 ^ 28) % 2 ^ 32 → ltb a n ≡ true → isKind k w && ltb (payload w) n ≡ true

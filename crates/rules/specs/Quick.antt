@@ -10,13 +10,14 @@ use Rattle.rules.specs.Rules.{setsAfter}
 use Rattle.image.specs.declared.answer.Head.{Head}
 use Rattle.rules.specs.declared.rules.Earlier.{Earlier}
 
--- A word that is right by the rules of its kind alone has no fault: `proofs/Right` proves it. An entry after a kind 7 or another entry
--- that names what the head counts; an alternative's opener after the first sequence's; the next step's opener before the first
--- sequence's; the next sequence's opener after all steps
+-- an entry that names what the head counts: a step, a sequence, or the fact that it checks
 abbrev pub entryCounted : Head → ℕ → Bool
 entryCounted h w =
     isKind 8 w && ltb (payload w) (h .steps) || isKind 9 w && ltb (payload w) (h .sequences) || isKind 13 w && ltb (payload w) (h .facts)
 
+-- A word that is right by the rules of its kind alone has no fault: `proofs/Right` proves it. An entry after a kind 7 or another entry
+-- that names what the head counts; an alternative's opener after the first sequence's; the next step's opener before the first
+-- sequence's; the next sequence's opener after all steps
 abbrev pub entryRight : Head → ℕ → ℕ → Bool
 entryRight h last w = (isKind 7 last || isEntry last) && entryCounted h w
 
