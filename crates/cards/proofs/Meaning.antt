@@ -16,33 +16,37 @@ use Rattle.column.proofs.Bits.{bit-zero, bit-suc, bit-none, bit-high, column-sa
 use Rattle.column.proofs.Operations.{bit-one, bit-null, in-column, column-high, count-le, count-same, count-none}
 use Rattle.library.specs.Library.{Library, Item}
 use Rattle.runs.specs.Run.{Run}
+use Rattle.runs.specs.Domain.{domainOf}
+use Rattle.runs.specs.Standing.{EndsStanding}
 use Rattle.runs.specs.Execution.{Fact, State, Executes}
-use Rattle.runs.specs.Touch.{Question, HasOutcome, untouched, lastSet, lastCleared, firstNeeded}
-use Rattle.runs.specs.Possible.{possibleOutcome, alwaysOutcome, hasRun, hasEmptyRun, brokenRule, questionColumn, emptyColumn}
+use Rattle.runs.specs.Touch.{Mark, present, absent, untouched, last, first, lastSet, lastCleared}
+use Rattle.runs.specs.View.{View, touches, standing, viewOutcome}
+use Rattle.runs.specs.Possible.{possibleIn, alwaysIn, brokenIn, possibleOutcome, hasRun, hasEmptyRun, viewColumn, questionColumn, emptyColumn}
 use Rattle.general.proofs.Bools.{passes-or-not}
 use Rattle.runs.proofs.Outcome.{present≢untouched, absent≢untouched}
-use Rattle.runs.proofs.Columns.{question-iff, hasRun-iff, hasEmptyRun-iff, blank-columns, always-iff, missing-iff}
+use Rattle.runs.proofs.Columns.{view-iff, hasRun-iff, hasEmptyRun-iff, blank-columns, always-iff, missing-iff}
 use Rattle.runs.proofs.Published.{PublishedColumns, published-columns}
-use Rattle.runs.proofs.Execution.{needed-stood, set-stands, cleared-falls, gained-set, lost-cleared}
-use Rattle.cards.specs.Layout.{CardColumn, always-needed, may-need, may-set, may-clear, always-set, always-cleared, place}
-use Rattle.cards.specs.Layout.{cardWords}
+use Rattle.runs.proofs.Execution.{needed-stood, set-stands, cleared-falls, gained-set, lost-cleared, Stood, end-standing}
+use Rattle.runs.proofs.Standing.{standing-iff}
+use Rattle.cards.specs.Layout.{CardColumn, always-needed, may-need, may-set, may-clear, always-set, always-cleared, always-stands}
+use Rattle.cards.specs.Layout.{place, cardWords}
 use Rattle.cards.specs.Card.{may, always, changeable, flags, card, maySet, mayClear}
 use Rattle.cards.specs.Card.{cardWord}
 use Rattle.cards.specs.Meaning.{Lacks, HasRun, NoRun, Columns, Flags, Blank, Card, Kept, Changed, Always, needed, set, cleared, columnOf, Missing, Runs}
 
 -- ---- a word, one fact at a time
 
-may-holds : (L : Library) (q : Question) (c : ℕ) (f : Fact L) → (bit (may L q c) (f .0) ≡ 1) ↔ (possibleOutcome L q c (f .0) ≡ true)
+may-holds : (L : Library) (v : View) (m : Mark) (c : ℕ) (f : Fact L) → (bit (may L v m c) (f .0) ≡ 1) ↔ (possibleIn L v m c (f .0) ≡ true)
 unfolding may
-may-holds L q c f = bit-one (L .facts) (λ (g : ℕ). possibleOutcome L q c g) (f .0) (f .1)
+may-holds L v m c f = bit-one (L .facts) (λ (g : ℕ). possibleIn L v m c g) (f .0) (f .1)
 
-always-holds : (L : Library) (q : Question) (c : ℕ) (f : Fact L) → (bit (always L q c) (f .0) ≡ 1) ↔ (alwaysOutcome L q c (f .0) ≡ true)
+always-holds : (L : Library) (v : View) (m : Mark) (c : ℕ) (f : Fact L) → (bit (always L v m c) (f .0) ≡ 1) ↔ (alwaysIn L v m c (f .0) ≡ true)
 unfolding always
-always-holds L q c f = bit-one (L .facts) (λ (g : ℕ). alwaysOutcome L q c g) (f .0) (f .1)
+always-holds L v m c f = bit-one (L .facts) (λ (g : ℕ). alwaysIn L v m c g) (f .0) (f .1)
 
-always-lacks : (L : Library) (q : Question) (c : ℕ) (f : Fact L) → (bit (always L q c) (f .0) ≡ 0) ↔ (alwaysOutcome L q c (f .0) ≡ false)
+always-lacks : (L : Library) (v : View) (m : Mark) (c : ℕ) (f : Fact L) → (bit (always L v m c) (f .0) ≡ 0) ↔ (alwaysIn L v m c (f .0) ≡ false)
 unfolding always
-always-lacks L q c f = bit-null (L .facts) (λ (g : ℕ). alwaysOutcome L q c g) (f .0) (f .1)
+always-lacks L v m c f = bit-null (L .facts) (λ (g : ℕ). alwaysIn L v m c g) (f .0) (f .1)
 
 -- ---- demand 2
 
@@ -54,29 +58,37 @@ columns-right L c run f = go
     p = published-columns L c f (hasRun-iff L c .1 run)
 
     go : Columns L c (cardWord L c) f
-    go always-needed = Iff·trans (always-holds L firstNeeded c f) (p .always-needed)
-    go may-need = Iff·trans (may-holds L firstNeeded c f) (p .may-need)
-    go may-set = Iff·trans (may-holds L lastSet c f) (p .may-set)
-    go may-clear = Iff·trans (may-holds L lastCleared c f) (p .may-clear)
-    go always-set = Iff·trans (always-holds L lastSet c f) (p .always-set)
-    go always-cleared = Iff·trans (always-holds L lastCleared c f) (p .always-cleared)
+    go always-needed = Iff·trans (always-holds L (touches first) present c f) (p .always-needed)
+    go may-need = Iff·trans (may-holds L (touches first) present c f) (p .may-need)
+    go may-set = Iff·trans (may-holds L (touches last) present c f) (p .may-set)
+    go may-clear = Iff·trans (may-holds L (touches last) absent c f) (p .may-clear)
+    go always-set = Iff·trans (always-holds L (touches last) present c f) (p .always-set)
+    go always-cleared = Iff·trans (always-holds L (touches last) absent c f) (p .always-cleared)
+    go always-stands = Iff·trans (always-holds L standing present c f) stands
+      where
+        stands : (alwaysIn L standing present c (f .0) ≡ true) ↔ ((w : List Item) → Run L c w → EndsStanding L (f .0) w)
+        stands = (
+          (λ e w r. standing-iff L (f .0) w .0 (always-iff L standing present c (f .0) present≢untouched .0 e .1 w r)),
+          λ h. always-iff L standing present c (f .0) present≢untouched .1 (run, λ w r. standing-iff L (f .0) w .1 (h w r)),
+        )
 
-may-high : (L : Library) (q : Question) (c f : ℕ) → L .facts ≤ f → bit (may L q c) f ≡ 0
+may-high : (L : Library) (v : View) (m : Mark) (c f : ℕ) → L .facts ≤ f → bit (may L v m c) f ≡ 0
 unfolding may
-may-high L q c f u = column-high (L .facts) (λ (g : ℕ). possibleOutcome L q c g) f u
+may-high L v m c f u = column-high (L .facts) (λ (g : ℕ). possibleIn L v m c g) f u
 
-always-high : (L : Library) (q : Question) (c f : ℕ) → L .facts ≤ f → bit (always L q c) f ≡ 0
+always-high : (L : Library) (v : View) (m : Mark) (c f : ℕ) → L .facts ≤ f → bit (always L v m c) f ≡ 0
 unfolding always
-always-high L q c f u = column-high (L .facts) (λ (g : ℕ). alwaysOutcome L q c g) f u
+always-high L v m c f u = column-high (L .facts) (λ (g : ℕ). alwaysIn L v m c g) f u
 
 facts-only : (L : Library) (c : ℕ) (k : CardColumn) (f : ℕ) → L .facts ≤ f → Lacks (cardWord L c) k f
 unfolding card
-facts-only L c always-needed f u = always-high L firstNeeded c f u
-facts-only L c may-need f u = may-high L firstNeeded c f u
-facts-only L c may-set f u = may-high L lastSet c f u
-facts-only L c may-clear f u = may-high L lastCleared c f u
-facts-only L c always-set f u = always-high L lastSet c f u
-facts-only L c always-cleared f u = always-high L lastCleared c f u
+facts-only L c always-needed f u = always-high L (touches first) present c f u
+facts-only L c may-need f u = may-high L (touches first) present c f u
+facts-only L c may-set f u = may-high L (touches last) present c f u
+facts-only L c may-clear f u = may-high L (touches last) absent c f u
+facts-only L c always-set f u = always-high L (touches last) present c f u
+facts-only L c always-cleared f u = always-high L (touches last) absent c f u
+facts-only L c always-stands f u = always-high L standing present c f u
 
 byte-bound : (b : Bool) → boolByte b ≤ 1
 byte-bound true = omega arith
@@ -133,17 +145,16 @@ flags-right L high c =
 -- ---- the blank card
 
 module _ (L : Library) (c : ℕ) (none : hasRun L c ≡ false) where
-  may-blank : (q : Question) → may L q c ≡ 0
+  may-blank : (v : View) (m : Mark) → may L v m c ≡ 0
   unfolding may
-  may-blank q =
-      column-same (L .facts) (λ (f : ℕ). possibleOutcome L q c f) (λ (f : ℕ). false) (λ f l. blank-columns (questionColumn q) L c f none)
+  may-blank v m =
+      column-same (L .facts) (λ (f : ℕ). possibleIn L v m c f) (λ (f : ℕ). false) (λ f l. blank-columns (viewColumn v m) L c f none)
       ∙ column-none (L .facts)
 
-  always-blank : (q : Question) → always L q c ≡ 0
+  always-blank : (v : View) (m : Mark) → always L v m c ≡ 0
   unfolding always
-  always-blank q =
-      column-same (L .facts) (λ (f : ℕ). alwaysOutcome L q c f) (λ (f : ℕ). false)
-      (λ f l. ap (λ (b : Bool). b && not (brokenRule L q c f)) none)
+  always-blank v m =
+      column-same (L .facts) (λ (f : ℕ). alwaysIn L v m c f) (λ (f : ℕ). false) (λ f l. ap (λ (b : Bool). b && not (brokenIn L v m c f)) none)
       ∙ column-none (L .facts)
 
   flags-blank : flags L c ≡ 0
@@ -159,13 +170,14 @@ module _ (L : Library) (c : ℕ) (none : hasRun L c ≡ false) where
   card-blank : Blank (cardWord L c)
   unfolding card
   card-blank zero l = flags-blank
-  card-blank (suc zero) l = always-blank firstNeeded
-  card-blank (suc (suc zero)) l = may-blank firstNeeded
-  card-blank (suc (suc (suc zero))) l = may-blank lastSet
-  card-blank (suc (suc (suc (suc zero)))) l = may-blank lastCleared
-  card-blank (suc (suc (suc (suc (suc zero))))) l = always-blank lastSet
-  card-blank (suc (suc (suc (suc (suc (suc zero)))))) l = always-blank lastCleared
-  card-blank (suc (suc (suc (suc (suc (suc (suc k))))))) l = absurd (omega arith)
+  card-blank (suc zero) l = always-blank (touches first) present
+  card-blank (suc (suc zero)) l = may-blank (touches first) present
+  card-blank (suc (suc (suc zero))) l = may-blank (touches last) present
+  card-blank (suc (suc (suc (suc zero)))) l = may-blank (touches last) absent
+  card-blank (suc (suc (suc (suc (suc zero))))) l = always-blank (touches last) present
+  card-blank (suc (suc (suc (suc (suc (suc zero)))))) l = always-blank (touches last) absent
+  card-blank (suc (suc (suc (suc (suc (suc (suc zero))))))) l = always-blank standing present
+  card-blank (suc (suc (suc (suc (suc (suc (suc (suc k)))))))) l = absurd (omega arith)
 
 no-run : (L : Library) (c : ℕ) → NoRun L c → hasRun L c ≡ false
 no-run L c none =
@@ -188,35 +200,36 @@ card-right L high c =
 -- ---- demand 3 over the words of a card
 
 module _ (L : Library) (c : ℕ) where
-  always-run : (q : Question) → q .mark ≢ untouched → (w : List Item) → Run L c w → (f : Fact L) → bit (always L q c) (f .0) ≡ 1
-      → HasOutcome L q (f .0) w
-  always-run q touch w r f e = always-iff L q c (f .0) touch .0 (always-holds L q c f .0 e) .1 w r
+  always-run : (v : View) (m : Mark) → m ≢ untouched → (w : List Item) → Run L c w → (f : Fact L) → bit (always L v m c) (f .0) ≡ 1
+      → viewOutcome L v (f .0) w ≡ m
+  always-run v m touch w r f e = always-iff L v m c (f .0) touch .0 (always-holds L v m c f .0 e) .1 w r
 
-  may-run : (q : Question) (w : List Item) → Run L c w → (f : Fact L) → HasOutcome L q (f .0) w → bit (may L q c) (f .0) ≡ 1
-  may-run q w r f o = may-holds L q c f .1 (question-iff L q c (f .0) .1 (w, r, o))
+  may-run : (v : View) (m : Mark) (w : List Item) → Run L c w → (f : Fact L) → viewOutcome L v (f .0) w ≡ m → bit (may L v m c) (f .0) ≡ 1
+  may-run v m w r f o = may-holds L v m c f .1 (view-iff L v m c (f .0) .1 (w, r, o))
 
   runs-kept : (w : List Item) → Run L c w → (s : State L) → Executes L w s → (f : Fact L) → Kept L (cardWord L c) w s f
   unfolding card
   runs-kept w r s ex f =
       record {
-        needed = λ e. needed-stood L f w s ex (always-run firstNeeded present≢untouched w r f e);
-        set = λ e. set-stands L f w s (always-run lastSet present≢untouched w r f e);
-        cleared = λ e. cleared-falls L f w s (always-run lastCleared absent≢untouched w r f e);
+        needed = λ e. needed-stood (domainOf L) f w s ex (always-run (touches first) present present≢untouched w r f e);
+        set = λ e. set-stands (domainOf L) f w s (always-run (touches last) present present≢untouched w r f e);
+        cleared = λ e. cleared-falls (domainOf L) f w s (always-run (touches last) absent absent≢untouched w r f e);
+        stands = λ e. end-standing (domainOf L) f w s ex .stands (always-run standing present present≢untouched w r f e);
       }
 
   runs-changed : (w : List Item) → Run L c w → (s : State L) → (f : Fact L) → Changed L (cardWord L c) w s f
   unfolding card
   runs-changed w r s f =
       record {
-        gained = λ e q. may-run lastSet w r f (gained-set L f w s e q);
-        lost = λ q e. may-run lastCleared w r f (lost-cleared L f w s q e);
+        gained = λ e q. may-run (touches last) present w r f (gained-set (domainOf L) f w s e q);
+        lost = λ q e. may-run (touches last) absent w r f (lost-cleared (domainOf L) f w s q e);
       }
 
   missing-right : (a : Always) (f : Fact L) → Missing L c (cardWord L c) a f
   unfolding card
-  missing-right needed f = Iff·trans (always-lacks L firstNeeded c f) (missing-iff L firstNeeded c (f .0) present≢untouched)
-  missing-right set f = Iff·trans (always-lacks L lastSet c f) (missing-iff L lastSet c (f .0) present≢untouched)
-  missing-right cleared f = Iff·trans (always-lacks L lastCleared c f) (missing-iff L lastCleared c (f .0) absent≢untouched)
+  missing-right needed f = Iff·trans (always-lacks L (touches first) present c f) (missing-iff L (touches first) present c (f .0) present≢untouched)
+  missing-right set f = Iff·trans (always-lacks L (touches last) present c f) (missing-iff L (touches last) present c (f .0) present≢untouched)
+  missing-right cleared f = Iff·trans (always-lacks L (touches last) absent c f) (missing-iff L (touches last) absent c (f .0) absent≢untouched)
 
   pub runs-right : Runs L c (cardWord L c)
   runs-right = record { kept = runs-kept; changed = runs-changed; missing = missing-right }
@@ -230,6 +243,7 @@ place-low may-set = omega arith
 place-low may-clear = omega arith
 place-low always-set = omega arith
 place-low always-cleared = omega arith
+place-low always-stands = omega arith
 
 module _ (L : Library) (c : ℕ) (word : ℕ → ℕ) (same : (k : ℕ) → k < cardWords → word k ≡ cardWord L c k) where
   same-column : (k : CardColumn) → word (place k) ≡ cardWord L c (place k)
@@ -264,6 +278,7 @@ module _ (L : Library) (c : ℕ) (word : ℕ → ℕ) (same : (k : ℕ) → k < 
               needed = rw (same-column always-needed) (kept .needed);
               set = rw (same-column always-set) (kept .set);
               cleared = rw (same-column always-cleared) (kept .cleared);
+              stands = rw (same-column always-stands) (kept .stands);
             };
         changed = λ w r s f.
             let changed = runs .changed w r s f in

@@ -1,4 +1,4 @@
--- What a card says fixes its words: any seven words of which `Card` holds are the same.
+-- What a card says fixes its words: any words of which `Card` holds are the same.
 -- Assumes nothing.
 use Prim.Native.Nat.{ℕ, zero, suc, _+_, _-_, _/_, _%_, _^_, _≤_, _<_}
 use native.Mathlib.Nat.{pow-suc}
@@ -15,7 +15,8 @@ use Rattle.library.specs.Library.{Library}
 use Rattle.runs.specs.Possible.{hasRun}
 use Rattle.general.proofs.Bools.{passes-or-not}
 use Rattle.runs.proofs.Columns.{hasRun-iff}
-use Rattle.cards.specs.Layout.{CardColumn, always-needed, may-need, may-set, may-clear, always-set, always-cleared, place, cardWords}
+use Rattle.cards.specs.Layout.{CardColumn, always-needed, may-need, may-set, may-clear, always-set, always-cleared, always-stands}
+use Rattle.cards.specs.Layout.{place, cardWords}
 use Rattle.cards.specs.Meaning.{HasRun, NoRun, Card}
 
 low-pow : (n : ℕ) → n < 2 ^ n
@@ -65,7 +66,8 @@ module _ (L : Library) (c : ℕ) (word other : ℕ → ℕ) (one : Card L c word
     words-fixed (suc (suc (suc (suc zero)))) l m = column-fixed may-clear
     words-fixed (suc (suc (suc (suc (suc zero))))) l m = column-fixed always-set
     words-fixed (suc (suc (suc (suc (suc (suc zero)))))) l m = column-fixed always-cleared
-    words-fixed (suc (suc (suc (suc (suc (suc (suc j))))))) l m = absurd (omega arith)
+    words-fixed (suc (suc (suc (suc (suc (suc (suc zero))))))) l m = column-fixed always-stands
+    words-fixed (suc (suc (suc (suc (suc (suc (suc (suc j)))))))) l m = absurd (omega arith)
 
     counts-fixed : word 0 / 2 ^ 8 ≡ other 0 / 2 ^ 8
     counts-fixed =

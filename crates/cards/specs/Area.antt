@@ -11,7 +11,7 @@ use Rattle.cards.specs.Meaning.{Card}
 abbrev pub partWord : List ℕ → ℕ → ℕ → ℕ
 partWord area c k = getD area (cardWords * c + k) 0
 
--- "Seven 64-bit words a sequence, sequence 0 first": the words are the cards of all sequences
+-- so many "64-bit words a sequence, sequence 0 first": the words are the cards of all sequences
 pub record AllCards (L : Library) (words : List ℕ) : Type 0 where
   pub long : length words ≡ cardWords * length (L .sequences)
   pub card : (c : ℕ) → c < length (L .sequences) → Card L c (partWord words c)

@@ -8,17 +8,18 @@ use mir.Val.{boolByte}
 use Rattle.column.specs.Column.{column}
 use Rattle.column.specs.Sets.{countBelow}
 use Rattle.library.specs.Library.{Library}
-use Rattle.runs.specs.Touch.{Question, lastSet, lastCleared, firstNeeded}
-use Rattle.runs.specs.Possible.{possibleOutcome, alwaysOutcome, hasRun, hasEmptyRun}
+use Rattle.runs.specs.Touch.{Mark, present, absent, last, first, lastSet, lastCleared}
+use Rattle.runs.specs.View.{View, touches, standing}
+use Rattle.runs.specs.Possible.{possibleIn, alwaysIn, possibleOutcome, hasRun, hasEmptyRun}
 
--- "fact f is bit f": the column of a question that some run must have answered, and of one that every run must have
-unfoldable pub may : Library → Question → ℕ → ℕ
+-- "fact f is bit f": the column of an outcome that some run has in a view, and of one that a run exists and every run has
+unfoldable pub may : Library → View → Mark → ℕ → ℕ
 unfolding column
-may L q c = column (L .facts) (λ (f : ℕ). possibleOutcome L q c f)
+may L v m c = column (L .facts) (λ (f : ℕ). possibleIn L v m c f)
 
-unfoldable pub always : Library → Question → ℕ → ℕ
+unfoldable pub always : Library → View → Mark → ℕ → ℕ
 unfolding column
-always L q c = column (L .facts) (λ (f : ℕ). alwaysOutcome L q c f)
+always L v m c = column (L .facts) (λ (f : ℕ). alwaysIn L v m c f)
 
 -- "the number of facts that are in "may set" or in "may clear""
 unfoldable pub changeable : Library → ℕ → ℕ
@@ -32,32 +33,37 @@ flags L c = boolByte (hasRun L c) + 2 * boolByte (hasEmptyRun L c) + 2 ^ 8 * cha
 
 -- "Always needed: a run exists, and every run first touches the fact by a need."
 abbrev pub alwaysNeeded : Library → ℕ → ℕ
-alwaysNeeded L c = always L firstNeeded c
+alwaysNeeded L c = always L (touches first) present c
 
 -- "May need: some run does (001, Definition 7)."
 abbrev pub mayNeed : Library → ℕ → ℕ
-mayNeed L c = may L firstNeeded c
+mayNeed L c = may L (touches first) present c
 
 -- "May set: some run's last touch sets it."
 abbrev pub maySet : Library → ℕ → ℕ
-maySet L c = may L lastSet c
+maySet L c = may L (touches last) present c
 
 -- "May clear: some run's last touch clears it."
 abbrev pub mayClear : Library → ℕ → ℕ
-mayClear L c = may L lastCleared c
+mayClear L c = may L (touches last) absent c
 
 -- "Always set: a run exists, and every run's last touch sets it."
 abbrev pub alwaysSet : Library → ℕ → ℕ
-alwaysSet L c = always L lastSet c
+alwaysSet L c = always L (touches last) present c
 
 -- "Always cleared: likewise."
 abbrev pub alwaysCleared : Library → ℕ → ℕ
-alwaysCleared L c = always L lastCleared c
+alwaysCleared L c = always L (touches last) absent c
+
+-- ""always stands": a run exists, and in every run the last item that sets, clears, needs or checks the fact is there and does not clear it"
+-- (document 02, request 4)
+abbrev pub alwaysStands : Library → ℕ → ℕ
+alwaysStands L c = always L standing present c
 
 unfoldable pub card : Library → ℕ → List ℕ
 unfolding flags may always
 card L c =
-    flags L c ∷ alwaysNeeded L c ∷ mayNeed L c ∷ maySet L c ∷ mayClear L c ∷ alwaysSet L c ∷ alwaysCleared L c ∷ []
+    flags L c ∷ alwaysNeeded L c ∷ mayNeed L c ∷ maySet L c ∷ mayClear L c ∷ alwaysSet L c ∷ alwaysCleared L c ∷ alwaysStands L c ∷ []
 
 -- word k of a card
 abbrev pub cardWord : Library → ℕ → ℕ → ℕ

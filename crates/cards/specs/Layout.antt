@@ -1,9 +1,9 @@
--- The words of a card (document 01, "The card"): the flags, and after them the columns in their order.
+-- The words of a card (document 01, "The card"; document 02, request 4): the flags, and after them the columns in their order.
 use Prim.Native.Nat.{ℕ}
 
 -- the columns of a card, each with its place among the card's words: the flags are word 0
 pub data CardColumn : Type 0 where
-  always-needed may-need may-set may-clear always-set always-cleared : CardColumn
+  always-needed may-need may-set may-clear always-set always-cleared always-stands : CardColumn
 
 abbrev pub place : CardColumn → ℕ
 place always-needed = 1
@@ -12,7 +12,8 @@ place may-set = 3
 place may-clear = 4
 place always-set = 5
 place always-cleared = 6
+place always-stands = 7
 
--- "Seven 64-bit words a sequence"
+-- "Seven 64-bit words a sequence"; "A card gains an eighth word" (request 4)
 abbrev pub cardWords : ℕ
-cardWords = 7
+cardWords = 8

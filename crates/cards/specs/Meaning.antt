@@ -1,18 +1,22 @@
--- What a card says (demands 2 and 3), of every library and of any seven words, wherever they were found: each column against the published
--- definitions, the flags, the count, the blank card, and what the words say of every run. Word k of a card counts from 0.
+-- What a card says (demands 2 and 3), of every library and of any words, wherever they were found: each column against the published
+-- definitions or the words of the request that added it, the flags, the count, the blank card, and what the words say of every run. Word k of a
+-- card counts from 0.
 use Prim.Native.Nat.{ℕ, _/_, _^_, _≤_, _<_}
 use mathlib.Core.Path.{_≡_}
 use mathlib.Core.Logic.{_↔_, _⊎_}
 use mathlib.Core.Bool.{true, false, _||_}
-use mathlib.Core.List.{List, []}
+use mathlib.Core.List.{List}
 use Rattle.column.specs.Column.{bit}
 use Rattle.column.specs.Sets.{inColumn, countBelow}
 use Rattle.library.specs.Library.{Library, Item}
-use Rattle.runs.specs.Run.{Run}
+use Rattle.runs.specs.Run.{Run, Empty}
+use Rattle.runs.specs.Domain.{domainOf}
 use Rattle.runs.specs.Execution.{Fact, State, Executes, end}
 use Rattle.runs.specs.Touch.{Question, HasOutcome, lastSet, lastCleared, firstNeeded}
+use Rattle.runs.specs.Standing.{EndsStanding}
 use Rattle.runs.specs.Published.{prec∅, poss-prec∅, eff*∅+, eff*∅-, poss-eff*∅+, poss-eff*∅-}
-use Rattle.cards.specs.Layout.{CardColumn, always-needed, may-need, may-set, may-clear, always-set, always-cleared, place, cardWords}
+use Rattle.cards.specs.Layout.{CardColumn, always-needed, may-need, may-set, may-clear, always-set, always-cleared, always-stands}
+use Rattle.cards.specs.Layout.{place, cardWords}
 
 -- "fact f is bit f": the column holds the fact, or the fact is missing from it
 abbrev pub Holds : (ℕ → ℕ) → CardColumn → ℕ → Type 0
@@ -28,33 +32,36 @@ HasRun L c = (w : List Item) × Run L c w
 abbrev pub NoRun : Library → ℕ → Type 0
 NoRun L c = (w : List Item) → ¬ Run L c w
 
--- the published definition that a column stands for (001)
-abbrev pub published : CardColumn → (L : Library) → ℕ → Fact L → Type 0
-published always-needed L c f = prec∅ L c f
-published may-need L c f = poss-prec∅ L c f
-published may-set L c f = poss-eff*∅+ L c f
-published may-clear L c f = poss-eff*∅- L c f
-published always-set L c f = eff*∅+ L c f
-published always-cleared L c f = eff*∅- L c f
+-- what puts a fact into a column: the published definition that it stands for (001). "Demand 2 judges a column that a request adds by that
+-- request's words": a run exists, and "in every run the last item that sets, clears, needs or checks the fact is there and does not clear it"
+-- (document 02, request 4)
+abbrev pub puts : CardColumn → (L : Library) → ℕ → Fact L → Type 0
+puts always-needed L c f = prec∅ (domainOf L) c f
+puts may-need L c f = poss-prec∅ (domainOf L) c f
+puts may-set L c f = poss-eff*∅+ (domainOf L) c f
+puts may-clear L c f = poss-eff*∅- (domainOf L) c f
+puts always-set L c f = eff*∅+ (domainOf L) c f
+puts always-cleared L c f = eff*∅- (domainOf L) c f
+puts always-stands L c f = (w : List Item) → Run L c w → EndsStanding L (f .0) w
 
 -- Demand 2: "each card's columns hold a fact if the published definition of relaxed preconditions and effects puts it there, and only
 -- then, over all finite runs"
 abbrev pub Columns : (L : Library) → ℕ → (ℕ → ℕ) → Fact L → Type 0
-Columns L c word f = (k : CardColumn) → Holds word k (f .0) ↔ published k L c f
+Columns L c word f = (k : CardColumn) → Holds word k (f .0) ↔ puts k L c f
 
 -- "flags and count are those of document 01"
 pub record Flags (L : Library) (c : ℕ) (word : ℕ → ℕ) : Type 0 where
   -- "bit 0, a run exists"
   pub run : (bit (word 0) 0 ≡ 1) ↔ HasRun L c
-  -- "bit 1, an empty run exists"
-  pub empty-run : (bit (word 0) 1 ≡ 1) ↔ Run L c []
+  -- "bit 1, an empty run exists"; "a run without steps is still called empty" (document 02, request 4)
+  pub empty-run : (bit (word 0) 1 ≡ 1) ↔ ((w : List Item) × Run L c w × Empty w)
   -- "bits 8 to 14, the number of facts that are in "may set" or in "may clear""
   pub count : word 0 / 2 ^ 8 ≡ countBelow (L .facts) (λ (f : ℕ). inColumn (word (place may-set)) f || inColumn (word (place may-clear)) f)
   -- and no other bit
   pub between : (k : ℕ) → 2 ≤ k → k < 8 → bit (word 0) k ≡ 0
   pub above : (k : ℕ) → 15 ≤ k → bit (word 0) k ≡ 0
 
--- "Without a run all seven words are 0"
+-- "Without a run all .. words are 0"
 abbrev pub Blank : (ℕ → ℕ) → Type 0
 Blank word = (k : ℕ) → k < cardWords → word k ≡ 0
 
@@ -76,6 +83,8 @@ pub record Kept (L : Library) (word : ℕ → ℕ) (w : List Item) (s : State L)
   pub set : Holds word always-set (f .0) → end L w s f ≡ true
   -- "and none in "always cleared" does"
   pub cleared : Holds word always-cleared (f .0) → end L w s f ≡ false
+  -- "Whoever runs such a sequence to its end finds each of these facts standing." (document 02, request 4)
+  pub stands : Holds word always-stands (f .0) → end L w s f ≡ true
 
 -- of every run, executing or not, and whichever facts stand at the start
 pub record Changed (L : Library) (word : ℕ → ℕ) (w : List Item) (s : State L) (f : Fact L) : Type 0 where
@@ -84,7 +93,7 @@ pub record Changed (L : Library) (word : ℕ → ℕ) (w : List Item) (s : State
   -- "one that stands at the start and not at the end in "may clear""
   pub lost : s f ≡ true → end L w s f ≡ false → Holds word may-clear (f .0)
 
--- the three "always" columns
+-- the three "always" columns of demand 3
 pub data Always : Type 0 where
   needed set cleared : Always
 

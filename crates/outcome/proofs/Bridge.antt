@@ -8,21 +8,21 @@ use mathlib.Core.List.{List, [], _∷_}
 use lib.ListN.{length}
 use lib.Dec.{eqb}
 use mir.Val.{boolByte}
-use Rattle.library.specs.Library.{has, Library, Step, Entry, step, item, call, Alternative}
+use Rattle.library.specs.Library.{has, Library, Step, Entry, step, check, item, call, Alternative}
 use Rattle.general.specs.Tests.{All}
 use Rattle.library.specs.Accepted.{Named}
 use Rattle.library.specs.Tables.{maskOf}
 use Rattle.image.specs.declared.answer.Head.{Head}
 use Rattle.library.proofs.Lookup.{mask-bit, mask-lt}
 use Rattle.general.specs.Tests.{some}
-use Rattle.runs.specs.Execution.{stepOf}
+use Rattle.runs.specs.Domain.{actionOf}
 use Rattle.runs.specs.Rows.{entryRow, foldRow, readRow, joinRow, touchRow}
 use Rattle.runs.specs.Rows as rows
-use Rattle.row.specs.Words.{allFacts, startRow, stepRow, joinRows, orRows, rowIn, isSet, bitRow}
+use Rattle.row.specs.Words.{rowWords, allFacts, startRow, stepRow, checkRow, joinRows, orRows, rowIn, isSet, bitRow}
 use Rattle.outcome.specs.Walks.{entryIn, joinedFrom, alternativeIn, unitedFrom}
 use Rattle.row.specs.declared.words.Row.{Row}
 use Rattle.runs.proofs.Rows.{itemRow-touch, join-agree}
-use Rattle.row.proofs.Bits.{join-bits, or-bits, live-bits, start-bits, step-bits}
+use Rattle.row.proofs.Bits.{join-bits, or-bits, live-bits, start-bits, step-bits, check-bits}
 
 set-byte : (b : Bool) → eqb (boolByte b) 1 ≡ b
 set-byte true = refl
@@ -37,34 +37,41 @@ rowOfStep all s = stepRow all (maskOf (s .needs)) (maskOf (s .sets)) (maskOf (s 
 
 -- the table has the row of each step
 abbrev pub Stepped : Library → List ℕ → Type 0
-Stepped L steps = (a : ℕ) → a < length (L .steps) → rowIn steps a ≡ rowOfStep (allFacts (L .facts)) (stepOf L (step a))
+Stepped L steps = (a : ℕ) → a < length (L .steps) → rowIn steps a ≡ rowOfStep (allFacts (L .facts)) (actionOf L (step a))
 
 -- what a table of words says of fact f
 abbrev pub tableBits : List ℕ → ℕ → ℕ → rows.Row
 tableBits table f c = bitRow (rowIn table c) f
 
-module _ (L : Library) (h : Head) (steps table : List ℕ) (narrow : L .facts ≤ 64) (counted : length (L .steps) ≡ h .steps) (stepped : Stepped L steps)
+module _ (L : Library) (h : Head) (steps table : List ℕ) (narrow : L .facts ≤ 64) (facts : L .facts ≡ h .facts) (counted : length (L .steps) ≡ h .steps) (stepped : Stepped L steps)
     (f : ℕ) (below : f < L .facts) where
   all : ℕ
   all = allFacts (L .facts)
 
   -- a row of words and a row of the theory agree
   Agree : Row → rows.Row → Type 0
-  Agree X R = (j : ℕ) → j < 8 → bitRow X f j ≡ R j
+  Agree X R = (j : ℕ) → j < rowWords → bitRow X f j ≡ R j
 
   -- a step's row
   step-row : (a : ℕ) → a < length (L .steps) → Agree (rowIn steps a) (rows.itemRow L f (step a))
   unfolding Agree
   step-row a l j k =
-      let s = stepOf L (step a) in
+      let s = actionOf L (step a) in
       let lt : f < 64 = omega arith in
       ap (λ (r : Row). bitRow r f j) (stepped a l)
       ∙ step-bits (L .facts) (maskOf (s .needs)) (maskOf (s .sets)) (maskOf (s .clears)) f below narrow (mask-lt (s .needs)) (mask-lt (s .sets))
       (mask-lt (s .clears)) j k
-      ∙ ap (λ (b : Bool). touchRow b (isSet (maskOf (s .sets)) f) (isSet (maskOf (s .clears)) f) j) (mask-set (s .needs) f lt)
-      ∙ ap (λ (b : Bool). touchRow (has f (s .needs)) b (isSet (maskOf (s .clears)) f) j) (mask-set (s .sets) f lt)
-      ∙ ap (λ (b : Bool). touchRow (has f (s .needs)) (has f (s .sets)) b j) (mask-set (s .clears) f lt)
+      ∙ ap (λ (b : Bool). touchRow false b (isSet (maskOf (s .sets)) f) (isSet (maskOf (s .clears)) f) j) (mask-set (s .needs) f lt)
+      ∙ ap (λ (b : Bool). touchRow false (has f (s .needs)) b (isSet (maskOf (s .clears)) f) j) (mask-set (s .sets) f lt)
+      ∙ ap (λ (b : Bool). touchRow false (has f (s .needs)) (has f (s .sets)) b j) (mask-set (s .clears) f lt)
       ∙ sym (itemRow-touch L f (step a) j)
+
+  -- a check's row
+  check-row : (g : ℕ) → g < L .facts → Agree (checkRow all g) (rows.itemRow L f (check g))
+  unfolding Agree all has
+  check-row g l j k =
+      check-bits (L .facts) g f below narrow (omega arith) j k
+      ∙ ap (λ (b : Bool). touchRow true b false false j) (sym (or-false (eqb g f))) ∙ sym (itemRow-touch L f (check g) j)
 
   -- rows that agree before an entry agree after it
   join-entry : (X : Row) (R : rows.Row) (Y : Row) (S : rows.Row) → Agree X R → Agree Y S → Agree (joinRows X Y) (joinRow R S)
@@ -72,18 +79,19 @@ module _ (L : Library) (h : Head) (steps table : List ℕ) (narrow : L .facts �
   join-entry X R Y S p q j k = join-bits X Y f j k ∙ join-agree (bitRow X f) R (bitRow Y f) S p q j k
 
   -- an entry's row
-  entry-bits : (e : Entry) → Named h e → Agree (entryIn steps table e) (entryRow L f (tableBits table f) e)
-  unfolding Agree
+  entry-bits : (e : Entry) → Named h e → Agree (entryIn all steps table e) (entryRow L f (tableBits table f) e)
+  unfolding Agree all
   entry-bits (item (step a)) l = step-row a (omega arith)
+  entry-bits (item (check g)) l = check-row g (omega arith)
   entry-bits (call d) l = λ j k. refl
 
   -- the entries of an alternative
   joined-bits : (es : List Entry) → All (Named h) es → (X : Row) (R : rows.Row) → Agree X R
-      → Agree (joinedFrom steps table X es) (foldRow L f (tableBits table f) R es)
-  unfolding joinedFrom foldRow
+      → Agree (joinedFrom all steps table X es) (foldRow L f (tableBits table f) R es)
+  unfolding joinedFrom foldRow all
   joined-bits [] a X R same = same
   joined-bits (e ∷ es) a X R same =
-      let Y = entryIn steps table e in
+      let Y = entryIn all steps table e in
       let S = entryRow L f (tableBits table f) e in
       joined-bits es (a .1) (joinRows X Y) (joinRow R S) (join-entry X R Y S same (entry-bits e (a .0)))
 
@@ -92,10 +100,10 @@ module _ (L : Library) (h : Head) (steps table : List ℕ) (narrow : L .facts �
   unfolding Agree all
   alternative-bits es a j k =
       let whole = joined-bits es a (startRow all) rows.startRow (start-bits (L .facts) f below) in
-      live-bits (joinedFrom steps table (startRow all) es) f j k ∙ ap₂ _&&_ (whole 0 (omega arith)) (whole j k)
+      live-bits (joinedFrom all steps table (startRow all) es) f j k ∙ ap₂ _&&_ (whole 0 (omega arith)) (whole j k)
 
   -- a sequence: what it has already, or what one of its alternatives gives
-  pub united-bits : (alts : List Alternative) → All (All (Named h)) alts → (X : Row) (j : ℕ) → j < 8
+  pub united-bits : (alts : List Alternative) → All (All (Named h)) alts → (X : Row) (j : ℕ) → j < rowWords
       → bitRow (unitedFrom (allFacts (L .facts)) steps table X alts) f j
       ≡ (bitRow X f j || some (λ (es : List Entry). readRow L f (tableBits table f) es j) alts)
   unfolding some unitedFrom Agree all

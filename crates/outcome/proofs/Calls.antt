@@ -7,7 +7,7 @@ use mathlib.Core.Path.{_≡_, refl, sym, ap, ap₂, _∙_, subst}
 use mathlib.Core.Bool.{true, false, false≢true}
 use mathlib.Core.List.{List, [], _∷_}
 use lib.ListN.{length}
-use Rattle.row.specs.Words.{noRow, startRow, orRows, joinRows, liveRow, rowIn, withRow}
+use Rattle.row.specs.Words.{rowWords, noRow, startRow, orRows, joinRows, liveRow, rowIn, withRow}
 use Rattle.library.specs.Library.{Entry, Alternative}
 use Rattle.library.specs.Walk.{alternativesAt}
 use Rattle.general.specs.Tests.{All}
@@ -24,13 +24,13 @@ use Rattle.settling.proofs.Stale.{Local}
 module _ (all : ℕ) (steps t t′ : List ℕ) where
   -- an entry has the same row by both
   abbrev Same : Entry → Type 0
-  Same e = entryIn steps t e ≡ entryIn steps t′ e
+  Same e = entryIn all steps t e ≡ entryIn all steps t′ e
 
-  joined-local : (X : Row) (es : List Entry) → All Same es → joinedFrom steps t X es ≡ joinedFrom steps t′ X es
+  joined-local : (X : Row) (es : List Entry) → All Same es → joinedFrom all steps t X es ≡ joinedFrom all steps t′ X es
   unfolding joinedFrom
   joined-local X [] a = refl
   joined-local X (e ∷ es) a =
-      ap (λ (r : Row). joinedFrom steps t (joinRows X r) es) (a .0) ∙ joined-local (joinRows X (entryIn steps t′ e)) es (a .1)
+      ap (λ (r : Row). joinedFrom all steps t (joinRows X r) es) (a .0) ∙ joined-local (joinRows X (entryIn all steps t′ e)) es (a .1)
 
   united-local : (X : Row) (alts : List Alternative) → All (All Same) alts → unitedFrom all steps t X alts ≡ unitedFrom all steps t′ X alts
   unfolding unitedFrom
@@ -57,10 +57,10 @@ module _ (all : ℕ) (steps part places : List ℕ) where
   visit-still : (t : List ℕ) (d : ℕ) → visitedRow all steps part places t d ≡ rowIn t d → visited all steps part places t d ≡ t
   visit-still t d e = ap (withRow t d) e ∙ row-again t d
 
-  still-row : (t : List ℕ) (d : ℕ) → 8 * d + 8 ≤ length t → visited all steps part places t d ≡ t → visitedRow all steps part places t d ≡ rowIn t d
+  still-row : (t : List ℕ) (d : ℕ) → rowWords * d + rowWords ≤ length t → visited all steps part places t d ≡ t → visitedRow all steps part places t d ≡ rowIn t d
   still-row t d room e = sym (row-same t d (visitedRow all steps part places t d) room) ∙ ap (λ (s : List ℕ). rowIn s d) e
 
-  visit-stays : (t : List ℕ) (c d : ℕ) → 8 * d + 8 ≤ length t → (d ≡ c → ⊥) → calls part places d c ≡ false → visited all steps part places t d ≡ t
+  visit-stays : (t : List ℕ) (c d : ℕ) → rowWords * d + rowWords ≤ length t → (d ≡ c → ⊥) → calls part places d c ≡ false → visited all steps part places t d ≡ t
       → visited all steps part places (visited all steps part places t c) d ≡ visited all steps part places t c
   unfolding given
   visit-stays t c d room other apart still =
@@ -68,7 +68,7 @@ module _ (all : ℕ) (steps part places : List ℕ) where
       let row = row-other t c r d other in
       visit-still (withRow t c r) d (ap₂ orRows row (given-stays t c d r apart) ∙ still-row t d room still ∙ sym row)
 
-  visit-again : (t : List ℕ) (c : ℕ) → 8 * c + 8 ≤ length t → calls part places c c ≡ false
+  visit-again : (t : List ℕ) (c : ℕ) → rowWords * c + rowWords ≤ length t → calls part places c c ≡ false
       → visited all steps part places (visited all steps part places t c) c ≡ visited all steps part places t c
   unfolding given
   visit-again t c room apart =
@@ -76,7 +76,7 @@ module _ (all : ℕ) (steps part places : List ℕ) where
       let row = row-same t c r room in
       visit-still (withRow t c r) c (ap₂ orRows row (given-stays t c c r apart) ∙ rows-again (rowIn t c) (given t c) ∙ sym row)
 
-  pub visits-local : (n : ℕ) → Local (visited all steps part places) (calls part places) n (8 * n)
+  pub visits-local : (n : ℕ) → Local (visited all steps part places) (calls part places) n (rowWords * n)
   visits-local n =
       record {
         stays = λ t c d low l room apart still.

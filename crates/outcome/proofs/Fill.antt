@@ -16,7 +16,7 @@ use Rattle.library.specs.Accepted.{Below, SequenceWord, Counted}
 use Rattle.library.proofs.Accepted.{faultless, parts, counted}
 use Rattle.library.proofs.Lookup.{mask-low}
 use Rattle.library.proofs.Rows.{all-at}
-use Rattle.runs.specs.Execution.{noStep}
+use Rattle.runs.specs.Domain.{noStep}
 use Rattle.row.specs.Words.{rowWords, allFacts, stepRow, rowIn}
 use Rattle.row.specs.declared.words.Row.{Row}
 use Rattle.general.specs.Numbers.{Zeros}
@@ -85,6 +85,7 @@ module _ {h : Head} {image ms₀ ps₀ callers₀ order₀ rs₀ table : List �
     fill-given =
         record {
           narrow = omega (arith, has .facts, faultless image h (asked .tables .accepted) .facts-high);
+          facts = has .facts;
           counted = has .steps;
           sequences = has .sequences;
           stepped = step-is;
@@ -111,7 +112,7 @@ module _ {h : Head} {image ms₀ ps₀ callers₀ order₀ rs₀ table : List �
         omega (arith, ones, pow-mono {i = 1} {j = h .facts} (right .facts-low))
 
     -- what the passes ask
-    pub settle-asked : RowsVisitable (h .sequences) rs part ps (take (rowWords * h .sequences) table)
+    pub settle-asked : RowsVisitable all (h .sequences) rs part ps (take (rowWords * h .sequences) table)
         × Scheduled (h .sequences) part ps callers (take (h .sequences) order)
     settle-asked = (
       record {
@@ -121,6 +122,7 @@ module _ {h : Head} {image ms₀ ps₀ callers₀ order₀ rs₀ table : List �
               step = λ k. omega (arith, w .step k, asked .rows-room);
               run = λ k. omega (arith, ap (λ (r : Row). r .run) (rowed .written (payload (getD part i 0)) (w .step k)), all-some);
               sequence = λ k. omega (arith, w .sequence k, table-long);
+              check = λ k. (omega (arith, w .check k, faultless image h (asked .tables .accepted) .facts-high), all-some);
             };
         rows = omega (arith, table-long);
         placed = omega (arith, asked .tables .places-room);

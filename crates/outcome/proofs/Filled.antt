@@ -37,7 +37,8 @@ use Rattle.settling.proofs.Visits.{reached-length}
 -- a word of a table is the word of its row
 word-row : (t : List ℕ) (c j : ℕ) → j < rowWords → getD t (rowWords * c + j) 0 ≡ getD (wordsOf (rowIn t c)) j 0
 word-row t c =
-    by-column (λ (j : ℕ). getD t (rowWords * c + j) 0 ≡ getD (wordsOf (rowIn t c)) j 0) (ap (λ (k : ℕ). getD t k 0) (add-zero (rowWords * c))) refl side
+    by-column (λ (j : ℕ). getD t (rowWords * c + j) 0 ≡ getD (wordsOf (rowIn t c)) j 0) (ap (λ (k : ℕ). getD t k 0) (add-zero (rowWords * c))) refl side refl
+    refl
   where
     side : (s : Side) (m : Mark) → getD t (rowWords * c + columnNumber s m) 0 ≡ getD (wordsOf (rowIn t c)) (columnNumber s m) 0
     side last present = refl
@@ -48,7 +49,7 @@ word-row t c =
     side first untouched = refl
 
 word-low : (n : ℕ) (r : Row) → LowRow n r → (j : ℕ) → j < rowWords → getD (wordsOf r) j 0 < 2 ^ n
-word-low n r low = by-column (λ (j : ℕ). getD (wordsOf r) j 0 < 2 ^ n) (low .run) (low .empty) side
+word-low n r low = by-column (λ (j : ℕ). getD (wordsOf r) j 0 < 2 ^ n) (low .run) (low .empty) side (low .cleared) (low .unmentioned)
   where
     side : (s : Side) (m : Mark) → getD (wordsOf r) (columnNumber s m) 0 < 2 ^ n
     side last present = low .last .0
@@ -87,7 +88,7 @@ table-rows L (suc n) c t e words =
     sym (take-append-drop rowWords t) ∙ ap (λ (l : List ℕ). l ++ drop rowWords t) (take-words rowWords t 0 (omega arith))
     ∙ (λ i.
     w 0 (omega arith) i ∷ w 1 (omega arith) i ∷ w 2 (omega arith) i ∷ w 3 (omega arith) i ∷ w 4 (omega arith) i ∷ w 5 (omega arith) i
-    ∷ w 6 (omega arith) i ∷ w 7 (omega arith) i ∷ rest i)
+    ∷ w 6 (omega arith) i ∷ w 7 (omega arith) i ∷ w 8 (omega arith) i ∷ w 9 (omega arith) i ∷ rest i)
   where
     later : (i j : ℕ) → getD t (rowWords + (rowWords * i + j)) 0 ≡ getD t (rowWords * suc i + j) 0
     later i j = let n : rowWords + (rowWords * i + j) ≡ rowWords * suc i + j = omega arith in ap (λ (k : ℕ). getD t k 0) n

@@ -9,9 +9,10 @@ use mathlib.Core.List.{List, [], _∷_}
 use lib.ListN.{length}
 use lib.Bits.{bitAnd, bitOr, and-le-l, or-lt}
 use lib.Pow.{pow-pos, ones-lt}
-use Rattle.library.specs.Library.{Entry, step, item, call, Alternative}
+use Rattle.column.specs.Column.{withFact}
+use Rattle.library.specs.Library.{Entry, step, check, item, call, Alternative}
 use Rattle.library.specs.Walk.{alternativesAt}
-use Rattle.row.specs.Words.{rowWords, allFacts, noRow, startRow, notWord, stepMarks, stepRow, laterMarks, joinRows, orMarks, orRows, liveRow, rowIn}
+use Rattle.row.specs.Words.{rowWords, allFacts, noRow, startRow, notWord, stepMarks, stepRow, checkRow, laterMarks, joinRows, orMarks, orRows, liveRow, rowIn}
 use Rattle.outcome.specs.Walks.{entryIn, joinedFrom, alternativeIn, unitedFrom}
 use Rattle.outcome.specs.Visited.{visited}
 use Rattle.settling.specs.Settling.{Reached, here, next}
@@ -31,6 +32,8 @@ module _ (n : ℕ) where
     pub empty : r .empty < 2 ^ n
     pub last : (r .last .present < 2 ^ n) × (r .last .absent < 2 ^ n) × (r .last .untouched < 2 ^ n)
     pub first : (r .first .present < 2 ^ n) × (r .first .absent < 2 ^ n) × (r .first .untouched < 2 ^ n)
+    pub cleared : r .cleared < 2 ^ n
+    pub unmentioned : r .unmentioned < 2 ^ n
 
   or-low : (a b : ℕ) → a < 2 ^ n → b < 2 ^ n → bitOr a b < 2 ^ n
   or-low = or-lt n
@@ -39,10 +42,10 @@ module _ (n : ℕ) where
   and-low a b l = lt-of-le-of-lt (and-le-l a b) l
 
   pub none-low : LowRow noRow
-  none-low = let z = pow-pos n in record { run = z; empty = z; last = (z, z, z); first = (z, z, z) }
+  none-low = let z = pow-pos n in record { run = z; empty = z; last = (z, z, z); first = (z, z, z); cleared = z; unmentioned = z }
 
   start-low : LowRow (startRow (allFacts n))
-  start-low = let z = pow-pos n in let o = ones-lt n in record { run = o; empty = o; last = (z, z, o); first = (z, z, o) }
+  start-low = let z = pow-pos n in let o = ones-lt n in record { run = o; empty = o; last = (z, z, o); first = (z, z, o); cleared = z; unmentioned = o }
 
   step-marks-low : (one other : ℕ) → one < 2 ^ n → other < 2 ^ n → LowMarks (stepMarks (allFacts n) one other)
   unfolding LowMarks
@@ -51,7 +54,21 @@ module _ (n : ℕ) where
   pub step-low : (needs sets clears : ℕ) → needs < 2 ^ n → sets < 2 ^ n → clears < 2 ^ n → LowRow (stepRow (allFacts n) needs sets clears)
   unfolding LowMarks
   step-low needs sets clears a b c =
-      record { run = ones-lt n; empty = pow-pos n; last = step-marks-low sets clears b c; first = step-marks-low needs sets a b }
+      record {
+        run = ones-lt n;
+        empty = pow-pos n;
+        last = step-marks-low sets clears b c;
+        first = step-marks-low needs sets a b;
+        cleared = c;
+        unmentioned = and-low (allFacts n) (notWord (bitOr (bitOr needs sets) clears)) (ones-lt n);
+      }
+
+  check-low : (f : ℕ) → LowRow (checkRow (allFacts n) f)
+  check-low f =
+      let z = pow-pos n in
+      let o = ones-lt n in
+      let others = and-low (allFacts n) (notWord (withFact 0 f)) o in
+      record { run = o; empty = o; last = (z, z, o); first = (and-low (allFacts n) (withFact 0 f) o, z, others); cleared = z; unmentioned = others }
 
   later-low : (x y : Marks) → LowMarks x → LowMarks y → LowMarks (laterMarks x y)
   unfolding LowMarks
@@ -69,6 +86,8 @@ module _ (n : ℕ) where
         empty = and-low (x .empty) (y .empty) (a .empty);
         last = later-low (x .last) (y .last) (a .last) (b .last);
         first = later-low (y .first) (x .first) (b .first) (a .first);
+        cleared = or-low (bitAnd (x .cleared) (y .unmentioned)) (y .cleared) (and-low (x .cleared) (y .unmentioned) (a .cleared)) (b .cleared);
+        unmentioned = and-low (x .unmentioned) (y .unmentioned) (a .unmentioned);
       }
 
   either-low : (x y : Marks) → LowMarks x → LowMarks y → LowMarks (orMarks x y)
@@ -84,6 +103,8 @@ module _ (n : ℕ) where
         empty = or-low (x .empty) (y .empty) (a .empty) (b .empty);
         last = either-low (x .last) (y .last) (a .last) (b .last);
         first = either-low (x .first) (y .first) (a .first) (b .first);
+        cleared = or-low (x .cleared) (y .cleared) (a .cleared) (b .cleared);
+        unmentioned = or-low (x .unmentioned) (y .unmentioned) (a .unmentioned) (b .unmentioned);
       }
 
   live-low : (x : Row) → LowRow x → LowRow (liveRow x)
@@ -94,19 +115,22 @@ module _ (n : ℕ) where
         empty = low (x .empty);
         last = (low (x .last .present), low (x .last .absent), low (x .last .untouched));
         first = (low (x .first .present), low (x .first .absent), low (x .first .untouched));
+        cleared = low (x .cleared);
+        unmentioned = low (x .unmentioned);
       }
 
   -- ---- entries and alternatives
 
   module _ (steps table : List ℕ) (low-steps : (a : ℕ) → LowRow (rowIn steps a)) (low-table : (c : ℕ) → LowRow (rowIn table c)) where
-    entry-low : (e : Entry) → LowRow (entryIn steps table e)
+    entry-low : (e : Entry) → LowRow (entryIn (allFacts n) steps table e)
     entry-low (item (step a)) = low-steps a
+    entry-low (item (check f)) = check-low f
     entry-low (call d) = low-table d
 
-    joined-low : (es : List Entry) (X : Row) → LowRow X → LowRow (joinedFrom steps table X es)
+    joined-low : (es : List Entry) (X : Row) → LowRow X → LowRow (joinedFrom (allFacts n) steps table X es)
     unfolding joinedFrom
     joined-low [] X a = a
-    joined-low (e ∷ es) X a = joined-low es (joinRows X (entryIn steps table e)) (join-low X _ a (entry-low e))
+    joined-low (e ∷ es) X a = joined-low es (joinRows X (entryIn (allFacts n) steps table e)) (join-low X _ a (entry-low e))
 
     united-low : (alts : List Alternative) (X : Row) → LowRow X → LowRow (unitedFrom (allFacts n) steps table X alts)
     unfolding unitedFrom

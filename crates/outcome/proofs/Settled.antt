@@ -37,7 +37,7 @@ use Rattle.settling.proofs.Visits.{reached-length}
 use Rattle.row.proofs.Bits.{or-bits, none-set}
 
 -- rows that agree are good together
-good-agree : (L : Library) (f c : ℕ) (r r′ : Row) → ((j : ℕ) → j < 8 → r j ≡ r′ j) → GoodRow L f c r → GoodRow L f c r′
+good-agree : (L : Library) (f c : ℕ) (r r′ : Row) → ((j : ℕ) → j < rowWords → r j ≡ r′ j) → GoodRow L f c r → GoodRow L f c r′
 good-agree L f c r r′ same g =
     record {
       sound = λ j l e. g .sound j l (same j l ∙ e);
@@ -55,8 +55,8 @@ union-good L f c B [] each = none-good L f c
 union-good L f c B (es ∷ alts) each = or-good L f c (readRow L f B es) _ (each 0 (omega arith)) (union-good L f c B alts (λ i l. each (suc i) (omega arith)))
 
 -- a blank row has nothing
-none-row : (f j : ℕ) → j < 8 → bitRow noRow f j ≡ false
-none-row f = by-column (λ (j : ℕ). bitRow noRow f j ≡ false) (none-set f) (none-set f) side
+none-row : (f j : ℕ) → j < rowWords → bitRow noRow f j ≡ false
+none-row f = by-column (λ (j : ℕ). bitRow noRow f j ≡ false) (none-set f) (none-set f) side (none-set f) (none-set f)
   where
     side : (s : Side) (m : Mark) → bitRow noRow f (columnNumber s m) ≡ false
     side last present = none-set f
@@ -73,6 +73,8 @@ blank-row t blank c i =
       empty = blank (rowWords * c + 1) i;
       last = record { present = blank (rowWords * c + 2) i; absent = blank (rowWords * c + 3) i; untouched = blank (rowWords * c + 4) i };
       first = record { present = blank (rowWords * c + 5) i; absent = blank (rowWords * c + 6) i; untouched = blank (rowWords * c + 7) i };
+      cleared = blank (rowWords * c + 8) i;
+      unmentioned = blank (rowWords * c + 9) i;
     }
 
 member : (alts : List Alternative) (i : ℕ) → i < length alts → List·Memᴰ (getD alts i []) alts
@@ -83,6 +85,7 @@ member (es ∷ alts) (suc i) l = List·Memᴰ·tail (member alts i (le-of-suc-le
 -- what the tables of an accepted image say: the rows of the steps, and places
 pub record Given (L : Library) (h : Head) (steps part places : List ℕ) : Type 0 where
   pub narrow : L .facts ≤ 64
+  pub facts : L .facts ≡ h .facts
   pub counted : length (L .steps) ≡ h .steps
   pub sequences : length (L .sequences) ≡ h .sequences
   pub stepped : Stepped L steps
@@ -104,7 +107,7 @@ module _ (L : Library) (h : Head) (steps part places : List ℕ) (given : Given 
     gives : Row
     gives j = some (λ (es : List Entry). readRow L f (tableBits t f) es j) (alternativesOf (L .sequences) c)
 
-    visit-bits : (j : ℕ) → j < 8 → tableBits (visit t c) f c j ≡ (tableBits t f c j || gives j)
+    visit-bits : (j : ℕ) → j < rowWords → tableBits (visit t c) f c j ≡ (tableBits t f c j || gives j)
     unfolding visit gives
     visit-bits j k =
         let p = getD places c 0 in
@@ -115,7 +118,7 @@ module _ (L : Library) (h : Head) (steps part places : List ℕ) (given : Given 
         ap (λ (r : words.Row). bitRow r f j) (row-same t c (orRows (rowIn t c) y) (omega arith))
         ∙ or-bits (rowIn t c) y f j k
         ∙ ap (λ (b : Bool). tableBits t f c j || b)
-        (united-bits L h steps t (given .narrow) (given .counted) (given .stepped) f below (alternativesFrom rest)
+        (united-bits L h steps t (given .narrow) (given .facts) (given .counted) (given .stepped) f below (alternativesFrom rest)
         (alternatives-named h rest (all-drop h (p + 1) part (given .words))) noRow j k
         ∙ ap₂ _||_ (none-row f j k) (ap (λ (alts′ : List Alternative). some (λ (es : List Entry). readRow L f (tableBits t f) es j) alts′) alts))
 
@@ -131,7 +134,7 @@ module _ (L : Library) (h : Head) (steps part places : List ℕ) (given : Given 
         ]
 
     -- where the visit changes nothing, the row has what each alternative gives
-    settled-covers : visit t c ≡ t → (i : ℕ) → i < length (alternativesOf (L .sequences) c) → (j : ℕ) → j < 8
+    settled-covers : visit t c ≡ t → (i : ℕ) → i < length (alternativesOf (L .sequences) c) → (j : ℕ) → j < rowWords
         → readRow L f (tableBits t f) (alternativeOf (L .sequences) c i) j ≡ true → tableBits t f c j ≡ true
     unfolding gives
     settled-covers same i k j u e =
@@ -160,7 +163,7 @@ module _ (L : Library) (h : Head) (steps part places : List ℕ) (given : Given 
   -- what the bits of such a table say
   pub settled-bits : (t₀ t : List ℕ) → rowWords * h .sequences ≤ length t₀ → ((k : ℕ) → getD t₀ k 0 ≡ 0)
       → Reached (visited (allFacts (L .facts)) steps part places) (h .sequences) t₀ t → Settled (visited (allFacts (L .facts)) steps part places) (h .sequences) t
-      → (f : ℕ) → f < L .facts → (j : ℕ) → j < 8 → (c : ℕ) → tableBits t f c j ≡ columnPossible L j c f
+      → (f : ℕ) → f < L .facts → (j : ℕ) → j < rowWords → (c : ℕ) → tableBits t f c j ≡ columnPossible L j c f
   settled-bits t₀ t room blank reached settled f below =
       rows-possible L f (tableBits t f) (reached-good room blank reached f below)
       (settled-closed t (omega (arith, reached-length (visits-lower (allFacts (L .facts)) steps part places (h .sequences)) reached)) settled f below)

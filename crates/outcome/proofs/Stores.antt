@@ -1,4 +1,4 @@
--- Rows stored into a table of eight words a row: what is read back, what stays, and how much is lacking after a store.
+-- Rows stored into a table: what is read back, what stays, and how much is lacking after a store.
 -- It has: the row that is read back and the others (`row-same`, `row-other`), equal rows (`rows-equal`), and the weight (`lacking-least`,
 -- `lacking-falls`).
 -- Assumes nothing.
@@ -42,9 +42,12 @@ sets-same (v ∷ vs) l i (suc k) u room =
     ap (λ (n : ℕ). getD (sets (set l i v) (suc i) vs) n 0) (add-suc i k ∙ sym (suc-add i k))
     ∙ sets-same vs (set l i v) (suc i) k (le-of-suc-le-suc u) (omega (arith, length-set l i v))
 
+add-nine : (n : ℕ) → n + 9 ≡ suc (n + 8)
+add-nine n = add-suc n 8
+
 -- a row is stored by a run of stores
 row-sets : (t : List ℕ) (c : ℕ) (r : Row) → withRow t c r ≡ sets t (rowWords * c) (wordsOf r)
-row-sets t c r = simp towards-suc
+row-sets t c r = simp (add-nine, towards-suc)
 
 pub row-length : (t : List ℕ) (c : ℕ) (r : Row) → length (withRow t c r) ≡ length t
 row-length t c r = ap length (row-sets t c r) ∙ length-sets t (rowWords * c) (wordsOf r)
@@ -66,6 +69,8 @@ module _ (t : List ℕ) (c : ℕ) (r : Row) where
         empty = w 1 (omega arith) i;
         last = record { present = w 2 (omega arith) i; absent = w 3 (omega arith) i; untouched = w 4 (omega arith) i };
         first = record { present = w 5 (omega arith) i; absent = w 6 (omega arith) i; untouched = w 7 (omega arith) i };
+        cleared = w 8 (omega arith) i;
+        unmentioned = w 9 (omega arith) i;
       }
 
   -- the other rows stay
@@ -78,6 +83,8 @@ module _ (t : List ℕ) (c : ℕ) (r : Row) where
         empty = w 1 (omega arith) i;
         last = record { present = w 2 (omega arith) i; absent = w 3 (omega arith) i; untouched = w 4 (omega arith) i };
         first = record { present = w 5 (omega arith) i; absent = w 6 (omega arith) i; untouched = w 7 (omega arith) i };
+        cleared = w 8 (omega arith) i;
+        unmentioned = w 9 (omega arith) i;
       }
     where
       outside : (k : ℕ) → k < rowWords → (rowWords * d + k < rowWords * c) ⊎ (rowWords * c + rowWords ≤ rowWords * d + k)
@@ -107,7 +114,7 @@ take-words (suc n) l i room =
 
 row-words : (t : List ℕ) (c : ℕ) → rowWords * c + rowWords ≤ length t → take rowWords (drop (rowWords * c) t) ≡ wordsOf (rowIn t c)
 unfolding wordsFrom
-row-words t c room = take-words rowWords t (rowWords * c) room ∙ simp towards-suc
+row-words t c room = take-words rowWords t (rowWords * c) room ∙ simp (add-nine, towards-suc)
 
 lacking-row : (t : List ℕ) (c : ℕ) (r : Row) → rowWords * c + rowWords ≤ length t → lacking (withRow t c r) + lacking (wordsOf (rowIn t c)) ≡ lacking t + lacking (wordsOf r)
 lacking-row t c r room =
@@ -167,7 +174,19 @@ below-or x y = (
           or-le (x .last .untouched) (y .last .untouched),
           (
             or-le (x .first .present) (y .first .present),
-            (or-le (x .first .absent) (y .first .absent), (or-le (x .first .untouched) (y .first .untouched), tt)),
+            (
+              or-le (x .first .absent) (y .first .absent),
+              (
+                or-le (x .first .untouched) (y .first .untouched),
+                (
+                  or-le (x .cleared) (y .cleared),
+                  (
+                    or-le (x .unmentioned) (y .unmentioned),
+                    tt,
+                  ),
+                ),
+              ),
+            ),
           ),
         ),
       ),
@@ -205,6 +224,8 @@ words-row x y e i =
       empty = w 1 i;
       last = record { present = w 2 i; absent = w 3 i; untouched = w 4 i };
       first = record { present = w 5 i; absent = w 6 i; untouched = w 7 i };
+      cleared = w 8 i;
+      unmentioned = w 9 i;
     }
 
 -- rows that pass the test are equal, and equal rows pass it
@@ -228,13 +249,20 @@ pub rows-equal : (x y : Row) → sameRows x y ≡ true → x ≡ y
 rows-equal x y e i =
     let run = eqb (x .run) (y .run) in
     let both = run && eqb (x .empty) (y .empty) in
-    let before = and-left (both && sameMarks (x .last) (y .last)) (sameMarks (x .first) (y .first)) e in
-    let flags = and-left both (sameMarks (x .last) (y .last)) before in
+    let lasts = both && sameMarks (x .last) (y .last) in
+    let sides = lasts && sameMarks (x .first) (y .first) in
+    let clears = sides && eqb (x .cleared) (y .cleared) in
+    let to-clears = and-left clears (eqb (x .unmentioned) (y .unmentioned)) e in
+    let to-sides = and-left sides (eqb (x .cleared) (y .cleared)) to-clears in
+    let to-lasts = and-left lasts (sameMarks (x .first) (y .first)) to-sides in
+    let flags = and-left both (sameMarks (x .last) (y .last)) to-lasts in
     record {
       run = eqb-true (x .run) (y .run) (and-left run (eqb (x .empty) (y .empty)) flags) i;
       empty = eqb-true (x .empty) (y .empty) (and-right run (eqb (x .empty) (y .empty)) flags) i;
-      last = marks-equal (x .last) (y .last) (and-right both (sameMarks (x .last) (y .last)) before) i;
-      first = marks-equal (x .first) (y .first) (and-right (both && sameMarks (x .last) (y .last)) (sameMarks (x .first) (y .first)) e) i;
+      last = marks-equal (x .last) (y .last) (and-right both (sameMarks (x .last) (y .last)) to-lasts) i;
+      first = marks-equal (x .first) (y .first) (and-right lasts (sameMarks (x .first) (y .first)) to-sides) i;
+      cleared = eqb-true (x .cleared) (y .cleared) (and-right sides (eqb (x .cleared) (y .cleared)) to-clears) i;
+      unmentioned = eqb-true (x .unmentioned) (y .unmentioned) (and-right clears (eqb (x .unmentioned) (y .unmentioned)) e) i;
     }
 
 -- a row that grew: no more is lacking, and less where it is another

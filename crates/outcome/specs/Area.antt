@@ -1,5 +1,4 @@
--- The outcome table as words: for each sequence eight 64-bit words, one for each column, in which bit f says of fact f what is
--- possible.
+-- The outcome table as words: for each sequence a 64-bit word for each column, in which bit f says of fact f what is possible.
 use Prim.Native.Nat.{ℕ, zero, suc, _*_, _≤_}
 use mathlib.Core.List.{List, [], _∷_}
 use lib.ListN.{length}
@@ -22,14 +21,14 @@ unfolding outcomeWord
 outcomeRows L c zero = []
 outcomeRows L c (suc n) =
     outcomeWord L 0 c ∷ outcomeWord L 1 c ∷ outcomeWord L 2 c ∷ outcomeWord L 3 c ∷ outcomeWord L 4 c ∷ outcomeWord L 5 c
-    ∷ outcomeWord L 6 c ∷ outcomeWord L 7 c ∷ outcomeRows L (suc c) n
+    ∷ outcomeWord L 6 c ∷ outcomeWord L 7 c ∷ outcomeWord L 8 c ∷ outcomeWord L 9 c ∷ outcomeRows L (suc c) n
 
 -- the whole table, sequence 0 first
 unfoldable pub outcomes : Library → List ℕ
 unfolding outcomeRows
 outcomes L = outcomeRows L 0 (length (L .sequences))
 
--- what the table asks: the areas that every call starts from, and room for eight words a step and eight a sequence. Each is blank
+-- what the table asks: the areas that every call starts from, and room for a row a step and a row a sequence. Each is blank
 pub record OutcomesAsked (h : Head) (image ms ps callers order rows table : List ℕ) : Type 0 where
   pub tables : TablesAsked h image ms ps callers order
   pub masks-blank : Zeros ms

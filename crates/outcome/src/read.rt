@@ -1,5 +1,6 @@
 // One walk over the words of a sequence: its alternatives, each folded from left to right for all facts at once.
 use image::word::KIND_ALTERNATIVE;
+use image::word::KIND_CHECK;
 use image::word::KIND_STEP_ENTRY;
 use image::word::is_entry;
 use image::word::is_kind;
@@ -10,6 +11,7 @@ use row::words::Row;
 use row::words::joined;
 use row::words::live;
 use row::words::none;
+use row::words::of_check;
 use row::words::row_at;
 use row::words::start;
 use row::words::united;
@@ -29,13 +31,16 @@ pub struct Read {
     pub ended: usize,
 }
 
-// The row of an entry, by the rows of the steps and of the sequences.
-fn entry_row(steps: &[u64], table: &[u64], w: u32) -> Row
-    requires { ⌜ RowWithin (now steps) (now table) w × (isEntry w ≡ true) ⌝ }
-    ensures { λ r. ⌜ r ≡ entryIn (now (steps .entry)) (now (table .entry)) (entryOf w) ⌝ }
+// The row of an entry, by the rows of the steps and of the sequences. That of a check is made of its fact.
+fn entry_row(all: u64, steps: &[u64], table: &[u64], w: u32) -> Row
+    requires { ⌜ RowWithin all (now steps) (now table) w × (isEntry w ≡ true) ⌝ }
+    ensures { λ r. ⌜ r ≡ entryIn all (now (steps .entry)) (now (table .entry)) (entryOf w) ⌝ }
 {
     if is_kind(KIND_STEP_ENTRY, w) {
         return row_at(steps, payload_of(w) as usize);
+    }
+    if is_kind(KIND_CHECK, w) {
+        return of_check(all, payload_of(w));
     }
     row_at(table, payload_of(w) as usize)
 }
@@ -51,9 +56,9 @@ fn left_at(i: usize) -> Read
 }
 
 // Reads the entries that stand from index `at` on. The walk ends at the first that names a sequence not found to have a run: nothing further can
-// count. A step has one, so its row passes the same test.
+// count. A step and a check have one, so their rows pass the same test.
 fn read_alternative(all: u64, steps: &[u64], table: &[u64], part: &[u32], at: usize) -> Read
-    requires { ⌜ RowsReadable (now steps) (now table) (now part) × (at ≤ length (now part)) ⌝ }
+    requires { ⌜ RowsReadable all (now steps) (now table) (now part) × (at ≤ length (now part)) ⌝ }
     ensures { λ r. ⌜ AlternativeFolded all (now (steps .entry)) (now (table .entry)) (now (part .entry)) at r ⌝ }
 {
     let mut x = start(all);
@@ -66,7 +71,7 @@ fn read_alternative(all: u64, steps: &[u64], table: &[u64], part: &[u32], at: us
                 ended: i,
             };
         }
-        let y = entry_row(steps, table, w);
+        let y = entry_row(all, steps, table, w);
         if y.run == 0 {
             return left_at(i);
         }
@@ -93,7 +98,7 @@ fn empties_end(part: &[u32], at: usize) -> usize
 // Unites the alternatives that stand from index `at` on, up to the next sequence, past the entries that a walk has left. An alternative
 // without entries has the row that reading begins with, and where many of them stand in a row it is united once.
 pub fn read_sequence(all: u64, steps: &[u64], table: &[u64], part: &[u32], at: usize) -> Row
-    requires { ⌜ RowsReadable (now steps) (now table) (now part) × (at ≤ length (now part)) ⌝ }
+    requires { ⌜ RowsReadable all (now steps) (now table) (now part) × (at ≤ length (now part)) ⌝ }
     ensures { λ r. ⌜ r ≡ unitedFrom all (now (steps .entry)) (now (table .entry)) noRow (alternativesFrom (drop at (now (part .entry)))) ⌝ }
 {
     let mut x = none();

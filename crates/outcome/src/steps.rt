@@ -1,4 +1,4 @@
-// The rows of the steps, made once: a table of eight words a row, like that of the sequences.
+// The rows of the steps, made once: a table of rows like that of the sequences.
 use library::tables::MASK_WORDS;
 use row::words::Row;
 use row::words::of_step;

@@ -1,4 +1,4 @@
-// The outcome table of a library: for each sequence eight words, worked out for all facts at once from the image's slices.
+// The outcome table of a library: for each sequence a row, worked out for all facts at once from the image's slices.
 use crate::settle::settle;
 use crate::steps::write_step_rows;
 use image::answer::Head;

@@ -4,16 +4,18 @@ use Prim.Native.Nat.{ℕ, zero, suc, _+_, _-_, _/_, _^_, _≤_, _<_, max, min}
 use native.Mathlib.Nat.{sub-zero}
 use native.Mathlib.Omega.{arith}
 use mathlib.Core.Path.{_≡_, refl, sym, ap, _∙_}
-use mathlib.Core.Bool.{Bool, true, false, not, _&&_, _||_}
+use mathlib.Core.Bool.{Bool, true, false, not, _&&_, _||_, or-false}
 use lib.Bits.{bitAnd, bitOr, or-lt}
 use lib.Dec.{eqb}
-use lib.Pow.{ones-split, high, ones-lt, pow-pos}
-use Rattle.column.specs.Column.{bit}
-use Rattle.column.proofs.Bits.{bit-le, bit-or, bit-and, bit-not, bit-none}
+use lib.Pow.{ones-split, high, ones-lt, pow-pos, pow-lt}
+use mir.Val.{boolByte}
+use Rattle.column.specs.Column.{bit, withFact}
+use Rattle.column.specs.Sets.{difference}
+use Rattle.column.proofs.Bits.{bit-le, bit-or, bit-and, bit-not, bit-none, bit-pow}
 use Rattle.runs.specs.Touch.{Mark, present, absent, untouched, Side, last, first}
 use Rattle.runs.specs.Rows as rows
 use Rattle.runs.specs.Rows.{columnNumber, joinRow, touchRow}
-use Rattle.row.specs.Words.{rowWords, allFacts, startRow, notWord, stepRow, joinRows, orRows, liveRow, isSet, bitRow}
+use Rattle.row.specs.Words.{rowWords, allFacts, startRow, notWord, stepRow, checkRow, joinRows, orRows, liveRow, isSet, bitRow}
 use Rattle.row.specs.declared.words.Row.{Row}
 use Rattle.runs.proofs.Rows.{by-column}
 
@@ -67,6 +69,7 @@ none-set f = ap (λ (n : ℕ). eqb n 1) (bit-none f)
 pub or-bits : (x y : Row) (f j : ℕ) → j < rowWords → bitRow (orRows x y) f j ≡ (bitRow x f j || bitRow y f j)
 or-bits x y f =
     by-column (λ (j : ℕ). bitRow (orRows x y) f j ≡ (bitRow x f j || bitRow y f j)) (or-set (x .run) (y .run) f) (or-set (x .empty) (y .empty) f) side
+    (or-set (x .cleared) (y .cleared) f) (or-set (x .unmentioned) (y .unmentioned) f)
   where
     side : (s : Side) (m : Mark) → bitRow (orRows x y) f (columnNumber s m) ≡ (bitRow x f (columnNumber s m) || bitRow y f (columnNumber s m))
     side last present = or-set (x .last .present) (y .last .present) f
@@ -80,6 +83,7 @@ or-bits x y f =
 pub live-bits : (x : Row) (f j : ℕ) → j < rowWords → bitRow (liveRow x) f j ≡ (bitRow x f 0 && bitRow x f j)
 live-bits x f =
     by-column (λ (j : ℕ). bitRow (liveRow x) f j ≡ (bitRow x f 0 && bitRow x f j)) (and-set (x .run) (x .run) f) (and-set (x .run) (x .empty) f) side
+    (and-set (x .run) (x .cleared) f) (and-set (x .run) (x .unmentioned) f)
   where
     side : (s : Side) (m : Mark) → bitRow (liveRow x) f (columnNumber s m) ≡ (bitRow x f 0 && bitRow x f (columnNumber s m))
     side last present = and-set (x .run) (x .last .present) f
@@ -96,7 +100,7 @@ later-set a b c f = or-set (bitAnd a b) c f ∙ ap (λ (t : Bool). t || isSet c 
 pub join-bits : (x y : Row) (f j : ℕ) → j < rowWords → bitRow (joinRows x y) f j ≡ joinRow (bitRow x f) (bitRow y f) j
 join-bits x y f =
     by-column (λ (j : ℕ). bitRow (joinRows x y) f j ≡ joinRow (bitRow x f) (bitRow y f) j) (and-set (x .run) (y .run) f)
-    (and-set (x .empty) (y .empty) f) side
+    (and-set (x .empty) (y .empty) f) side (later-set (x .cleared) (y .unmentioned) (y .cleared) f) (and-set (x .unmentioned) (y .unmentioned) f)
   where
     side : (s : Side) (m : Mark) → bitRow (joinRows x y) f (columnNumber s m) ≡ joinRow (bitRow x f) (bitRow y f) (columnNumber s m)
     side last present = later-set (x .last .present) (y .last .untouched) (y .last .present) f
@@ -115,7 +119,7 @@ all-set n f l =
 -- no entry
 pub start-bits : (n f : ℕ) → f < n → (j : ℕ) → j < rowWords → bitRow (startRow (allFacts n)) f j ≡ rows.startRow j
 start-bits n f l =
-    by-column (λ (j : ℕ). bitRow (startRow (allFacts n)) f j ≡ rows.startRow j) (all-set n f l) (all-set n f l) side
+    by-column (λ (j : ℕ). bitRow (startRow (allFacts n)) f j ≡ rows.startRow j) (all-set n f l) (all-set n f l) side (none-set f) (all-set n f l)
   where
     side : (s : Side) (m : Mark) → bitRow (startRow (allFacts n)) f (columnNumber s m) ≡ rows.startRow (columnNumber s m)
     side last present = none-set f
@@ -136,16 +140,49 @@ module _ (n one other f : ℕ) (l : f < n) (u : n ≤ 64) (a : one < 2 ^ 64) (b 
       ∙ not-set (bitOr one other) f (or-lt 64 one other a b) (omega arith) ∙ ap not (or-set one other f)
 
 pub step-bits : (n needs sets clears f : ℕ) → f < n → n ≤ 64 → needs < 2 ^ 64 → sets < 2 ^ 64 → clears < 2 ^ 64 → (j : ℕ) → j < rowWords
-    → bitRow (stepRow (allFacts n) needs sets clears) f j ≡ touchRow (isSet needs f) (isSet sets f) (isSet clears f) j
+    → bitRow (stepRow (allFacts n) needs sets clears) f j ≡ touchRow false (isSet needs f) (isSet sets f) (isSet clears f) j
 step-bits n needs sets clears f l u a b c =
-    by-column (λ (j : ℕ). bitRow (stepRow (allFacts n) needs sets clears) f j ≡ touchRow (isSet needs f) (isSet sets f) (isSet clears f) j)
-    (all-set n f l) (none-set f) side
+    by-column (λ (j : ℕ). bitRow (stepRow (allFacts n) needs sets clears) f j ≡ touchRow false (isSet needs f) (isSet sets f) (isSet clears f) j)
+    (all-set n f l) (none-set f) side refl
+    (untouched-set n (bitOr needs sets) clears f l u (or-lt 64 needs sets a b) c ∙ ap (λ (t : Bool). not (t || isSet clears f)) (or-set needs sets f))
   where
     side : (s : Side) (m : Mark)
-        → bitRow (stepRow (allFacts n) needs sets clears) f (columnNumber s m) ≡ touchRow (isSet needs f) (isSet sets f) (isSet clears f) (columnNumber s m)
+        → bitRow (stepRow (allFacts n) needs sets clears) f (columnNumber s m)
+        ≡ touchRow false (isSet needs f) (isSet sets f) (isSet clears f) (columnNumber s m)
     side last present = refl
     side last absent = absent-set n sets clears f l u b c
     side last untouched = untouched-set n sets clears f l u b c
     side first present = refl
     side first absent = absent-set n needs sets f l u a b
     side first untouched = untouched-set n needs sets f l u a b
+
+-- a check of fact g
+byte-set : (b : Bool) → eqb (boolByte b) 1 ≡ b
+byte-set true = refl
+byte-set false = refl
+
+module _ (n g f : ℕ) (l : f < n) (u : n ≤ 64) (low : g < 64) where
+  one-set : isSet (2 ^ g) f ≡ eqb g f
+  one-set = ap (λ (n : ℕ). eqb n 1) (bit-pow g f) ∙ byte-set (eqb g f)
+
+  fact-set : isSet (bitAnd (allFacts n) (2 ^ g)) f ≡ eqb g f
+  fact-set = and-set (allFacts n) (2 ^ g) f ∙ ap (λ (t : Bool). t && isSet (2 ^ g) f) (all-set n f l) ∙ one-set
+
+  others-set : isSet (difference 64 (allFacts n) (withFact 0 g)) f ≡ not (eqb g f)
+  others-set =
+      and-set (allFacts n) (notWord (2 ^ g)) f ∙ ap (λ (t : Bool). t && isSet (notWord (2 ^ g)) f) (all-set n f l)
+      ∙ not-set (2 ^ g) f (pow-lt low) (omega arith) ∙ ap not one-set
+
+pub check-bits : (n g f : ℕ) → f < n → n ≤ 64 → g < 64 → (j : ℕ) → j < rowWords
+    → bitRow (checkRow (allFacts n) g) f j ≡ touchRow true (eqb g f) false false j
+check-bits n g f l u low =
+    by-column (λ (j : ℕ). bitRow (checkRow (allFacts n) g) f j ≡ touchRow true (eqb g f) false false j) (all-set n f l) (all-set n f l) side
+    (none-set f) (others-set n g f l u low ∙ ap not (sym (or-false (eqb g f || false) ∙ or-false (eqb g f))))
+  where
+    side : (s : Side) (m : Mark) → bitRow (checkRow (allFacts n) g) f (columnNumber s m) ≡ touchRow true (eqb g f) false false (columnNumber s m)
+    side last present = none-set f
+    side last absent = none-set f
+    side last untouched = all-set n f l
+    side first present = fact-set n g f l u low
+    side first absent = none-set f
+    side first untouched = others-set n g f l u low ∙ ap not (sym (or-false (eqb g f)))

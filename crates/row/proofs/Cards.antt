@@ -1,4 +1,4 @@
--- Rows and cards: the seven stores of a card, and the cards written one after the other.
+-- Rows and cards: the stores of a card, and the cards written one after the other.
 -- Assumes nothing.
 use Prim.Native.Nat.{ℕ, zero, suc, _+_, _*_, _≤_, _<_}
 use native.Mathlib.Nat.{add-zero, zero-add, suc-add, add-suc}
@@ -14,12 +14,12 @@ use Rattle.row.specs.Card.{rowCard, rowAt, tableCards}
 
 -- ---- one card
 
--- seven stores into a part of seven words leave just what was stored
-pub seven-stores : (l : List ℕ) (a b c d e f g : ℕ) → length l ≡ cardWords
-    → set (set (set (set (set (set (set l 0 a) 1 b) 2 c) 3 d) 4 e) 5 f) 6 g ≡ a ∷ b ∷ c ∷ d ∷ e ∷ f ∷ g ∷ []
-seven-stores l a b c d e f g n =
-    sets-eq (a ∷ b ∷ c ∷ d ∷ e ∷ f ∷ g ∷ []) l 0 (omega arith)
-    ∙ ap (λ (r : List ℕ). a ∷ b ∷ c ∷ d ∷ e ∷ f ∷ g ∷ r) (drop-of-length-le l {i = cardWords} (omega arith))
+-- a store for each word of a part leaves just what was stored
+pub all-stores : (l : List ℕ) (a b c d e f g h : ℕ) → length l ≡ cardWords
+    → set (set (set (set (set (set (set (set l 0 a) 1 b) 2 c) 3 d) 4 e) 5 f) 6 g) 7 h ≡ a ∷ b ∷ c ∷ d ∷ e ∷ f ∷ g ∷ h ∷ []
+all-stores l a b c d e f g h n =
+    sets-eq (a ∷ b ∷ c ∷ d ∷ e ∷ f ∷ g ∷ h ∷ []) l 0 (omega arith)
+    ∙ ap (λ (r : List ℕ). a ∷ b ∷ c ∷ d ∷ e ∷ f ∷ g ∷ h ∷ r) (drop-of-length-le l {i = cardWords} (omega arith))
 
 -- ---- all cards
 
@@ -63,13 +63,13 @@ module _ (table area₀ : List ℕ) (n : ℕ) (room : cardWords * n ≤ length a
     pub cards-next : c < n → (j k : ℕ) (part : List ℕ) → j ≡ rowWords → k ≡ cardWords → part ≡ rowCard (take j (drop (rowWords * c) table))
         → CardsAt table area₀ (take (cardWords * c) area ++ (part ++ drop k (drop (cardWords * c) area))) n (c + 1)
     unfolding done
-    cards-next l j k part eight seven new =
+    cards-next l j k part row-long card-long new =
         let before : take (cardWords * c) area ≡ done = ap (take (cardWords * c)) (at .written) ∙ take-at done (drop (cardWords * c) area₀) (cardWords * c) (length-cards table 0 c) in
         let here : part ≡ rowCard (rowAt table (0 + c)) =
-        new ∙ ap₂ (λ (i d : ℕ). rowCard (take i (drop (rowWords * d) table))) eight (sym (zero-add c)) in
+        new ∙ ap₂ (λ (i d : ℕ). rowCard (take i (drop (rowWords * d) table))) row-long (sym (zero-add c)) in
         let seam : cardWords * c + cardWords ≡ cardWords * (c + 1) = omega arith in
         let past : drop k (drop (cardWords * c) area) ≡ drop (cardWords * (c + 1)) area₀ =
-        ap₂ drop seven (ap (drop (cardWords * c)) (at .written) ∙ drop-at done (drop (cardWords * c) area₀) (cardWords * c) (length-cards table 0 c))
+        ap₂ drop card-long (ap (drop (cardWords * c)) (at .written) ∙ drop-at done (drop (cardWords * c) area₀) (cardWords * c) (length-cards table 0 c))
         ∙ drop-drop cardWords (cardWords * c) area₀ ∙ ap (λ (i : ℕ). drop i area₀) seam in
         record {
           within = omega arith;

@@ -1,10 +1,11 @@
--- Cards in the form that the code follows: each word of a card from the eight words of the sequence's row of the outcome table.
+-- Cards in the form that the code follows: each word of a card from the words of the sequence's row of the outcome table.
 use Prim.Native.Nat.{ℕ, zero, suc, _+_, _*_, _%_}
 use mathlib.Core.List.{List, [], _∷_, _++_}
 use lib.ListN.{getD, take, drop}
 use lib.Bits.{bitOr}
 use lib.Count.{ones}
 use Rattle.column.specs.Sets.{difference}
+use Rattle.runs.specs.Rows.{clearedColumn, unmentionedColumn}
 use Rattle.row.specs.Words.{rowWords}
 
 -- the flags from the columns "a run exists", "an empty run exists", "last set" and "last cleared"
@@ -23,7 +24,7 @@ rowCard row =
     let cleared = getD row 3 0 in
     let untouched = getD row 4 0 in
     flagsOf run (getD row 1 0) set cleared ∷ alwaysOf run (getD row 6 0) (getD row 7 0) ∷ getD row 5 0 ∷ set ∷ cleared
-    ∷ alwaysOf run cleared untouched ∷ alwaysOf run set untouched ∷ []
+    ∷ alwaysOf run cleared untouched ∷ alwaysOf run set untouched ∷ alwaysOf run (getD row clearedColumn 0) (getD row unmentionedColumn 0) ∷ []
 
 -- row c of a table
 abbrev pub rowAt : List ℕ → ℕ → List ℕ

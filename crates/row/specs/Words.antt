@@ -6,13 +6,15 @@ use mathlib.Core.List.{List, [], _∷_}
 use lib.ListN.{getD, set}
 use lib.Bits.{bitAnd, bitOr}
 use lib.Dec.{eqb}
-use Rattle.column.specs.Column.{bit}
+use Rattle.column.specs.Column.{bit, withFact}
+use Rattle.column.specs.Sets.{difference}
+use Rattle.runs.specs.Possible.{columnCount}
 use Rattle.row.specs.declared.words.Marks.{Marks}
 use Rattle.row.specs.declared.words.Row.{Row}
 
 -- a row's words in a table
 abbrev pub rowWords : ℕ
-rowWords = 8
+rowWords = columnCount
 
 -- all facts below F
 abbrev pub allFacts : ℕ → ℕ
@@ -22,14 +24,14 @@ abbrev pub noMarks : Marks
 noMarks = record { present = 0; absent = 0; untouched = 0 }
 
 abbrev pub noRow : Row
-noRow = record { run = 0; empty = 0; last = noMarks; first = noMarks }
+noRow = record { run = 0; empty = 0; last = noMarks; first = noMarks; cleared = 0; unmentioned = 0 }
 
 -- no entry
 abbrev pub startMarks : ℕ → Marks
 startMarks all = record { present = 0; absent = 0; untouched = all }
 
 abbrev pub startRow : ℕ → Row
-startRow all = record { run = all; empty = all; last = startMarks all; first = startMarks all }
+startRow all = record { run = all; empty = all; last = startMarks all; first = startMarks all; cleared = 0; unmentioned = all }
 
 -- a step, by what it needs, sets and clears
 abbrev pub notWord : ℕ → ℕ
@@ -40,7 +42,27 @@ stepMarks all one other =
     record { present = one; absent = bitAnd other (notWord one); untouched = bitAnd all (notWord (bitOr one other)) }
 
 abbrev pub stepRow : ℕ → ℕ → ℕ → ℕ → Row
-stepRow all needs sets clears = record { run = all; empty = 0; last = stepMarks all sets clears; first = stepMarks all needs sets }
+stepRow all needs sets clears =
+    record {
+      run = all;
+      empty = 0;
+      last = stepMarks all sets clears;
+      first = stepMarks all needs sets;
+      cleared = clears;
+      unmentioned = bitAnd all (notWord (bitOr (bitOr needs sets) clears));
+    }
+
+-- a check of fact f: "a check is no step" and "counts as a need" on the first side (document 02, request 4)
+abbrev pub checkRow : ℕ → ℕ → Row
+checkRow all f =
+    record {
+      run = all;
+      empty = all;
+      last = startMarks all;
+      first = record { present = bitAnd all (withFact 0 f); absent = 0; untouched = difference 64 all (withFact 0 f) };
+      cleared = 0;
+      unmentioned = difference 64 all (withFact 0 f);
+    }
 
 -- one list followed by another
 abbrev pub laterMarks : Marks → Marks → Marks
@@ -58,6 +80,8 @@ joinRows x y =
       empty = bitAnd (x .empty) (y .empty);
       last = laterMarks (x .last) (y .last);
       first = laterMarks (y .first) (x .first);
+      cleared = bitOr (bitAnd (x .cleared) (y .unmentioned)) (y .cleared);
+      unmentioned = bitAnd (x .unmentioned) (y .unmentioned);
     }
 
 -- what either has
@@ -76,6 +100,8 @@ orRows x y =
       empty = bitOr (x .empty) (y .empty);
       last = orMarks (x .last) (y .last);
       first = orMarks (x .first) (y .first);
+      cleared = bitOr (x .cleared) (y .cleared);
+      unmentioned = bitOr (x .unmentioned) (y .unmentioned);
     }
 
 -- the row where it has a run
@@ -94,6 +120,8 @@ liveRow x =
       empty = bitAnd (x .run) (x .empty);
       last = liveMarks (x .run) (x .last);
       first = liveMarks (x .run) (x .first);
+      cleared = bitAnd (x .run) (x .cleared);
+      unmentioned = bitAnd (x .run) (x .unmentioned);
     }
 
 abbrev pub sameMarks : Marks → Marks → Bool
@@ -102,8 +130,9 @@ sameMarks x y = eqb (x .present) (y .present) && eqb (x .absent) (y .absent) && 
 abbrev pub sameRows : Row → Row → Bool
 sameRows x y =
     eqb (x .run) (y .run) && eqb (x .empty) (y .empty) && sameMarks (x .last) (y .last) && sameMarks (x .first) (y .first)
+    && eqb (x .cleared) (y .cleared) && eqb (x .unmentioned) (y .unmentioned)
 
--- row c of a table of eight words a row, in the order of the columns
+-- row c of a table, in the order of the columns
 abbrev pub rowIn : List ℕ → ℕ → Row
 rowIn table c =
     record {
@@ -121,6 +150,8 @@ rowIn table c =
             absent = getD table (rowWords * c + 6) 0;
             untouched = getD table (rowWords * c + 7) 0;
           };
+      cleared = getD table (rowWords * c + 8) 0;
+      unmentioned = getD table (rowWords * c + 9) 0;
     }
 
 -- the table with row c written
@@ -130,16 +161,21 @@ withRow table c r =
     (set
     (set
     (set
+    (set
+    (set
     (set (set (set (set table (rowWords * c) (r .run)) (rowWords * c + 1) (r .empty)) (rowWords * c + 2) (r .last .present)) (rowWords * c + 3) (r .last .absent))
     (rowWords * c + 4) (r .last .untouched))
     (rowWords * c + 5) (r .first .present))
     (rowWords * c + 6) (r .first .absent))
-    (rowWords * c + 7) (r .first .untouched)
+    (rowWords * c + 7) (r .first .untouched))
+    (rowWords * c + 8) (r .cleared))
+    (rowWords * c + 9) (r .unmentioned)
 
 -- the words of a row in the order of the columns
 abbrev pub wordsOf : Row → List ℕ
 wordsOf r =
-    r .run ∷ r .empty ∷ r .last .present ∷ r .last .absent ∷ r .last .untouched ∷ r .first .present ∷ r .first .absent ∷ r .first .untouched ∷ []
+    r .run ∷ r .empty ∷ r .last .present ∷ r .last .absent ∷ r .last .untouched ∷ r .first .present ∷ r .first .absent ∷ r .first .untouched
+    ∷ r .cleared ∷ r .unmentioned ∷ []
 
 -- whether bit f is set
 abbrev pub isSet : ℕ → ℕ → Bool

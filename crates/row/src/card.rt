@@ -1,4 +1,5 @@
 // The card writer: a card from a row of the outcome table, and the cards of all sequences.
+use crate::words::CLEARED;
 use crate::words::EMPTY_RUN;
 use crate::words::FIRST_NEEDED;
 use crate::words::FIRST_SET;
@@ -8,6 +9,7 @@ use crate::words::LAST_SET;
 use crate::words::LAST_UNTOUCHED;
 use crate::words::ROW_WORDS;
 use crate::words::RUN;
+use crate::words::UNMENTIONED;
 use column::sets::count;
 use column::sets::union;
 use column::sets::without;
@@ -35,7 +37,9 @@ pub const ALWAYS_SET: usize = 5;
 
 pub const ALWAYS_CLEARED: usize = 6;
 
-pub const CARD_WORDS: usize = 7;
+pub const ALWAYS_STANDS: usize = 7;
+
+pub const CARD_WORDS: usize = 8;
 
 // The words of all cards, for every image.
 pub const MOST_CARD_WORDS: usize = CARD_WORDS * MOST_SEQUENCES as usize;
@@ -76,6 +80,7 @@ pub fn write_card(row: &[u64], part: &mut [u64])
     part[MAY_CLEAR] = cleared;
     part[ALWAYS_SET] = always(run, cleared, untouched);
     part[ALWAYS_CLEARED] = always(run, set, untouched);
+    part[ALWAYS_STANDS] = always(run, row[CLEARED], row[UNMENTIONED]);
 }
 
 // Writes the cards of the first `n` sequences, sequence 0 first. Words past them stay.

@@ -1,11 +1,13 @@
 // A row of the outcome table: what is possible of one sequence, or of the entries read so far, for all facts at once. Bit f of each word says
 // it of fact f.
+use column::sets::without;
+use column::with_fact;
 use image::word::MOST_FACTS;
 ghost use mathlib.Core.Path.{_≡_};
-ghost use Prim.Native.Nat.{_+_, _-_, _*_, _≤_};
+ghost use Prim.Native.Nat.{_+_, _-_, _*_, _≤_, _<_};
 ghost use lib.ListN.{length};
 ghost use Rattle.image.specs.Word.{mostFacts};
-ghost use Rattle.row.specs.Words.{rowWords, allFacts, noRow, startRow, stepMarks, stepRow, laterMarks, joinRows, orMarks, orRows, liveMarks, liveRow, sameMarks, sameRows, rowIn, withRow};
+ghost use Rattle.row.specs.Words.{rowWords, allFacts, noRow, startRow, stepMarks, stepRow, checkRow, laterMarks, joinRows, orMarks, orRows, liveMarks, liveRow, sameMarks, sameRows, rowIn, withRow};
 
 // The words of a row in a table, in their order.
 pub const RUN: usize = 0;
@@ -24,7 +26,12 @@ pub const FIRST_SET: usize = 6;
 
 pub const FIRST_UNTOUCHED: usize = 7;
 
-pub const ROW_WORDS: usize = 8;
+// Of what stands: some run's last item that sets, clears, needs or checks the fact clears it; some run has no such item.
+pub const CLEARED: usize = 8;
+
+pub const UNMENTIONED: usize = 9;
+
+pub const ROW_WORDS: usize = 10;
 
 // A word of which every bit is set.
 pub const ALL_BITS: u64 = 0xffffffffffffffff;
@@ -37,12 +44,15 @@ pub struct Marks {
     pub untouched: u64,
 }
 
-// A run exists; an empty run exists; the outcomes on the last and on the first side.
+// A run exists; an empty run exists; the outcomes on the last and on the first side; of what stands, that some run's last item that mentions the
+// fact clears it, and that some run has no such item.
 pub struct Row {
     pub run: u64,
     pub empty: u64,
     pub last: Marks,
     pub first: Marks,
+    pub cleared: u64,
+    pub unmentioned: u64,
 }
 
 // The column of all facts below `facts`.
@@ -70,6 +80,8 @@ pub fn none() -> Row
             absent: 0,
             untouched: 0,
         },
+        cleared: 0,
+        unmentioned: 0,
     }
 }
 
@@ -90,6 +102,8 @@ pub fn start(all: u64) -> Row
             absent: 0,
             untouched: all,
         },
+        cleared: 0,
+        unmentioned: all,
     }
 }
 
@@ -113,6 +127,33 @@ pub fn of_step(all: u64, needs: u64, sets: u64, clears: u64) -> Row
         empty: 0,
         last: step_marks(all, sets, clears),
         first: step_marks(all, needs, sets),
+        cleared: clears,
+        unmentioned: all & !(needs | sets | clears),
+    }
+}
+
+// The row of a check of fact `f`: an empty run, which needs the fact and touches nothing on the last side.
+pub fn of_check(all: u64, f: u32) -> Row
+    requires { ⌜ f < mostFacts ⌝ }
+    ensures { λ r. ⌜ r ≡ checkRow all f ⌝ }
+{
+    let fact = with_fact(0, f);
+    let others = without(all, fact);
+    Row {
+        run: all,
+        empty: all,
+        last: Marks {
+            present: 0,
+            absent: 0,
+            untouched: all,
+        },
+        first: Marks {
+            present: all & fact,
+            absent: 0,
+            untouched: others,
+        },
+        cleared: 0,
+        unmentioned: others,
     }
 }
 
@@ -140,6 +181,8 @@ pub fn joined(x: Row, y: Row) -> Row
         empty: x.empty & y.empty,
         last: later(x_last, y_last),
         first: later(y_first, x_first),
+        cleared: (x.cleared & y.unmentioned) | y.cleared,
+        unmentioned: x.unmentioned & y.unmentioned,
     }
 }
 
@@ -166,6 +209,8 @@ pub fn united(x: Row, y: Row) -> Row
         empty: x.empty | y.empty,
         last: either(x_last, y_last),
         first: either(x_first, y_first),
+        cleared: x.cleared | y.cleared,
+        unmentioned: x.unmentioned | y.unmentioned,
     }
 }
 
@@ -191,6 +236,8 @@ pub fn live(x: Row) -> Row
         empty: run & x.empty,
         last: live_marks(run, last),
         first: live_marks(run, first),
+        cleared: run & x.cleared,
+        unmentioned: run & x.unmentioned,
     }
 }
 
@@ -210,7 +257,12 @@ pub fn same(x: Row, y: Row) -> bool
     let y_first = y.first;
     let last = same_marks(x_last, y_last);
     let first = same_marks(x_first, y_first);
-    (x.run == y.run) & (x.empty == y.empty) & last & first
+    (x.run == y.run)
+        & (x.empty == y.empty)
+        & last
+        & first
+        & (x.cleared == y.cleared)
+        & (x.unmentioned == y.unmentioned)
 }
 
 // Row `c` of a table.
@@ -232,6 +284,8 @@ pub fn row_at(table: &[u64], c: usize) -> Row
             absent: table[at + FIRST_SET],
             untouched: table[at + FIRST_UNTOUCHED],
         },
+        cleared: table[at + CLEARED],
+        unmentioned: table[at + UNMENTIONED],
     }
 }
 
@@ -251,4 +305,6 @@ pub fn put_row(table: &mut [u64], c: usize, r: Row)
     table[at + FIRST_NEEDED] = first.present;
     table[at + FIRST_SET] = first.absent;
     table[at + FIRST_UNTOUCHED] = first.untouched;
+    table[at + CLEARED] = r.cleared;
+    table[at + UNMENTIONED] = r.unmentioned;
 }

@@ -3,15 +3,15 @@ use Prim.Native.Nat.{ℕ}
 use mathlib.Core.Path.{_≡_, refl, sym, _∙_, ap, subst}
 use mathlib.Core.Logic.{_↔_, _≢_, _⊎_, inl, inr, ⊎-elim, by-cases}
 use mathlib.Core.Bool.{Bool, true, false, not, false≢true, true≢false}
-use mathlib.Core.List.{List, [], _∷_}
-use Rattle.library.specs.Library.{Library, Item}
+use mathlib.Core.List.{List, [], _∷_, List·Memᴰ·head, List·Memᴰ·tail, List·Memᴰ·not-nil, List·Memᴰ·cases-cons}
+use Rattle.library.specs.Library.{Library, Item, step, check}
 use Rattle.general.proofs.Bools.{and-parts, and-both, or-cases, or-left, or-right, passes-or-not}
-use Rattle.runs.specs.Run.{Run}
-use Rattle.runs.specs.Touch.{Question, rival, untouchedOn, otherTouch, HasOutcome, itemTouch}
-use Rattle.runs.specs.Touch.{outcomeOf, Mark, present, absent, untouched}
+use Rattle.runs.specs.Run.{Run, Empty}
+use Rattle.runs.specs.Touch.{Question, rival, untouchedOn, otherTouch, HasOutcome, Mark, present, absent, untouched}
+use Rattle.runs.specs.View.{View, touches, viewMark, viewSide, viewOutcome}
 use Rattle.runs.specs.Algebra.{outcome, emptyAlgebra, sideAlgebra, sameMark, sameMark-refl, sameMark-eq}
-use Rattle.runs.specs.Possible.{Column, columnHas, questionColumn, emptyColumn, runColumn, possibleOutcome}
-use Rattle.runs.specs.Possible.{hasRun, hasEmptyRun, brokenRule, alwaysOutcome}
+use Rattle.runs.specs.Possible.{Column, columnHas, viewColumn, emptyColumn, runColumn, isCheck, possibleIn, possibleOutcome}
+use Rattle.runs.specs.Possible.{hasRun, hasEmptyRun, brokenIn, alwaysIn}
 use borrow.Author.Tests.{not-true}
 use Rattle.runs.proofs.Outcome.{decided-outcome}
 use Rattle.runs.proofs.Possible.{possible-iff}
@@ -21,15 +21,20 @@ pub column-iff : (K : Column) (L : Library) (c f : ℕ)
     → (columnHas K L c f ≡ true) ↔ ((w : List Item) × Run L c w × (outcome (K .algebra) (K .marking L f) w ≡ K .asked))
 column-iff K L c f = possible-iff (L .sequences) (K .algebra) (K .marking L f) c (K .asked)
 
--- each question
-pub question-iff : (L : Library) (q : Question) (c f : ℕ) → (possibleOutcome L q c f ≡ true) ↔ ((w : List Item) × Run L c w × HasOutcome L q f w)
-question-iff L q c f = (
-  (λ e. let r = column-iff (questionColumn q) L c f .0 e in (r .0, r .1, same (r .0) ∙ r .2)),
-  λ r. column-iff (questionColumn q) L c f .1 (r .0, r .1, sym (same (r .0)) ∙ r .2),
+-- an outcome in a view
+pub view-iff : (L : Library) (v : View) (m : Mark) (c f : ℕ)
+    → (possibleIn L v m c f ≡ true) ↔ ((w : List Item) × Run L c w × (viewOutcome L v f w ≡ m))
+view-iff L v m c f = (
+  (λ e. let r = column-iff (viewColumn v m) L c f .0 e in (r .0, r .1, same (r .0) ∙ r .2)),
+  λ r. column-iff (viewColumn v m) L c f .1 (r .0, r .1, sym (same (r .0)) ∙ r .2),
 )
   where
-    same : (w : List Item) → outcomeOf L (q .side) f w ≡ outcome (sideAlgebra (q .side)) (itemTouch L (q .side) f) w
-    same w = decided-outcome (q .side) (itemTouch L (q .side) f) w
+    same : (w : List Item) → viewOutcome L v f w ≡ outcome (sideAlgebra (viewSide v)) (viewMark L v f) w
+    same w = decided-outcome (viewSide v) (viewMark L v f) w
+
+-- each question
+pub question-iff : (L : Library) (q : Question) (c f : ℕ) → (possibleOutcome L q c f ≡ true) ↔ ((w : List Item) × Run L c w × HasOutcome L q f w)
+question-iff L q c f = view-iff L (touches (q .side)) (q .mark) c f
 
 -- "a run exists"
 pub hasRun-iff : (L : Library) (c : ℕ) → (hasRun L c ≡ true) ↔ ((w : List Item) × Run L c w)
@@ -46,17 +51,23 @@ blank-columns K L c f none =
     (λ e. e)
     (passes-or-not (columnHas K L c f))
 
--- "an empty run exists"
-empty-nil : (w : List Item) → outcome emptyAlgebra (λ x. false) w ≡ true → w ≡ []
+-- "an empty run exists": every item of a run passes the test that no step passes exactly when the run has no step
+empty-steps : (w : List Item) → outcome emptyAlgebra isCheck w ≡ true → Empty w
 unfolding outcome
-empty-nil [] e = refl
-empty-nil (x ∷ w) e = absurd (false≢true e)
+empty-steps [] e a m = List·Memᴰ·not-nil m
+empty-steps (step b ∷ w) e a m = false≢true e
+empty-steps (check f ∷ w) e a m = ⊎-elim (λ q. true≢false (sym (ap isCheck q))) (empty-steps w e a) (List·Memᴰ·cases-cons m)
 
-pub hasEmptyRun-iff : (L : Library) (c : ℕ) → (hasEmptyRun L c ≡ true) ↔ Run L c []
+steps-empty : (w : List Item) → Empty w → outcome emptyAlgebra isCheck w ≡ true
 unfolding outcome
+steps-empty [] none = refl
+steps-empty (step a ∷ w) none = absurd (none a (List·Memᴰ·head refl))
+steps-empty (check f ∷ w) none = steps-empty w (λ a m. none a (List·Memᴰ·tail m))
+
+pub hasEmptyRun-iff : (L : Library) (c : ℕ) → (hasEmptyRun L c ≡ true) ↔ ((w : List Item) × Run L c w × Empty w)
 hasEmptyRun-iff L c = (
-  (λ e. let r = column-iff emptyColumn L c 0 .0 e in subst (Run L c) (empty-nil (r .0) (r .2)) (r .1)),
-  λ r. column-iff emptyColumn L c 0 .1 ([], r, refl),
+  (λ e. let r = column-iff emptyColumn L c 0 .0 e in (r .0, r .1, empty-steps (r .0) (r .2))),
+  λ r. column-iff emptyColumn L c 0 .1 (r .0, r .1, steps-empty (r .0) (r .2)),
 )
 
 -- marks can be told apart
@@ -82,49 +93,58 @@ rival-differs present touch e = false≢true (ap (sameMark present) e)
 rival-differs absent touch e = false≢true (ap (sameMark absent) e)
 rival-differs untouched touch e = touch refl
 
+-- a run that does not have a mark in a view has one of its two rivals
+pub breaks-view : (L : Library) (v : View) (m : Mark) (f : ℕ) (w : List Item) → m ≢ untouched → viewOutcome L v f w ≢ m
+    → (viewOutcome L v f w ≡ otherTouch m) ⊎ (viewOutcome L v f w ≡ untouched)
+breaks-view L v m f w touch breaks = other-marks m (viewOutcome L v f w) touch breaks
+
 pub breaks-rule : (L : Library) (q : Question) (f : ℕ) (w : List Item) → q .mark ≢ untouched → ¬ HasOutcome L q f w
     → HasOutcome L (rival q) f w ⊎ HasOutcome L (untouchedOn q) f w
-breaks-rule L q f w touch breaks = other-marks (q .mark) (outcomeOf L (q .side) f w) touch breaks
+breaks-rule L q f w touch breaks = breaks-view L (touches (q .side)) (q .mark) f w touch breaks
 
--- and one of the two questions is possible exactly when some run breaks the rule
-pub broken-iff : (L : Library) (q : Question) (c f : ℕ) → q .mark ≢ untouched
-    → (brokenRule L q c f ≡ true) ↔ ((w : List Item) × Run L c w × ¬ HasOutcome L q f w)
-broken-iff L q c f touch = (
-  (λ e. ⊎-elim
-      (λ p. let o = question-iff L (rival q) c f .0 p in (o .0, o .1, λ h. rival-differs (q .mark) touch (sym (o .2) ∙ h)))
-      (λ p. let o = question-iff L (untouchedOn q) c f .0 p in (o .0, o .1, λ h. touch (sym h ∙ o .2)))
-      (or-cases (possibleOutcome L (rival q) c f) (possibleOutcome L (untouchedOn q) c f) e)),
-  λ (w, run, breaks). ⊎-elim
-      (λ o. or-left (possibleOutcome L (rival q) c f) (possibleOutcome L (untouchedOn q) c f) (question-iff L (rival q) c f .1 (w, run, o)))
-      (λ o. or-right (possibleOutcome L (rival q) c f) (possibleOutcome L (untouchedOn q) c f) (question-iff L (untouchedOn q) c f .1 (w, run, o)))
-      (breaks-rule L q f w touch breaks),
-)
+module _ (L : Library) (v : View) (m : Mark) (c f : ℕ) (touch : m ≢ untouched) where
+  -- every run has mark m in the view; some run has another
+  abbrev pub Every : Type 0
+  Every = (w : List Item) → Run L c w → viewOutcome L v f w ≡ m
 
--- an "always" column holds a fact exactly when a run exists and every run keeps the rule
-pub always-iff : (L : Library) (q : Question) (c f : ℕ) → q .mark ≢ untouched
-    → (alwaysOutcome L q c f ≡ true) ↔ (((w : List Item) × Run L c w) × ((w : List Item) → Run L c w → HasOutcome L q f w))
-always-iff L q c f touch = (
-  (λ e. let p = and-parts (hasRun L c) (not (brokenRule L q c f)) e in (
-    hasRun-iff L c .0 (p .0),
-    λ w run. by-cases (Mark-discrete (outcomeOf L (q .side) f w) (q .mark)) (λ h. h)
-        (λ h. absurd (true≢false (sym (broken-iff L q c f touch .1 (w, run, h)) ∙ not-true (brokenRule L q c f) (p .1)))),
-  )),
-  λ (run, all). and-both (hasRun L c) (not (brokenRule L q c f)) (hasRun-iff L c .1 run)
-      (⊎-elim (λ e. let b = broken-iff L q c f touch .0 e in absurd (b .2 (all (b .0) (b .1)))) (λ e. ap not e) (passes-or-not (brokenRule L q c f))),
-)
+  abbrev pub Breaking : Type 0
+  Breaking = (w : List Item) × Run L c w × (viewOutcome L v f w ≢ m)
 
--- "A fact is missing from one of these three "always" columns exactly when the sequence has no run, or has one, executing or not, that
--- breaks the column's rule."
-pub missing-iff : (L : Library) (q : Question) (c f : ℕ) → q .mark ≢ untouched
-    → (alwaysOutcome L q c f ≡ false) ↔ (((w : List Item) → ¬ Run L c w) ⊎ ((w : List Item) × Run L c w × ¬ HasOutcome L q f w))
-missing-iff L q c f touch = (
-  (λ e. ⊎-elim
-      (λ p. ⊎-elim (λ b. inr (broken-iff L q c f touch .0 b))
-      (λ b. absurd (true≢false (sym (and-both (hasRun L c) (not (brokenRule L q c f)) p (ap not b)) ∙ e))) (passes-or-not (brokenRule L q c f)))
-      (λ p. inl (λ w run. true≢false (sym (hasRun-iff L c .1 (w, run)) ∙ p)))
-      (passes-or-not (hasRun L c))),
-  λ h. ⊎-elim
-      (λ e. let a = always-iff L q c f touch .0 e in
-      absurd (⊎-elim (λ none. none (a .0 .0) (a .0 .1)) (λ b. b .2 (a .1 (b .0) (b .1))) h))
-      (λ e. e) (passes-or-not (alwaysOutcome L q c f)),
-)
+  -- one of the two rivals is possible exactly when some run breaks the rule
+  pub broken-iff : (brokenIn L v m c f ≡ true) ↔ Breaking
+  broken-iff = (
+    (λ e. ⊎-elim
+        (λ p. let o = view-iff L v (otherTouch m) c f .0 p in (o .0, o .1, λ h. rival-differs m touch (sym (o .2) ∙ h)))
+        (λ p. let o = view-iff L v untouched c f .0 p in (o .0, o .1, λ h. touch (sym h ∙ o .2)))
+        (or-cases (possibleIn L v (otherTouch m) c f) (possibleIn L v untouched c f) e)),
+    λ (w, run, breaks). ⊎-elim
+        (λ o. or-left (possibleIn L v (otherTouch m) c f) (possibleIn L v untouched c f) (view-iff L v (otherTouch m) c f .1 (w, run, o)))
+        (λ o. or-right (possibleIn L v (otherTouch m) c f) (possibleIn L v untouched c f) (view-iff L v untouched c f .1 (w, run, o)))
+        (breaks-view L v m f w touch breaks),
+  )
+
+  -- an "always" column holds a fact exactly when a run exists and every run keeps the rule
+  pub always-iff : (alwaysIn L v m c f ≡ true) ↔ (((w : List Item) × Run L c w) × Every)
+  always-iff = (
+    (λ e. let p = and-parts (hasRun L c) (not (brokenIn L v m c f)) e in (
+      hasRun-iff L c .0 (p .0),
+      λ w run. by-cases (Mark-discrete (viewOutcome L v f w) m) (λ h. h)
+          (λ h. absurd (true≢false (sym (broken-iff .1 (w, run, h)) ∙ not-true (brokenIn L v m c f) (p .1)))),
+    )),
+    λ (run, all). and-both (hasRun L c) (not (brokenIn L v m c f)) (hasRun-iff L c .1 run)
+        (⊎-elim (λ e. let b = broken-iff .0 e in absurd (b .2 (all (b .0) (b .1)))) (λ e. ap not e) (passes-or-not (brokenIn L v m c f))),
+  )
+
+  -- "A fact is missing from one of these three "always" columns exactly when the sequence has no run, or has one, executing or not, that
+  -- breaks the column's rule."
+  pub missing-iff : (alwaysIn L v m c f ≡ false) ↔ (((w : List Item) → ¬ Run L c w) ⊎ Breaking)
+  missing-iff = (
+    (λ e. ⊎-elim
+        (λ p. ⊎-elim (λ b. inr (broken-iff .0 b)) (λ b. absurd (true≢false (sym (and-both (hasRun L c) (not (brokenIn L v m c f)) p (ap not b)) ∙ e)))
+        (passes-or-not (brokenIn L v m c f)))
+        (λ p. inl (λ w run. true≢false (sym (hasRun-iff L c .1 (w, run)) ∙ p)))
+        (passes-or-not (hasRun L c))),
+    λ h. ⊎-elim
+        (λ e. let a = always-iff .0 e in absurd (⊎-elim (λ none. none (a .0 .0) (a .0 .1)) (λ b. b .2 (a .1 (b .0) (b .1))) h))
+        (λ e. e) (passes-or-not (alwaysIn L v m c f)),
+  )

@@ -9,3 +9,4 @@ pub mod Columns
 pub mod Execution
 pub mod Published
 pub mod Clears
+pub mod Standing

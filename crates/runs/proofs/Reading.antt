@@ -7,12 +7,12 @@ use mathlib.Core.Path.{_≡_, refl, sym, _∙_, subst}
 use mathlib.Core.Logic.{⊎-elim, _≢_}
 use mathlib.Core.Bool.{Bool, true, false, _&&_, _||_, false≢true, and-false, or-false}
 use mathlib.Core.List.{List, [], _∷_}
-use Rattle.library.specs.Library.{Entry, item, call, Item}
+use Rattle.library.specs.Library.{Entry, item, call, Item, step, check}
 use Rattle.general.specs.Tests.{some}
 use Rattle.general.proofs.Bools.{and-parts, and-both, or-cases, or-left, or-right, both-ways, passes-or-not}
 use Rattle.runs.specs.Touch.{Mark, present, absent, untouched, Side, last, first}
 use Rattle.runs.specs.Algebra.{Algebra, sideAlgebra, anyAlgebra, emptyAlgebra, joinMarks, sameMark, sameMark-refl}
-use Rattle.runs.specs.Possible.{Table, can}
+use Rattle.runs.specs.Possible.{Table, can, isCheck}
 use Rattle.runs.specs.Table.{Part, whole}
 use Rattle.runs.specs.Reading.{joined, entryOutcomes, read}
 use Rattle.runs.specs.Rows.{laterSets, joinSets}
@@ -42,14 +42,14 @@ module _ (A : Algebra) where
 
 module _ (A : Algebra) (mark : Item → A .Outcome) (T : Table A) where
   -- one entry: what it and the entries after it can have
-  can-entry : (e : Entry) (es : List Entry) (x y m : A .Outcome) → entryOutcomes A mark T e y ≡ true → can A mark T es (A .join x y) m ≡ true
+  pub can-entry : (e : Entry) (es : List Entry) (x y m : A .Outcome) → entryOutcomes A mark T e y ≡ true → can A mark T es (A .join x y) m ≡ true
       → can A mark T (e ∷ es) x m ≡ true
   unfolding can
   can-entry (item a) es x y m p q = rw (A .same-eq (mark a) y p) q
   can-entry (call c) es x y m p q =
       some-intro (λ z. T c z && can A mark T es (A .join x z) m) (A .listed y) (and-both (T c y) (can A mark T es (A .join x y) m) p q)
 
-  entry-can : (e : Entry) (es : List Entry) (x m : A .Outcome) → can A mark T (e ∷ es) x m ≡ true
+  pub entry-can : (e : Entry) (es : List Entry) (x m : A .Outcome) → can A mark T (e ∷ es) x m ≡ true
       → (y : A .Outcome) × (entryOutcomes A mark T e y ≡ true) × (can A mark T es (A .join x y) m ≡ true)
   unfolding can
   entry-can (item a) es x m q = (mark a, A .same-refl (mark a), q)
@@ -152,10 +152,10 @@ allRun R [] = true
 allRun R (item a ∷ es) = allRun R es
 allRun R (call c ∷ es) = R c && allRun R es
 
--- there is no step, and every sequence called has an empty run, by the column given
+-- every item is a check, and every sequence called has an empty run, by the column given
 unfoldable pub allEmpty : (ℕ → Bool) → List Entry → Bool
 allEmpty R [] = true
-allEmpty R (item a ∷ es) = false
+allEmpty R (item a ∷ es) = isCheck a && allEmpty R es
 allEmpty R (call c ∷ es) = R c && allEmpty R es
 
 -- the outcomes after the entries on a side, by the formulas, where those of what stands before them are X
@@ -242,14 +242,15 @@ run-can mark R (item a ∷ es) = run-can mark R es
 run-can mark R (call c ∷ es) = rw (or-false, run-can mark R es)
 
 -- and an empty run where it has no step and every sequence it calls has an empty run
-item-not-empty : (T : Table emptyAlgebra) (es : List Entry) → can emptyAlgebra (λ x. false) T es false true ≡ false
+step-not-empty : (T : Table emptyAlgebra) (es : List Entry) → can emptyAlgebra isCheck T es false true ≡ false
 unfolding can some
-item-not-empty T [] = refl
-item-not-empty T (item a ∷ es) = item-not-empty T es
-item-not-empty T (call c ∷ es) = rw (item-not-empty T es, and-false (T c true), and-false (T c false))
+step-not-empty T [] = refl
+step-not-empty T (item a ∷ es) = step-not-empty T es
+step-not-empty T (call c ∷ es) = rw (step-not-empty T es, and-false (T c true), and-false (T c false))
 
-pub empty-can : (R : ℕ → Bool) (es : List Entry) → can emptyAlgebra (λ x. false) (λ c b. R c) es true true ≡ allEmpty R es
+pub empty-can : (R : ℕ → Bool) (es : List Entry) → can emptyAlgebra isCheck (λ c b. R c) es true true ≡ allEmpty R es
 unfolding can allEmpty some
 empty-can R [] = refl
-empty-can R (item a ∷ es) = item-not-empty (λ c b. R c) es
-empty-can R (call c ∷ es) = rw (item-not-empty (λ d b. R d) es, and-false (R c), or-false, empty-can R es)
+empty-can R (item (step a) ∷ es) = step-not-empty (λ c b. R c) es
+empty-can R (item (check f) ∷ es) = empty-can R es
+empty-can R (call c ∷ es) = rw (step-not-empty (λ d b. R d) es, and-false (R c), or-false, empty-can R es)

@@ -5,6 +5,7 @@ use mathlib.Core.Logic.{_↔_}
 use mathlib.Core.List.{List, [], _∷_, _++_, map, map-append, append-assoc, append-nil}
 use Rattle.library.specs.Library.{Library, Sequence, Entry, item, Item}
 use Rattle.runs.specs.Run.{Run, Gives, nothing, by-item, by-call, alternativeOf}
+use Rattle.runs.specs.Domain.{domainOf}
 use Rattle.runs.specs.Refinement.{Network, Decomposes, Transforms, by-none, by-method, Refines}
 use Rattle.runs.proofs.Run.{gives-append, gives-split, call-iff}
 
@@ -39,7 +40,7 @@ module _ (S : List Sequence) where
       (gives-transforms h (before ++ map item u) after (simp append-assoc (simp (e, map-append, append-assoc) at t)))))
 
 -- a primitive refinement of c is a run of c, and a run of c a primitive refinement
-pub refinement-run : (L : Library) (c : ℕ) (w : List Item) → Refines L c w ↔ Run L c w
+pub refinement-run : (L : Library) (c : ℕ) (w : List Item) → Refines (domainOf L) c w ↔ Run L c w
 refinement-run L c w =
     let S = L .sequences in (
       (λ t. call-iff S c w .0 (transformed-gives S t (steps-give S w))),

@@ -1,7 +1,10 @@
 pub mod Run
+pub mod Domain
 pub mod Refinement
 pub mod Execution
 pub mod Touch
+pub mod View
+pub mod Standing
 pub mod Algebra
 pub mod Levels
 pub mod Possible

@@ -1,4 +1,4 @@
--- The eight columns of the outcome table together, for one fact: a row is what they say of one sequence. What reading an alternative
+-- The columns of the outcome table together, for one fact: a row is what they say of one sequence. What reading an alternative
 -- from left to right adds to a row, by formulas; and what is said of the rows while they are worked out.
 use Prim.Native.Nat.{ℕ, _<_}
 use mathlib.Core.Path.{_≡_}
@@ -10,7 +10,8 @@ use Rattle.general.specs.Tests.{some}
 use Rattle.runs.specs.Run.{alternativesOf, alternativeOf}
 use Rattle.runs.specs.Touch.{Mark, present, absent, untouched, Side, last, first, itemTouch}
 use Rattle.runs.specs.Algebra.{sideAlgebra, sameMark}
-use Rattle.runs.specs.Possible.{columnOf}
+use Rattle.runs.specs.View.{standing, viewMark}
+use Rattle.runs.specs.Possible.{columnOf, columnCount, isCheck}
 use Rattle.runs.specs.Table.{Occurs}
 
 -- whether each column has the fact
@@ -18,10 +19,11 @@ abbrev pub Row : Type 0
 Row = ℕ → Bool
 
 -- a row by its columns, in the order of `columnOf`
-abbrev pub rowOf : Bool → Bool → (Side → Mark → Bool) → Row
-rowOf run empty side j =
+abbrev pub rowOf : Bool → Bool → (Side → Mark → Bool) → Bool → Bool → Row
+rowOf run empty side cleared unmentioned j =
     getD
-    (run ∷ empty ∷ side last present ∷ side last absent ∷ side last untouched ∷ side first present ∷ side first absent ∷ side first untouched ∷ [])
+    (run ∷ empty ∷ side last present ∷ side last absent ∷ side last untouched ∷ side first present ∷ side first absent ∷ side first untouched
+    ∷ cleared ∷ unmentioned ∷ [])
     j false
 
 -- the column of a side's outcome, and the outcomes of a row on a side
@@ -32,6 +34,13 @@ columnNumber last untouched = 4
 columnNumber first present = 5
 columnNumber first absent = 6
 columnNumber first untouched = 7
+
+-- the columns of the view `standing`: some run's last item that mentions the fact clears it; some run has no such item
+abbrev pub clearedColumn : ℕ
+clearedColumn = 8
+
+abbrev pub unmentionedColumn : ℕ
+unmentionedColumn = 9
 
 abbrev pub rowSide : Side → Row → Mark → Bool
 rowSide s r m = r (columnNumber s m)
@@ -49,20 +58,25 @@ joinSets first X Y = laterSets Y X
 
 -- the row of what stands before, with what comes next joined to it
 abbrev pub joinRow : Row → Row → Row
-joinRow X Y = rowOf (X 0 && Y 0) (X 1 && Y 1) (λ s m. joinSets s (rowSide s X) (rowSide s Y) m)
+joinRow X Y =
+    rowOf (X 0 && Y 0) (X 1 && Y 1) (λ s m. joinSets s (rowSide s X) (rowSide s Y) m)
+    (X clearedColumn && Y unmentionedColumn || Y clearedColumn) (X unmentionedColumn && Y unmentionedColumn)
 
--- the row of no entry, and of a step for fact f
+-- the row of no entry, and of an item for fact f
 abbrev pub startRow : Row
-startRow = rowOf true true (λ s m. sameMark untouched m)
+startRow = rowOf true true (λ s m. sameMark untouched m) false true
 
 abbrev pub itemRow : Library → ℕ → Item → Row
-itemRow L f a = rowOf true false (λ s m. sameMark (itemTouch L s f a) m)
+itemRow L f a =
+    rowOf true (isCheck a) (λ s m. sameMark (itemTouch L s f a) m) (sameMark (viewMark L standing f a) absent)
+    (sameMark (viewMark L standing f a) untouched)
 
--- the row of a step by whether it needs, sets and clears the fact
-abbrev pub touchRow : Bool → Bool → Bool → Row
-touchRow needs sets clears j =
+-- the row of an item by whether it is a check, and whether it needs, sets and clears the fact
+abbrev pub touchRow : Bool → Bool → Bool → Bool → Row
+touchRow check needs sets clears j =
     getD
-    (true ∷ false ∷ sets ∷ (clears && not sets) ∷ not (sets || clears) ∷ needs ∷ (sets && not needs) ∷ not (needs || sets) ∷ [])
+    (true ∷ check ∷ sets ∷ (clears && not sets) ∷ not (sets || clears) ∷ needs ∷ (sets && not needs) ∷ not (needs || sets)
+    ∷ clears ∷ not (needs || sets || clears) ∷ [])
     j false
 
 -- the row of an entry, by the rows of the sequences
@@ -85,7 +99,7 @@ OccursIn L f c j = Occurs (L .sequences) (columnOf j .algebra) (columnOf j .mark
 
 -- The row says only what occurs; it has an outcome on each side where it has a run, and only there; and an empty run is a run.
 pub record GoodRow (L : Library) (f c : ℕ) (r : Row) : Type 0 where
-  pub sound : (j : ℕ) → j < 8 → r j ≡ true → OccursIn L f c j
+  pub sound : (j : ℕ) → j < columnCount → r j ≡ true → OccursIn L f c j
   pub live : (s : Side) → some (rowSide s r) (sideAlgebra s .all) ≡ r 0
   pub empty : r 1 ≡ true → r 0 ≡ true
 
@@ -95,7 +109,7 @@ GoodRows L f B = (c : ℕ) → GoodRow L f c (B c)
 
 -- the row of sequence c has all that reading the entries gives
 abbrev pub Covers : Library → ℕ → (ℕ → Row) → ℕ → List Entry → Type 0
-Covers L f B c es = (j : ℕ) → j < 8 → readRow L f B es j ≡ true → B c j ≡ true
+Covers L f B c es = (j : ℕ) → j < columnCount → readRow L f B es j ≡ true → B c j ≡ true
 
 -- reading any alternative of any sequence adds nothing to its row
 abbrev pub ClosedRows : Library → ℕ → (ℕ → Row) → Type 0

@@ -3,9 +3,9 @@
 -- They depend on the sequences alone, and not on what a step needs, sets or clears.
 use Prim.Native.Nat.{ℕ, _<_}
 use mathlib.Core.Path.{_≡_}
-use mathlib.Core.List.{List, [], _∷_, _++_}
+use mathlib.Core.List.{List, [], _∷_, _++_, List·Memᴰ}
 use lib.ListN.{length, getD}
-use Rattle.library.specs.Library.{Library, Alternative, Sequence, Item, Entry, item, call}
+use Rattle.library.specs.Library.{Library, Alternative, Sequence, Item, step, Entry, item, call}
 
 -- the alternatives of sequence c, none where c is not the number of a sequence
 abbrev pub alternativesOf : List Sequence → ℕ → List Alternative
@@ -15,7 +15,8 @@ alternativesOf S c = getD S c []
 abbrev pub alternativeOf : List Sequence → ℕ → ℕ → Alternative
 alternativeOf S c i = getD (alternativesOf S c) i []
 
--- Which lists the entries of an alternative give: "putting its steps, and a run of each of its sequences, in order".
+-- Which lists the entries of an alternative give: "putting its steps, and a run of each of its sequences, in order". "A run holds its checks
+-- in their places" (document 02, request 4).
 -- The run u of the sequence called is given by its alternative i.
 pub data Gives (S : List Sequence) : List Entry → List Item → Type 0 where
   nothing : Gives S [] []
@@ -33,3 +34,7 @@ pub record RunOf (S : List Sequence) (c : ℕ) (w : List Item) : Type 0 where
 -- w is a run of sequence c of the library
 abbrev pub Run : Library → ℕ → List Item → Type 0
 Run L c w = RunOf (L .sequences) c w
+
+-- "a check is no step, .. and a run without steps is still called empty" (request 4)
+abbrev pub Empty : List Item → Type 0
+Empty w = (a : ℕ) → ¬ List·Memᴰ (step a) w

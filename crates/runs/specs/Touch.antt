@@ -5,7 +5,7 @@ use mathlib.Core.Bool.{cond}
 use mathlib.Core.List.{List, [], _∷_}
 use lib.ListN.{getD}
 use Rattle.library.specs.Library.{has, Library, Step, Item}
-use Rattle.runs.specs.Execution.{stepOf}
+use Rattle.runs.specs.Domain.{actionOf}
 
 -- "Last side", "First side"
 pub data Side : Type 0 where
@@ -23,9 +23,10 @@ abbrev pub touch : Side → Step → ℕ → Mark
 touch last a f = cond (has f (a .sets)) present (cond (has f (a .clears)) absent untouched)
 touch first a f = cond (has f (a .needs)) present (cond (has f (a .sets)) absent untouched)
 
--- the touch of an item of a run on fact f
+-- the touch of an item of a run on fact f. "On the first side a check counts as a need" (request 4), as the action that it is has it; on the
+-- last side it touches nothing
 abbrev pub itemTouch : Library → Side → ℕ → Item → Mark
-itemTouch L side f x = touch side (stepOf L x) f
+itemTouch L side f x = touch side (actionOf L x) f
 
 -- the first of two marks where it is a touch, and otherwise the second
 abbrev pub orElse : Mark → Mark → Mark

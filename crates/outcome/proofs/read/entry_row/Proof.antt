@@ -1,10 +1,10 @@
--- `outcome::read::entry_row` meets its contract: an entry that is no step is a sequence.
+-- `outcome::read::entry_row` meets its contract: an entry that is neither a step nor a check is a sequence.
 -- Assumes nothing.
 use borrow.Author.Needs.{needs}
 use borrow.Author.Tests.{eqb-true, eqb-false}
 use mathlib.Core.Path.{sym, _∙_, ap}
 use Rattle.image.specs.Word.{kind}
-use Rattle.row.specs.Words.{rowIn}
+use Rattle.row.specs.Words.{rowIn, checkRow}
 use Rattle.image.proofs.Words.{entry-kinds}
 use Rattle.outcome.proofs.read.entry_row.Statement.{statement}
 use Rattle.outcome.proofs.read.entry_row.Tie as tie
@@ -13,6 +13,7 @@ use Rattle.outcome.proofs.read.entry_row.Lts as lts
 use Rattle.image.proofs.word.is_kind.Reads as is-kind-reads
 use Rattle.image.proofs.word.payload_of.Reads as payload-of-reads
 use Rattle.row.proofs.words.row_at.Reads as row-at-reads
+use Rattle.row.proofs.words.of_check.Reads as of-check-reads
 
 is-kind-requires : tie.Need-is-kind-requires
 is-kind-requires c κs = search needs
@@ -36,26 +37,50 @@ returns c =
     simp (sym (kinds .is-kind .ensures) ∙ c .before .before .if1 .taken)
     (c .row-at .ensures ∙ ap (rowIn (start .args .steps .now)) (c .before .payload-of .ensures))
 
+is-kind-requires-2 : tie.Need-is-kind-requires-2
+is-kind-requires-2 c κs = search needs
+
 payload-of-requires-2 : tie.Need-payload-of-requires-2
 payload-of-requires-2 c κs = search needs
+
+-- the check's fact
+of-check-requires : tie.Need-of-check-requires
+of-check-requires c κs =
+    let checks = c .before .before in
+    let start = checks .before .before .before .before .before in
+    rw (c .payload-of2 .ensures) (start .pre .0 .check (eqb-true (kind (start .args .w)) 13 (sym (checks .is-kind2 .ensures) ∙ c .before .if2 .taken)) .0)
+
+returns-2 : tie.Need-returns-2
+returns-2 c =
+    let checks = c .before .before .before in
+    let kinds = checks .before .before in
+    let start = kinds .before .before .before in
+    simp (sym (kinds .is-kind .ensures) ∙ checks .before .if1 .left, sym (checks .is-kind2 .ensures) ∙ c .before .before .if2 .taken)
+    (c .of-check .ensures ∙ ap (checkRow (start .args .all)) (c .before .payload-of2 .ensures))
+
+payload-of-requires-3 : tie.Need-payload-of-requires-3
+payload-of-requires-3 c κs = search needs
 
 cast-row-at-2 : tie.Need-cast-row-at-2
 cast-row-at-2 c = search needs
 
 row-at-requires-2 : tie.Need-row-at-requires-2
 row-at-requires-2 c κs =
-    let kinds = c .before .before in
+    let checks = c .before .before in
+    let kinds = checks .before .before in
     let start = kinds .before .before .before in
-    rw (c .payload-of2 .ensures)
+    rw (c .payload-of3 .ensures)
     (start .pre .0 .sequence
-    (entry-kinds (start .args .w) (start .pre .1) (eqb-false (kind (start .args .w)) 8 (sym (kinds .is-kind .ensures) ∙ c .before .if1 .left))))
+    (entry-kinds (start .args .w) (start .pre .1) (eqb-false (kind (start .args .w)) 8 (sym (kinds .is-kind .ensures) ∙ checks .before .if1 .left))
+    (eqb-false (kind (start .args .w)) 13 (sym (checks .is-kind2 .ensures) ∙ c .before .if2 .left))))
 
-returns-2 : tie.Need-returns-2
-returns-2 c =
-    let kinds = c .before .before .before in
+returns-3 : tie.Need-returns-3
+returns-3 c =
+    let checks = c .before .before .before in
+    let kinds = checks .before .before in
     let start = kinds .before .before .before in
-    simp (sym (kinds .is-kind .ensures) ∙ c .before .before .if1 .left)
-    (c .row-at2 .ensures ∙ ap (rowIn (start .args .table .now)) (c .before .payload-of2 .ensures))
+    simp (sym (kinds .is-kind .ensures) ∙ checks .before .if1 .left, sym (checks .is-kind2 .ensures) ∙ c .before .before .if2 .left)
+    (c .row-at2 .ensures ∙ ap (rowIn (start .args .table .now)) (c .before .payload-of3 .ensures))
 
 pub entry-row-spec : {M : Type 1} → statement M
 entry-row-spec =
@@ -66,7 +91,11 @@ entry-row-spec =
     cast-row-at
     row-at-requires
     returns
+    is-kind-requires-2
     payload-of-requires-2
+    of-check-requires
+    returns-2
+    payload-of-requires-3
     cast-row-at-2
     row-at-requires-2
-    returns-2)
+    returns-3)

@@ -21,7 +21,7 @@ use Rattle.outcome.proofs.read.read_alternative.Tie as tie
 
 abbrev Inv-loop : tie.InvT-loop
 Inv-loop all steps table part at x₀ i₀ x i =
-    Leaving part (joinedFrom steps table (startRow all) (entriesFrom (drop at part))) (isDead table) at (joinedFrom steps table x) i
+    Leaving part (joinedFrom all steps table (startRow all) (entriesFrom (drop at part))) (isDead table) at (joinedFrom all steps table x) i
 
 abbrev μ-loop : tie.MeasureT-loop
 μ-loop all steps table part at x₀ i₀ x i = length part - i
@@ -39,10 +39,10 @@ inside c = folding-inside (c .before .before .before .loop .inv .folding) (entry
 -- its row
 row-is : (c : tie.After-entry-row Inv-loop μ-loop)
     → let start = c .before .before .before .before .before .before .before .before .before in
-    c .entry-row .result ≡ entryIn (start .args .steps .now) (start .args .table .now) (entryOf (getD (start .args .part .now) (c .before .before .before .before .loop .i) 0))
+    c .entry-row .result ≡ entryIn (start .args .all) (start .args .steps .now) (start .args .table .now) (entryOf (getD (start .args .part .now) (c .before .before .before .before .loop .i) 0))
 row-is c =
     let a = c .before .before .before .before .before .before .before .before .before .args in
-    c .entry-row .ensures ∙ ap (λ (w : ℕ). entryIn (a .steps .now) (a .table .now) (entryOf w)) (c .before .before .before .word-at .ensures)
+    c .entry-row .ensures ∙ ap (λ (w : ℕ). entryIn (a .all) (a .steps .now) (a .table .now) (entryOf w)) (c .before .before .before .word-at .ensures)
 
 -- whether it is dead, by its row
 dead : (c : tie.After-entry-row Inv-loop μ-loop) (b : Bool) → not (ltb 0 (c .entry-row .result .run)) ≡ b
@@ -51,7 +51,7 @@ dead : (c : tie.After-entry-row Inv-loop μ-loop) (b : Bool) → not (ltb 0 (c .
 dead c b told =
     let at-loop = c .before .before .before .before in
     let start = at-loop .before .before .before .before .before in
-    dead-is (start .args .steps .now) (start .args .table .now) (getD (start .args .part .now) (at-loop .loop .i) 0)
+    dead-is (start .args .all) (start .args .steps .now) (start .args .table .now) (getD (start .args .part .now) (at-loop .loop .i) 0)
     (start .pre .0 (at-loop .loop .i) (inside (c .before))) (entry (c .before))
     ∙ ap (λ (r : Row). not (ltb 0 (r .run))) (sym (row-is c)) ∙ told
 
@@ -94,7 +94,7 @@ returns-2 c =
     let here = test .before .before .before .loop .inv in
     record {
       row =
-          c .left-at .ensures .0 ∙ sym (dead-entry _ _ _ _ _ (ap (λ (r : Row). r .run) (sym (row-is row)) ∙ left .if2 .taken))
+          c .left-at .ensures .0 ∙ sym (dead-entry _ _ _ _ _ _ (ap (λ (r : Row). r .run) (sym (row-is row)) ∙ left .if2 .taken))
           ∙ ap liveRow (leaving-rest here (entry test));
       ended = c .left-at .ensures .1 ∙ leaving-dead here (entry test) (dead row _ (ap (λ (n : ℕ). not (ltb 0 n)) (left .if2 .taken)));
     }

@@ -1,11 +1,11 @@
--- `row::card::write_card` meets its contract: seven stores into a part of seven words.
+-- `row::card::write_card` meets its contract: a store for each word of the part.
 -- Assumes nothing.
 use borrow.Author.Needs.{needs}
 use native.Mathlib.Omega.{arith}
 use lib.ListN.{length-set}
 use mathlib.Core.Path.{_∙_}
 use Rattle.row.specs.Card.{rowCard}
-use Rattle.row.proofs.Cards.{seven-stores}
+use Rattle.row.proofs.Cards.{all-stores}
 use Rattle.row.proofs.card.write_card.Statement.{statement}
 use Rattle.row.proofs.card.write_card.Tie as tie
 use Rattle.row.proofs.card.write_card.Reads as reads
@@ -70,16 +70,35 @@ always-requires-3 c κs = search needs
 slice-write-part-7 : tie.Need-slice-write-part-7
 slice-write-part-7 c = simp length-set (omega arith)
 
+shared-slice-read-always-3 : tie.Need-shared-slice-read-always-3
+shared-slice-read-always-3 c = search needs
+
+shared-slice-read-always-4 : tie.Need-shared-slice-read-always-4
+shared-slice-read-always-4 c = search needs
+
+always-requires-4 : tie.Need-always-requires-4
+always-requires-4 c κs = search needs
+
+slice-write-part-8 : tie.Need-slice-write-part-8
+slice-write-part-8 c = simp length-set (omega arith)
+
 same-length : tie.Need-same-length
 same-length c = simp length-set
 
 returns : tie.Need-returns
 unfolding rowCard
 returns c =
-    let start = c .before .before .before .before .before .before .before .before .before .before .before .before .before .before in
+    let third = c .before .before .before in
+    let start = third .before .before .before .before .before .before .before .before .before .before .before .before .before .before in
     let row = start .args .row .now in
-    seven-stores (start .args .part .now) _ _ _ _ _ _ _ (start .pre .1)
-    ∙ simp (c .before .before .before .before .before .before .flags .ensures, c .before .before .before .always .ensures, c .before .always2 .ensures, c .always3 .ensures)
+    all-stores (start .args .part .now) _ _ _ _ _ _ _ _ (start .pre .1)
+    ∙ simp (
+      third .before .before .before .before .before .before .flags .ensures,
+      third .before .before .before .always .ensures,
+      third .before .always2 .ensures,
+      third .always3 .ensures,
+      c .always4 .ensures,
+    )
 
 pub write-card-spec : {M : Type 1} → statement M
 write-card-spec =
@@ -104,5 +123,9 @@ write-card-spec =
     slice-write-part-6
     always-requires-3
     slice-write-part-7
+    shared-slice-read-always-3
+    shared-slice-read-always-4
+    always-requires-4
+    slice-write-part-8
     same-length
     returns)

@@ -4,6 +4,8 @@ use borrow.Author.Needs.{needs}
 use Prim.Native.Nat.{_+_, _*_, _-_}
 use native.Mathlib.Omega.{arith}
 use lib.ListN.{length-take, length-drop}
+use Rattle.cards.specs.Layout.{cardWords}
+use Rattle.row.specs.Words.{rowWords}
 use Rattle.row.proofs.Cards.{CardsAt, cards-start, cards-long, cards-next, cards-end}
 use Rattle.row.proofs.card.write_cards.Statement.{statement}
 use Rattle.row.proofs.card.write_cards.Tie as tie
@@ -77,7 +79,8 @@ loop-again c =
     let turn = c .before .before .before .before .before .before in
     let start = turn .before .before .before in
     cards-next (start .args .table .now) (start .args .area .now) (start .args .n) (start .pre .1) (turn .loop .area) (turn .loop .c) (turn .loop .inv)
-    (omega arith) (8 * turn .loop .c + 8 - 8 * turn .loop .c) (7 * turn .loop .c + 7 - 7 * turn .loop .c) _ (omega arith) (omega arith) (c .before .before .write-card .ensures)
+    (omega arith) (rowWords * turn .loop .c + rowWords - rowWords * turn .loop .c)
+    (cardWords * turn .loop .c + cardWords - cardWords * turn .loop .c) _ (omega arith) (omega arith) (c .before .before .write-card .ensures)
 
 same-length : tie.Need-same-length Inv-loop μ-loop
 same-length c =

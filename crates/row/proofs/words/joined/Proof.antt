@@ -14,7 +14,9 @@ later-requires-2 : tie.Need-later-requires-2
 later-requires-2 c κs = search needs
 
 returns : tie.Need-returns
-returns c = simp (c .later2 .ensures, c .before .later .ensures)
+returns c =
+    let after = c .before .before .before .before .before in
+    simp (after .later2 .ensures, after .before .later .ensures)
 
 pub joined-spec : {M : Type 1} → statement M
 joined-spec = tie.close (tie.spec later-requires later-requires-2 returns)

@@ -14,7 +14,9 @@ live-marks-requires-2 : tie.Need-live-marks-requires-2
 live-marks-requires-2 c κs = search needs
 
 returns : tie.Need-returns
-returns c = simp (c .live-marks2 .ensures, c .before .live-marks .ensures)
+returns c =
+    let after = c .before .before in
+    simp (after .live-marks2 .ensures, after .before .live-marks .ensures)
 
 pub live-spec : {M : Type 1} → statement M
 live-spec = tie.close (tie.spec live-marks-requires live-marks-requires-2 returns)

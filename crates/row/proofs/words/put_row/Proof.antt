@@ -1,4 +1,4 @@
--- `row::words::put_row` meets its contract: eight stores.
+-- `row::words::put_row` meets its contract: a store for each word.
 -- Assumes nothing.
 use borrow.Author.Needs.{needs}
 use native.Mathlib.Omega.{arith}
@@ -80,6 +80,24 @@ mul-table-8 c = search needs
 slice-write-table-8 : tie.Need-slice-write-table-8
 slice-write-table-8 c = simp length-set (omega arith)
 
+add-table-8 : tie.Need-add-table-8
+add-table-8 c = search needs
+
+mul-table-9 : tie.Need-mul-table-9
+mul-table-9 c = search needs
+
+slice-write-table-9 : tie.Need-slice-write-table-9
+slice-write-table-9 c = simp length-set (omega arith)
+
+add-table-9 : tie.Need-add-table-9
+add-table-9 c = search needs
+
+mul-table-10 : tie.Need-mul-table-10
+mul-table-10 c = search needs
+
+slice-write-table-10 : tie.Need-slice-write-table-10
+slice-write-table-10 c = simp length-set (omega arith)
+
 same-length : tie.Need-same-length
 same-length c = simp length-set
 
@@ -114,5 +132,11 @@ put-row-spec =
     add-table-7
     mul-table-8
     slice-write-table-8
+    add-table-8
+    mul-table-9
+    slice-write-table-9
+    add-table-9
+    mul-table-10
+    slice-write-table-10
     same-length
     returns)

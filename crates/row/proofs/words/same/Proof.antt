@@ -14,7 +14,9 @@ same-marks-requires-2 : tie.Need-same-marks-requires-2
 same-marks-requires-2 c κs = search needs
 
 returns : tie.Need-returns
-returns c = simp (c .before .before .before .before .same-marks2 .ensures, c .before .before .before .before .before .same-marks .ensures)
+returns c =
+    let after = c .before .before .before .before .before .before .before .before in
+    simp (after .same-marks2 .ensures, after .before .same-marks .ensures)
 
 pub same-spec : {M : Type 1} → statement M
 same-spec = tie.close (tie.spec same-marks-requires same-marks-requires-2 returns)

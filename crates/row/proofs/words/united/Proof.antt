@@ -14,7 +14,9 @@ either-requires-2 : tie.Need-either-requires-2
 either-requires-2 c κs = search needs
 
 returns : tie.Need-returns
-returns c = simp (c .either2 .ensures, c .before .either .ensures)
+returns c =
+    let after = c .before .before .before .before in
+    simp (after .either2 .ensures, after .before .either .ensures)
 
 pub united-spec : {M : Type 1} → statement M
 united-spec = tie.close (tie.spec either-requires either-requires-2 returns)
