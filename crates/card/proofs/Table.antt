@@ -14,10 +14,11 @@ use Rattle.column.specs.Sets.{difference}
 use Rattle.column.proofs.Bits.{bit-zero, bit-column}
 use Rattle.column.proofs.Operations.{column-or, column-difference, ones-column}
 use Rattle.library.specs.Library.{Library}
-use Rattle.runs.specs.Touch.{Question, rival, untouchedOn, lastSet, lastCleared, firstNeeded}
-use Rattle.runs.specs.Possible.{columnPossible, possibleOutcome, hasRun}
+use Rattle.runs.specs.Touch.{Mark, present, absent, untouched, otherTouch, last, first}
+use Rattle.runs.specs.View.{View, touches, standing}
+use Rattle.runs.specs.Possible.{columnPossible, possibleIn, brokenIn, hasRun}
 use Rattle.outcome.specs.Area.{outcomeWord, outcomeRows, outcomes}
-use Rattle.cards.specs.Card.{may, always, changeable, flags, card, cardsFrom, cards}
+use Rattle.cards.specs.Card.{may, always, mayNeed, maySet, mayClear, changeable, flags, card, cardsFrom, cards}
 use Rattle.row.specs.Words.{rowWords}
 use Rattle.row.specs.Card.{flagsOf, alwaysOf, rowCard, tableCards}
 
@@ -35,33 +36,31 @@ module _ (L : Library) (low : 1 ≤ L .facts) (high : L .facts ≤ 64) (c : ℕ)
       ∙ ones-column (L .facts) (λ (f : ℕ). columnPossible L 2 c f || columnPossible L 3 c f) in
       omega (arith, lowest 0, lowest 1, count)
 
-  always-word : (q : Question)
-      → alwaysOf (outcomeWord L 0 c) (may L (rival q) c) (may L (untouchedOn q) c) ≡ always L q c
+  always-word : (v : View) (m : Mark) → alwaysOf (outcomeWord L 0 c) (may L v (otherTouch m) c) (may L v untouched c) ≡ always L v m c
   unfolding may always outcomeWord
-  always-word q =
-      let rivals = column-or (L .facts) (λ (f : ℕ). possibleOutcome L (rival q) c f) (λ (f : ℕ). possibleOutcome L (untouchedOn q) c f) in
+  always-word v m =
+      let rivals = column-or (L .facts) (λ (f : ℕ). possibleIn L v (otherTouch m) c f) (λ (f : ℕ). possibleIn L v untouched c f) in
       ap (difference 64 (outcomeWord L 0 c)) rivals
-      ∙ column-difference 64 (L .facts) (λ (f : ℕ). hasRun L c)
-      (λ (f : ℕ). possibleOutcome L (rival q) c f || possibleOutcome L (untouchedOn q) c f) high
+      ∙ column-difference 64 (L .facts) (λ (f : ℕ). hasRun L c) (λ (f : ℕ). brokenIn L v m c f) high
 
   -- a row's card
   row-card : rowCard
       (outcomeWord L 0 c ∷ outcomeWord L 1 c ∷ outcomeWord L 2 c ∷ outcomeWord L 3 c ∷ outcomeWord L 4 c ∷ outcomeWord L 5 c
-      ∷ outcomeWord L 6 c ∷ outcomeWord L 7 c ∷ [])
+      ∷ outcomeWord L 6 c ∷ outcomeWord L 7 c ∷ outcomeWord L 8 c ∷ outcomeWord L 9 c ∷ [])
       ≡ card L c
   unfolding rowCard card outcomeWord
   row-card i =
-      flags-word i ∷ always-word firstNeeded i ∷ may L firstNeeded c ∷ may L lastSet c ∷ may L lastCleared c ∷ always-word lastSet i
-      ∷ always-word lastCleared i ∷ []
+      flags-word i ∷ always-word (touches first) present i ∷ mayNeed L c ∷ maySet L c ∷ mayClear L c ∷ always-word (touches last) present i
+      ∷ always-word (touches last) absent i ∷ always-word standing present i ∷ []
 
 module _ (L : Library) (low : 1 ≤ L .facts) (high : L .facts ≤ 64) (rest : List ℕ) where
   rows-cards : (table : List ℕ) (c n : ℕ) → drop (rowWords * c) table ≡ outcomeRows L c n ++ rest → tableCards table c n ≡ cardsFrom L c n
   unfolding tableCards cardsFrom outcomeRows
   rows-cards table c zero e = refl
   rows-cards table c (suc n) e =
-      let eight : rowWords * c + rowWords ≡ rowWords * suc c = omega arith in
+      let seam : rowWords * c + rowWords ≡ rowWords * suc c = omega arith in
       let next : drop (rowWords * suc c) table ≡ outcomeRows L (suc c) n ++ rest =
-      ap (λ (i : ℕ). drop i table) (sym eight) ∙ sym (drop-drop rowWords (rowWords * c) table) ∙ ap (drop rowWords) e in
+      ap (λ (i : ℕ). drop i table) (sym seam) ∙ sym (drop-drop rowWords (rowWords * c) table) ∙ ap (drop rowWords) e in
       ap₂ (λ (x y : List ℕ). x ++ y) (ap (λ (r : List ℕ). rowCard (take rowWords r)) e ∙ row-card L low high c) (rows-cards table (suc c) n next)
 
   -- the cards of the outcome table, whatever stands after it

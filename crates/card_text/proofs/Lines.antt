@@ -127,12 +127,12 @@ module _ (cards a₀ : List ℕ) (at n : ℕ) where
         → (let card = take k (drop (cardWords * (c - 1)) cards) in PutWithin (wordBytes * length card + numberBytes) a start a′ start′ (cardLine (c - 1) card))
         → LinesAt cards a₀ at n a′ start′ (c - 1)
     unfolding linesFrom
-    lines-next k seven a′ start′ q =
+    lines-next k long a′ start′ q =
         let j = c - 1 in
         let back : c ≡ suc j = omega arith in
         let more : suc (n - c) ≡ n - j = omega (arith, p .below) in
         let same : cardLine j (take k (drop (cardWords * j) cards)) ++ linesFrom cards c (n - c) ≡ linesFrom cards j (n - j) =
-        ap₂ (λ (i d : ℕ). cardLine j (take i (drop (cardWords * j) cards)) ++ linesFrom cards d (n - c)) seven back ∙ ap (linesFrom cards j) more in
+        ap₂ (λ (i d : ℕ). cardLine j (take i (drop (cardWords * j) cards)) ++ linesFrom cards d (n - c)) long back ∙ ap (linesFrom cards j) more in
         record {
           below = omega (arith, p .below);
           put =

@@ -49,7 +49,7 @@ lines-prefix xs ys c (suc n) l =
     ∙ take-append-le cardWords (drop (cardWords * c) xs) ys (omega (arith, length-drop (cardWords * c) xs)) in
     ap₂ (λ (x y : List ℕ). cardLine c x ++ y) here (lines-prefix xs ys (suc c) n (omega arith))
 
-module _ (image area : List ℕ) (room : 1792 ≤ length area) where
+module _ (image area : List ℕ) (room : cardWords * 256 ≤ length area) where
   -- the words of the cards in an area that has room for the cards of 256 sequences
   image-text : (found : Checked) → checked image ≡ found
       → answerText (cardsGiven found (length area)) (areaWith (cardsGiven found (length area)) image area) ≡ imageText found image

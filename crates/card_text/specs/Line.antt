@@ -5,7 +5,8 @@ use lib.ListN.{take, drop}
 use Rattle.cards.specs.Layout.{cardWords}
 use Rattle.text.specs.Number.{numeral}
 
--- "then the seven card words in hexadecimal .., one space between": each word after a space
+-- "then the seven card words in hexadecimal .., one space between": each word after a space. "The program prints all card words" (document 02,
+-- request 4)
 unfoldable pub spaced : List ℕ → List ℕ
 spaced [] = []
 spaced (w ∷ ws) = (32 ∷ numeral 16 w) ++ spaced ws

@@ -66,7 +66,7 @@ pub record Demand1 (e : Engine) : Type 0 where
 abbrev pub count : Library → ℕ
 count L = length (L .sequences)
 
--- "For every accepted library", with a card area that has room: "7 × C words"
+-- "For every accepted library", with a card area that has room: "8 × C words" (document 02, request 4)
 pub record Ready (image area : List ℕ) : Type 0 where
   pub head : Head
   pub accepted : checked image ≡ Checked.Accepted head
@@ -78,7 +78,7 @@ pub record Demand2 (e : Engine) : Type 0 where
   -- sequence's own part of the area
   pub card : (image area : List ℕ) → Ready image area → (c : ℕ) → c < count (libraryOf image)
       → Card (libraryOf image) c (partWord (e .cards image area .area) c)
-  -- "words past 7 × C stay"
+  -- "words past 7 × C stay", 8 × C by request 4
   pub past : (image area : List ℕ) → Ready image area → (i : ℕ) → cardWords * count (libraryOf image) ≤ i
       → getD (e .cards image area .area) i 0 ≡ getD area i 0
   pub long : (image area : List ℕ) → Ready image area → length (e .cards image area .area) ≡ length area
@@ -104,7 +104,8 @@ pub record Proves (L : Library) (c : ℕ) (a : Always) (f q : ℕ) (links : Chai
 -- demand 3 of sequence c, where `word` is its card and `chain` answers a question about it: question, fact, area
 pub record Shown (L : Library) (c : ℕ) (word : ℕ → ℕ) (chain : ℕ → ℕ → List ℕ → Returned) : Type 0 where
   -- "for every run of a sequence and whichever facts stand at the start: if the run executes from there, each fact in "always needed" stood
-  -- at the start, each in "always set" stands at the end, and none in "always cleared" does."
+  -- at the start, each in "always set" stands at the end, and none in "always cleared" does." "Whoever runs such a sequence to its end finds each of these
+  -- facts standing", those in "always stands" (document 02, request 4)
   pub kept : (w : List Item) → Run L c w → (s : State L) → Executes L w s → (f : Fact L) → Kept L word w s f
   -- "A fact that stands at the end and not at the start is in "may set", one that stands at the start and not at the end in "may clear"."
   pub changed : (w : List Item) → Run L c w → (s : State L) → (f : Fact L) → Changed L word w s f

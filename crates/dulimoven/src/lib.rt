@@ -12,7 +12,7 @@ pub extern "C" fn dulimoven_check(image: &[u32]) -> u64
     image::answer::checked_answer(reader::check::check(image))
 }
 
-// The cards: C with the cards of all sequences written, seven words a sequence, or N × 2^32 + P for refusal N at position P with the area as
+// The cards: C with the cards of all sequences written, eight words a sequence, or N × 2^32 + P for refusal N at position P with the area as
 // it was.
 #[no_mangle]
 pub extern "C" fn dulimoven_cards(image: &[u32], area: &mut [u64]) -> u64

@@ -4,6 +4,7 @@ use borrow.Author.Needs.{needs}
 use Prim.Native.Nat.{_+_, _*_, _-_}
 use native.Mathlib.Omega.{arith}
 use lib.ListN.{drop, length-take}
+use Rattle.cards.specs.Layout.{cardWords}
 use Rattle.card_text.proofs.Lines.{LinesAt, lines-start, lines-room, lines-next, lines-end}
 use Rattle.card_text.proofs.line.put_lines.Statement.{statement}
 use Rattle.card_text.proofs.line.put_lines.Tie as tie
@@ -49,8 +50,8 @@ put-line-requires c κs =
     let turn = c .before .before .before in
     let start = turn .before .before .before in
     let room = lines-room (start .args .cards .now) (start .args .text .now) (start .args .at) (start .args .n) (turn .loop .text) (turn .loop .begin) (turn .loop .c) (omega arith) (turn .loop .inv) (start .pre .0) (start .pre .1) in
-    let from = 7 * (turn .loop .c - 1) in
-    (omega (arith, room .0, length-take (from + 7 - from) (drop from (start .args .cards .now))), room .1)
+    let from = cardWords * (turn .loop .c - 1) in
+    (omega (arith, room .0, length-take (from + cardWords - from) (drop from (start .args .cards .now))), room .1)
 
 loop-less : tie.Need-loop-less Inv-loop μ-loop
 loop-less c = search needs
@@ -59,8 +60,8 @@ loop-again : tie.Need-loop-again Inv-loop μ-loop
 loop-again c =
     let turn = c .before .before .before .before .before .before in
     let start = turn .before .before .before in
-    let from = 7 * (turn .loop .c - 1) in
-    lines-next (start .args .cards .now) (start .args .text .now) (start .args .at) (start .args .n) (turn .loop .text) (turn .loop .begin) (turn .loop .c) (omega arith) (turn .loop .inv) (from + 7 - from) (omega arith) _ _
+    let from = cardWords * (turn .loop .c - 1) in
+    lines-next (start .args .cards .now) (start .args .text .now) (start .args .at) (start .args .n) (turn .loop .text) (turn .loop .begin) (turn .loop .c) (omega arith) (turn .loop .inv) (from + cardWords - from) (omega arith) _ _
     (c .before .before .put-line .ensures)
 
 same-length : tie.Need-same-length Inv-loop μ-loop
