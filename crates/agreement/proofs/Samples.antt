@@ -10,7 +10,7 @@ use Rattle.general.specs.Tests.{All}
 use Rattle.column.specs.Column.{bit}
 use Rattle.column.specs.Sets.{inColumn}
 use Rattle.rules.specs.Checked.{scan, checked}
-use Rattle.library.specs.Library.{Library, has, libraryOf, Item, step}
+use Rattle.library.specs.Library.{Library, has, libraryOf, Item, step, check}
 use Rattle.rules.specs.Rules.{opened, lastOf, setsOf}
 use Rattle.general.specs.Numbers.{total}
 use Rattle.runs.specs.Run.{Run, Gives, nothing, by-item, by-call, alternativeOf}
@@ -23,7 +23,7 @@ use Rattle.text.specs.Words.{wordsOf}
 use Rattle.text.specs.Number.{numeral, numeralIn}
 use Rattle.card_text.specs.Line.{spaced, cardLine, linesFrom, cardLines, refusalLine}
 use Rattle.card_text.specs.Print.{printed}
-use Rattle.agreement.specs.Samples.{L, endlessFirst, clearThenNeed, standing, executes, fails, Holds, starred}
+use Rattle.agreement.specs.Samples.{L, endlessFirst, clearThenNeed, skips, standing, executes, fails, Holds, starred}
 
 -- what a step without needs asks
 no-need : (K : Library) (s : State K) (f : ℕ) → has f [] ≡ true → (low : f < K .facts) × (s (f, low) ≡ true)
@@ -108,9 +108,26 @@ unfolding libraryOf has
 need-fails =
     (record { alternative = 0; listed = omega arith; given = by-item (by-item nothing) }, never-twice (standing (libraryOf clearThenNeed) (0 ∷ [])))
 
+-- a check that is met, and one that is not
+check-run : Run (libraryOf skips) 0 (check 0 ∷ [])
+unfolding libraryOf
+check-run = record { alternative = 0; listed = omega arith; given = by-item nothing }
+
+check-executes : Holds (executes skips 0 (check 0 ∷ []) (0 ∷ []) (0 ∷ []))
+unfolding libraryOf has
+check-executes = (check-run, (need-zero (libraryOf skips) (standing (libraryOf skips) (0 ∷ [])) (omega arith) refl, tt), ends)
+  where
+    ends : (f : Fact (libraryOf skips)) → end (libraryOf skips) (check 0 ∷ []) (standing (libraryOf skips) (0 ∷ [])) f ≡ has (f .0) (0 ∷ [])
+    ends (zero, low) = refl
+    ends (suc f, low) = absurd (omega arith)
+
+check-fails : Holds (fails skips 0 (check 0 ∷ []) [])
+unfolding libraryOf has
+check-fails = (check-run, λ executing. false≢true (executing .0 0 refl .1))
+
 -- ---- the one fact
 
 pub starred-hold : All Holds starred
 unfolding checked scan total opened lastOf setsOf inColumn bit libraryOf has possible cards card chained chainWords printed wordsOf cardLines linesFrom cardLine spaced numeral numeralIn refusalLine
 starred-hold =
-    (refl, (refl, (refl, (refl, (refl, (refl, (refl, (refl, (both-steps, (second-fails, (second-executes, (refl, (refl, (refl, (refl, (refl, (refl, (refl, (clear-executes, (refl, (need-fails, (refl, (refl, (refl, (refl, tt)))))))))))))))))))))))))
+    (refl, (refl, (refl, (refl, (refl, (refl, (refl, (refl, (both-steps, (second-fails, (second-executes, (refl, (refl, (refl, (refl, (refl, (refl, (refl, (clear-executes, (refl, (need-fails, (refl, (refl, (refl, (refl, (refl, (refl, (refl, (check-executes, (check-fails, (refl, (refl, tt))))))))))))))))))))))))))))))))

@@ -23,7 +23,7 @@ use Rattle.library.proofs.Accepted.{counted}
 use Rattle.runs.specs.Possible.{possible}
 use Rattle.runs.proofs.Outcome.{present≢untouched}
 use Rattle.cards.specs.Area.{partWord}
-use Rattle.cards.specs.Layout.{place, cardWords}
+use Rattle.cards.specs.Layout.{CardColumn, always-stands, place, cardWords}
 use Rattle.cards.specs.Card.{card, cards}
 use Rattle.cards.specs.Meaning.{Always, needed, set, cleared, columnOf}
 use Rattle.runs.specs.Touch.{questionOf}
@@ -74,16 +74,17 @@ accepted-oneSet : checked oneSet ≡ Checked.Accepted (record { facts = 1; steps
 unfolding checked scan total opened lastOf setsOf inColumn bit
 accepted-oneSet = refl
 
-cards-L : engine .cards L (zeros 21)
-    ≡ returned 3 (0x103 ∷ 0 ∷ 0 ∷ 1 ∷ 0 ∷ 0 ∷ 0 ∷ 0x201 ∷ 0 ∷ 1 ∷ 3 ∷ 0 ∷ 2 ∷ 0 ∷ 0 ∷ 0 ∷ 0 ∷ 0 ∷ 0 ∷ 0 ∷ 0 ∷ [])
+cards-L : engine .cards L (zeros 24)
+    ≡ returned 3
+    (0x103 ∷ 0 ∷ 0 ∷ 1 ∷ 0 ∷ 0 ∷ 0 ∷ 0 ∷ 0x201 ∷ 0 ∷ 1 ∷ 3 ∷ 0 ∷ 2 ∷ 0 ∷ 3 ∷ 0 ∷ 0 ∷ 0 ∷ 0 ∷ 0 ∷ 0 ∷ 0 ∷ 0 ∷ [])
 unfolding checked scan total opened lastOf setsOf inColumn bit libraryOf has possible cards card
 cards-L = refl
 
-cards-clearThenNeed : engine .cards clearThenNeed (zeros 7) ≡ returned 1 (0x101 ∷ 1 ∷ 1 ∷ 0 ∷ 1 ∷ 0 ∷ 1 ∷ [])
+cards-clearThenNeed : engine .cards clearThenNeed (zeros 8) ≡ returned 1 (0x101 ∷ 1 ∷ 1 ∷ 0 ∷ 1 ∷ 0 ∷ 1 ∷ 1 ∷ [])
 unfolding checked scan total opened lastOf setsOf inColumn bit libraryOf has possible cards card
 cards-clearThenNeed = refl
 
-cards-oneSet : engine .cards oneSet (zeros 7) ≡ returned 1 (0x101 ∷ 0 ∷ 0 ∷ 1 ∷ 0 ∷ 1 ∷ 0 ∷ [])
+cards-oneSet : engine .cards oneSet (zeros 8) ≡ returned 1 (0x101 ∷ 0 ∷ 0 ∷ 1 ∷ 0 ∷ 1 ∷ 0 ∷ 1 ∷ [])
 unfolding checked scan total opened lastOf setsOf inColumn bit libraryOf has possible cards card
 cards-oneSet = refl
 
@@ -104,19 +105,19 @@ chain-detour : chained detour 0 0 0 (length (zeros 4)) ≡ answered (shown (touc
 unfolding chained checked scan total opened lastOf setsOf inColumn bit libraryOf has possible
 chain-detour = refl
 
-ready-L : Ready L (zeros 21)
+ready-L : Ready L (zeros 24)
 ready-L =
-    let size : length (zeros 21) ≡ 21 = refl in
+    let size : length (zeros 24) ≡ 24 = refl in
     record { head = _; accepted = accepted-L; room = omega (arith, counted L _ accepted-L .sequences) }
 
-ready-clearThenNeed : Ready clearThenNeed (zeros 7)
+ready-clearThenNeed : Ready clearThenNeed (zeros 8)
 ready-clearThenNeed =
-    let size : length (zeros 7) ≡ 7 = refl in
+    let size : length (zeros 8) ≡ 8 = refl in
     record { head = _; accepted = accepted-clearThenNeed; room = omega (arith, counted clearThenNeed _ accepted-clearThenNeed .sequences) }
 
-ready-oneSet : Ready oneSet (zeros 7)
+ready-oneSet : Ready oneSet (zeros 8)
 ready-oneSet =
-    let size : length (zeros 7) ≡ 7 = refl in
+    let size : length (zeros 8) ≡ 8 = refl in
     record { head = _; accepted = accepted-oneSet; room = omega (arith, counted oneSet _ accepted-oneSet .sequences) }
 
 -- the questions of the samples that get a chain
@@ -143,8 +144,8 @@ refuses-all e wrong d =
 
 pub refuses-all-cards : (e : Engine) → RefusesAllCards e → ¬ Demand1 e
 refuses-all-cards e wrong d =
-    let right : e .cards L (zeros 21) .number ≡ 3 = ap (λ (r : Returned). r .number) (only-engine e d .cards L (zeros 21) ∙ cards-L) in
-    let high = wrong L (zeros 21) in
+    let right : e .cards L (zeros 24) .number ≡ 3 = ap (λ (r : Returned). r .number) (only-engine e d .cards L (zeros 24) ∙ cards-L) in
+    let high = wrong L (zeros 24) in
     omega arith
 
 -- by demand 1 a question that gets a chain gets its links
@@ -209,19 +210,28 @@ longer-chain e wrong d =
 pub one-card : (e : Engine) → OneCard e → ¬ Demand2 e
 one-card e wrong d =
     let size = counted L _ accepted-L .sequences in
-    let first = cards-fixed e d L (zeros 21) ready-L 0 0 (omega arith) (omega arith) in
-    let third = cards-fixed e d L (zeros 21) ready-L 2 0 (omega arith) (omega arith) in
-    let same = wrong L (zeros 21) ready-L 0 2 0 (omega arith) (omega arith) (omega arith) in
-    let one : partWord (engine .cards L (zeros 21) .area) 0 0 ≡ 0x103 = ap (λ (r : Returned). partWord (r .area) 0 0) cards-L in
-    let none : partWord (engine .cards L (zeros 21) .area) 2 0 ≡ 0 = ap (λ (r : Returned). partWord (r .area) 2 0) cards-L in
+    let first = cards-fixed e d L (zeros 24) ready-L 0 0 (omega arith) (omega arith) in
+    let third = cards-fixed e d L (zeros 24) ready-L 2 0 (omega arith) (omega arith) in
+    let same = wrong L (zeros 24) ready-L 0 2 0 (omega arith) (omega arith) (omega arith) in
+    let one : partWord (engine .cards L (zeros 24) .area) 0 0 ≡ 0x103 = ap (λ (r : Returned). partWord (r .area) 0 0) cards-L in
+    let none : partWord (engine .cards L (zeros 24) .area) 2 0 ≡ 0 = ap (λ (r : Returned). partWord (r .area) 2 0) cards-L in
     omega arith
 
 -- "an untouched area"
 pub untouched : (e : Engine) → Untouched e → ¬ Demand2 e
 untouched e wrong d =
-    let fixed = area-fixed e d L (zeros 21) ready-L in
-    let same = wrong L (zeros 21) ready-L in
+    let fixed = area-fixed e d L (zeros 24) ready-L in
+    let same = wrong L (zeros 24) ready-L in
     let word : _≡_ {A = ℕ} 0 0x103 = ap (λ (a : List ℕ). getD a 0 0) (sym same ∙ fixed ∙ ap (λ (r : Returned). r .area) cards-L) in
+    omega arith
+
+-- a blank "always stands" column: sequence 1 of L always leaves facts 0 and 1 standing
+pub blank-stands : (e : Engine) → BlankColumn always-stands e → ¬ Demand2 e
+blank-stands e wrong d =
+    let size = counted L _ accepted-L .sequences in
+    let fixed = cards-fixed e d L (zeros 24) ready-L 1 7 (omega arith) (omega arith) in
+    let blank = wrong L (zeros 24) ready-L 1 (omega arith) in
+    let three : partWord (engine .cards L (zeros 24) .area) 1 7 ≡ 3 = ap (λ (r : Returned). partWord (r .area) 1 7) cards-L in
     omega arith
 
 -- "an invented .. fact count"
@@ -231,7 +241,7 @@ invented-count e wrong d = wrong .invented (d .card (wrong .image) (wrong .area)
 -- ---- demand 3
 
 -- an "always" column that is blank on a card has no fact of the right one
-module _ (a : Always) (e : Engine) (wrong : BlankColumn a e) (d : Demand3 e) where
+module _ (a : Always) (e : Engine) (wrong : BlankColumn (columnOf a) e) (d : Demand3 e) where
   blank-right : (image area : List ℕ) → Ready image area → (c : ℕ) → c < count (libraryOf image) → (f : ℕ) → f < libraryOf image .facts
       → bit (partWord (engine .cards image area .area) c (place (columnOf a))) f ≡ 0
   blank-right image area ready c l f low =
@@ -240,20 +250,20 @@ module _ (a : Always) (e : Engine) (wrong : BlankColumn a e) (d : Demand3 e) whe
       runs .shown image area ready c l .missing a (f, low) .1 (d .shown image area ready c l .missing a (f, low) .0 lacks)
 
 -- "blank "always" columns"
-pub blank-column : (a : Always) (e : Engine) → BlankColumn a e → ¬ Demand3 e
+pub blank-column : (a : Always) (e : Engine) → BlankColumn (columnOf a) e → ¬ Demand3 e
 blank-column needed e wrong d =
     let size = counted clearThenNeed _ accepted-clearThenNeed in
-    let zero-bit = blank-right needed e wrong d clearThenNeed (zeros 7) ready-clearThenNeed 0 (omega (arith, size .sequences)) 0 (omega (arith, size .facts)) in
+    let zero-bit = blank-right needed e wrong d clearThenNeed (zeros 8) ready-clearThenNeed 0 (omega (arith, size .sequences)) 0 (omega (arith, size .facts)) in
     let one-bit = ap (λ (r : Returned). bit (partWord (r .area) 0 1) 0) cards-clearThenNeed ∙ bit-zero 1 in
     omega arith
 blank-column set e wrong d =
     let size = counted oneSet _ accepted-oneSet in
-    let zero-bit = blank-right set e wrong d oneSet (zeros 7) ready-oneSet 0 (omega (arith, size .sequences)) 0 (omega (arith, size .facts)) in
+    let zero-bit = blank-right set e wrong d oneSet (zeros 8) ready-oneSet 0 (omega (arith, size .sequences)) 0 (omega (arith, size .facts)) in
     let one-bit = ap (λ (r : Returned). bit (partWord (r .area) 0 5) 0) cards-oneSet ∙ bit-zero 1 in
     omega arith
 blank-column cleared e wrong d =
     let size = counted clearThenNeed _ accepted-clearThenNeed in
-    let zero-bit = blank-right cleared e wrong d clearThenNeed (zeros 7) ready-clearThenNeed 0 (omega (arith, size .sequences)) 0 (omega (arith, size .facts)) in
+    let zero-bit = blank-right cleared e wrong d clearThenNeed (zeros 8) ready-clearThenNeed 0 (omega (arith, size .sequences)) 0 (omega (arith, size .facts)) in
     let one-bit = ap (λ (r : Returned). bit (partWord (r .area) 0 6) 0) cards-clearThenNeed ∙ bit-zero 1 in
     omega arith
 
@@ -326,8 +336,8 @@ blank-word zero i = refl
 blank-word (suc n) zero = refl
 blank-word (suc n) (suc i) = blank-word n i
 
-pub blank-goes : (a : Always) → BlankColumn a blankCards
-blank-goes a image area ready c l = blank-word (length area) (cardWords * c + place (columnOf a))
+pub blank-goes : (k : CardColumn) → BlankColumn k blankCards
+blank-goes k image area ready c l = blank-word (length area) (cardWords * c + place k)
 
 pub one-card-goes : OneCard blankCards
 one-card-goes image area ready c d k l m u = blank-word (length area) (cardWords * c + k) ∙ sym (blank-word (length area) (cardWords * d + k))
@@ -343,18 +353,18 @@ abbrev counts : Returned → ℕ
 counts r = countBelow (libraryOf L .facts) (λ (f : ℕ). inColumn (flagless r 3) f || inColumn (flagless r 4) f)
 
 -- sequence 0 of L may set one fact
-one-changes : counts (engine .cards L (zeros 21)) ≡ 1
+one-changes : counts (engine .cards L (zeros 24)) ≡ 1
 unfolding countBelow inColumn libraryOf has
 one-changes = ap counts cards-L
 
-no-flags : flagless (engine .cards L (zeros 21)) 0 ≡ 0
+no-flags : flagless (engine .cards L (zeros 24)) 0 ≡ 0
 no-flags = ap (λ (r : Returned). flagless r 0) cards-L
 
 pub invented-count-goes : InventedCount flaglessCards
 invented-count-goes =
     record {
       image = L;
-      area = zeros 21;
+      area = zeros 24;
       ready = ready-L;
       sequence = 0;
       low = omega (arith, counted L _ accepted-L .sequences);

@@ -8,7 +8,7 @@ use Prim.Native.String as string
 use mathlib.Core.Path.{_≡_}
 use mathlib.Core.List.{List, [], _∷_, _++_}
 use lib.ListN.{length, replicate}
-use Rattle.library.specs.Library.{Library, has, libraryOf, Item, step}
+use Rattle.library.specs.Library.{Library, has, libraryOf, Item, step, check}
 use Rattle.runs.specs.Run.{Run}
 use Rattle.runs.specs.Execution.{Fact, State, Executes, end}
 use Rattle.cards.specs.Layout.{cardWords}
@@ -60,6 +60,12 @@ lowestOfCalls =
     ∷ 0x90000001 ∷ 0x90000001 ∷ 0x70000000 ∷ 0x90000001 ∷ 0x80000003 ∷ 0x90000001 ∷ 0x90000001 ∷ 0x60000001 ∷ 0x70000000 ∷ 0x80000000
     ∷ 0x70000000 ∷ 0x70000000 ∷ 0x80000000 ∷ 0xf0080212 ∷ []
 
+-- one fact, one step, which needs and clears it. Sequence 0 is <check 0>, sequence 1 is <sequence 0, step 0>
+abbrev pub skips : List ℕ
+skips =
+    0x10080081 ∷ 0x50000000 ∷ 0x20000000 ∷ 0x40000000 ∷ 0x60000000 ∷ 0x70000000 ∷ 0xd0000000 ∷ 0x60000001 ∷ 0x70000000 ∷ 0x90000000
+    ∷ 0x80000000 ∷ 0xf0080086 ∷ []
+
 -- ---- the table
 
 -- the bytes of an image: "little-endian words"
@@ -82,7 +88,7 @@ pub data Sample : Type 0 where
   accepts : List ℕ → ℕ → ℕ → ℕ → Sample
   -- the check refuses: number and position
   refuses : List ℕ → ℕ → ℕ → Sample
-  -- the cards, seven words for each sequence, in an area of just enough words
+  -- the cards, a list of words for each sequence, in an area of just enough words
   fills : List ℕ → List (List ℕ) → Sample
   -- what the program prints, whole
   prints : List ℕ → String → Sample
@@ -119,10 +125,10 @@ abbrev pub starred : List Sample
 starred =
     -- L is read: F = A = C = 3
     accepts L 3 3 3
-    -- "L prints, whole"
+    -- "L prints, whole"; document 02, request 4: "L's lines now end in 0, 3 and 0."
     ∷ fills L
-    ((0x103 ∷ 0 ∷ 0 ∷ 1 ∷ 0 ∷ 0 ∷ 0 ∷ []) ∷ (0x201 ∷ 0 ∷ 1 ∷ 3 ∷ 0 ∷ 2 ∷ 0 ∷ []) ∷ (0 ∷ 0 ∷ 0 ∷ 0 ∷ 0 ∷ 0 ∷ 0 ∷ []) ∷ [])
-    ∷ prints L "0 103 0 0 1 0 0 0\n1 201 0 1 3 0 2 0\n2 0 0 0 0 0 0 0\n"
+    ((0x103 ∷ 0 ∷ 0 ∷ 1 ∷ 0 ∷ 0 ∷ 0 ∷ 0 ∷ []) ∷ (0x201 ∷ 0 ∷ 1 ∷ 3 ∷ 0 ∷ 2 ∷ 0 ∷ 3 ∷ []) ∷ (0 ∷ 0 ∷ 0 ∷ 0 ∷ 0 ∷ 0 ∷ 0 ∷ 0 ∷ []) ∷ [])
+    ∷ prints L "0 103 0 0 1 0 0 0 0\n1 201 0 1 3 0 2 0 3\n2 0 0 0 0 0 0 0 0\n"
     -- "L, sequence 1, question 2, fact 0: 1 link, a0000001 c0000000."
     ∷ chains L 1 2 0 spare 1 (0xa0000001 ∷ 0xc0000000 ∷ 7 ∷ 7 ∷ 7 ∷ [])
     -- "The same, question 0: 2 links, a0000001 b0000000 a0000000 b0000000; an area of 3 words gets 12."
@@ -143,15 +149,15 @@ starred =
     -- "10000000 f0000001 gets 3"
     ∷ refuses (0x10000000 ∷ 0xf0000001 ∷ []) 3 0
     -- "Alternatives <itself> and <>: flags 3; question 2 names alternative 1."
-    ∷ fills selfCall ((3 ∷ 0 ∷ 0 ∷ 0 ∷ 0 ∷ 0 ∷ 0 ∷ []) ∷ [])
+    ∷ fills selfCall ((3 ∷ 0 ∷ 0 ∷ 0 ∷ 0 ∷ 0 ∷ 0 ∷ 0 ∷ []) ∷ [])
     ∷ chains selfCall 0 2 0 spare 1 (0xa0000100 ∷ 0xc0000000 ∷ 7 ∷ 7 ∷ 7 ∷ [])
     -- "Alternatives <set f, L's kind of endless sequence> and <clear f>: always cleared." It may clear f, so one fact is changeable
-    ∷ fills endlessFirst ((0x101 ∷ 0 ∷ 0 ∷ 0 ∷ 1 ∷ 0 ∷ 1 ∷ []) ∷ (0 ∷ 0 ∷ 0 ∷ 0 ∷ 0 ∷ 0 ∷ 0 ∷ []) ∷ [])
+    ∷ fills endlessFirst ((0x101 ∷ 0 ∷ 0 ∷ 0 ∷ 1 ∷ 0 ∷ 1 ∷ 0 ∷ []) ∷ (0 ∷ 0 ∷ 0 ∷ 0 ∷ 0 ∷ 0 ∷ 0 ∷ 0 ∷ []) ∷ [])
     -- the step that clears f takes it away
     ∷ executes endlessFirst 0 (step 1 ∷ []) (0 ∷ []) []
-    -- "Alternative <clear f, need f>: always needed, though no run executes." It may need f, and always clears it. That no run executes from any
-    -- state is `never-executes` (proofs/Samples)
-    ∷ fills clearThenNeed ((0x101 ∷ 1 ∷ 1 ∷ 0 ∷ 1 ∷ 0 ∷ 1 ∷ []) ∷ [])
+    -- "Alternative <clear f, need f>: always needed, though no run executes." It may need f, and always clears it. The last item that mentions f
+    -- needs it, so it always stands. That no run executes from any state is `never-executes` (proofs/Samples)
+    ∷ fills clearThenNeed ((0x101 ∷ 1 ∷ 1 ∷ 0 ∷ 1 ∷ 0 ∷ 1 ∷ 1 ∷ []) ∷ [])
     ∷ fails clearThenNeed 0 (step 0 ∷ step 1 ∷ []) (0 ∷ [])
     -- "One step sets and clears f": document 02, request 1, "The sample with that step becomes a refused one", "at the clear word"
     ∷ refuses pulse 13 3
@@ -162,4 +168,18 @@ starred =
     ∷ chains lowestOfCalls 0 0 0 spare 2 (0xa0000100 ∷ 0xb0000000 ∷ 0xa0000201 ∷ 0xb0000000 ∷ 7 ∷ [])
     -- "This holds for kind 12 links too.": both alternatives of L's sequence 0 leave fact 1 untouched, <step 0> and <>, each at depth 1
     ∷ chains L 0 2 1 spare 1 (0xa0000100 ∷ 0xc0000000 ∷ 7 ∷ 7 ∷ 7 ∷ [])
+    -- document 02, request 4. Sequence 0 of `skips` has one run, a check: "a run without steps is still called empty" (flags 3), "On the first side
+    -- a check counts as a need" (always and may need), it "changes nothing", and leaves the fact standing. Sequence 1 needs it first by that check
+    -- and clears it last: "A step that needs and clears counts as clearing."
+    ∷ fills skips ((3 ∷ 1 ∷ 1 ∷ 0 ∷ 0 ∷ 0 ∷ 0 ∷ 1 ∷ []) ∷ (0x101 ∷ 1 ∷ 1 ∷ 0 ∷ 1 ∷ 0 ∷ 1 ∷ 0 ∷ []) ∷ [])
+    -- "a chain may end on one": the step at position 1 comes after the check
+    ∷ chains skips 1 3 0 spare 2 (0xa0000001 ∷ 0xb0000000 ∷ 0xa0000000 ∷ 0xb0000000 ∷ 7 ∷ [])
+    -- on the last side a check touches nothing
+    ∷ chains skips 0 2 0 spare 1 (0xa0000000 ∷ 0xc0000000 ∷ 7 ∷ 7 ∷ 7 ∷ [])
+    -- "A run executes only if its checks are met.", "changes nothing"
+    ∷ executes skips 0 (check 0 ∷ []) (0 ∷ []) (0 ∷ [])
+    ∷ fails skips 0 (check 0 ∷ []) []
+    -- "its payload is below F under 5": F = 2, the check names fact 2; and a check right after a sequence's opener, where no entry stands
+    ∷ refuses (0x10040002 ∷ 0x60000000 ∷ 0x70000000 ∷ 0xd0000002 ∷ 0xf004000f ∷ []) 5 3
+    ∷ refuses (0x10040002 ∷ 0x60000000 ∷ 0xd0000000 ∷ 0xf0040006 ∷ []) 4 2
     ∷ []

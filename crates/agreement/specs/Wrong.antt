@@ -1,5 +1,6 @@
 -- The wrong engines that "Agreement" of document 01 lists, each by what is wrong with it: "These must be unprovable". Each is wrong in that
--- one way, and nothing is said of what else it does. Two more are wrong about chains: one that never writes them for a question, and one with
+-- one way, and nothing is said of what else it does. "Always stands" of document 02, request 4, counts among the columns. Two more are wrong about
+-- chains: one that never writes them for a question, and one with
 -- a link more than the fewest.
 use Prim.Native.Nat.{ℕ, _*_, _/_, _^_, _≤_, _<_}
 use mathlib.Core.Path.{_≡_}
@@ -10,9 +11,9 @@ use lib.Dec.{eqb}
 use lib.ListN.{length, drop, replicate, set}
 use Rattle.library.specs.Library.{libraryOf}
 use Rattle.column.specs.Sets.{inColumn, countBelow}
-use Rattle.cards.specs.Layout.{may-set, may-clear, place, cardWords}
+use Rattle.cards.specs.Layout.{CardColumn, may-set, may-clear, place, cardWords}
 use Rattle.cards.specs.Area.{partWord}
-use Rattle.cards.specs.Meaning.{Always, columnOf}
+use Rattle.cards.specs.Meaning.{Always}
 use Rattle.chains.specs.Link.{Link, Chain, chainWords}
 use Rattle.dulimoven.specs.Returned.{Returned, returned}
 use Rattle.dulimoven.specs.ChainCall.{Asked, Answers, Links}
@@ -26,9 +27,9 @@ pub record Gets (image : List ℕ) (c q f : ℕ) (area : List ℕ) (ls : Chain) 
   pub room : length (chainWords ls) ≤ length area
 
 -- "blank "always" columns": one of them is blank on every card
-abbrev pub BlankColumn : Always → Engine → Type 0
-BlankColumn a e =
-    (image area : List ℕ) → Ready image area → (c : ℕ) → c < count (libraryOf image) → partWord (e .cards image area .area) c (place (columnOf a)) ≡ 0
+abbrev pub BlankColumn : CardColumn → Engine → Type 0
+BlankColumn k e =
+    (image area : List ℕ) → Ready image area → (c : ℕ) → c < count (libraryOf image) → partWord (e .cards image area .area) c (place k) ≡ 0
 
 -- "one card for every sequence"
 abbrev pub OneCard : Engine → Type 0

@@ -1,5 +1,5 @@
 -- What a walk over entries ends at: by the tables of an accepted image a dead entry "names a sequence not found to have one by then".
--- It has: `runs-dead`, where any run will do, for every table in which each step has a rank, as it stands; `links-dead`, where links are asked
+-- It has: `runs-dead`, where any run will do, for every table in which each item has a rank, as it stands; `links-dead`, where links are asked
 -- for: an entry is dead exactly where it names a sequence without a run. Where the run has to leave the fact untouched, `pass-is` of Describes
 -- says it: a dead entry is a step that touches the fact, or names a sequence without a rank.
 -- Assumes nothing.
@@ -20,18 +20,18 @@ use Rattle.chains.proofs.Entries.{stays-run}
 use Rattle.chains.proofs.Stands.{stands-run}
 use Rattle.runs.proofs.Columns.{hasRun-iff}
 use Rattle.rank.specs.Tables.{inRanks, lacksIn, lostIn}
-use Rattle.chain.specs.Described.{StepsBy, Described}
+use Rattle.chain.specs.Described.{ItemsBy, Described}
 use Rattle.chain.proofs.Describes.{rank-is, pass-is}
 
--- an entry that does not pass, where every step does
+-- an entry that does not pass, where every item does
 none-passes : (run : ℕ → Bool) (e : Entry) → not (entryPasses (λ a. true) run e) ≡ namesNone run e
 none-passes run (item a) = refl
 none-passes run (call d) = refl
 
--- a table in which each step has a rank
-pub runs-dead : (m : ℕ) → 0 < m → (T : List ℕ) → StepsBy m 0 (λ a. true) T → (e : Entry) → lacksIn m T e ≡ namesNone (λ d. ltb (inRanks m T d) m) e
-runs-dead m some T steps e =
-    ap not (pass-is m some (λ a. true) (λ d. ltb (inRanks m T d) m) T steps (λ d. refl) e) ∙ none-passes (λ d. ltb (inRanks m T d) m) e
+-- a table in which each item has a rank
+pub runs-dead : (m : ℕ) → 0 < m → (T : List ℕ) → ItemsBy m 0 (λ a. true) T → (e : Entry) → lacksIn m T e ≡ namesNone (λ d. ltb (inRanks m T d) m) e
+runs-dead m some T items e =
+    ap not (pass-is m some (λ a. true) (λ d. ltb (inRanks m T d) m) T items (λ d. refl) e) ∙ none-passes (λ d. ltb (inRanks m T d) m) e
 
 module _ (L : Library) (Q : Question) (f : ℕ) where
   -- what can stay untouched has a run
@@ -57,12 +57,12 @@ module _ (L : Library) (Q : Question) (f : ℕ) where
         hasRun-iff L d .1 (linked .run, stands-run L Q f (linked .chain) d (linked .run) (linked .about) (linked .stands))
 
   -- tables that describe the library, and ranks that are reached
-  pub links-dead : (ahead behind T : List ℕ) → Described L Q f ahead behind → StepsBy (unranked L) (unranked L) (hasMark L Q f) T
+  pub links-dead : (ahead behind T : List ℕ) → Described L Q f ahead behind → ItemsBy (unranked L) (unranked L) (hasMark L Q f) T
       → Attained (Linked L Q f) (unranked L) (inRanks (unranked L) T) → (e : Entry) → lostIn (unranked L) ahead behind T e ≡ namesNone (λ d. hasRun L d) e
-  links-dead ahead behind T described steps reached e =
+  links-dead ahead behind T described items reached e =
       let m = unranked L in
       let beside = ap₂ (λ (a b : Bool). a || b) (described .by-ahead e) (described .by-behind e) ∙ beside-runs (Q .side) e in
-      let rank = ap (λ (r : Entry → ℕ). ltb (r e) m) (rank-is m m (hasMark L Q f) T steps) in
+      let rank = ap (λ (r : Entry → ℕ). ltb (r e) m) (rank-is m m (hasMark L Q f) T items) in
       ap not
       (ap₂ (λ (a b : Bool). a || b) beside rank
       ∙ both-ways (canRun L Q f e || ltb (entryRank m (hasMark L Q f) (inRanks m T) e) m) (canRun L Q f e)

@@ -1,6 +1,6 @@
 -- Tables that describe a library give its answers: what they say of an entry is what `Ranks` says, and so the links and the answer by the
 -- ranks are the library's.
--- It has: the ranks of the steps (`steps-marked`, `steps-any`); what a table says of an entry (`pass-is`); the looks at an alternative (`pass-
+-- It has: the ranks of the items (`items-marked`, `items-any`); what a table says of an entry (`pass-is`); the looks at an alternative (`pass-
 -- look`, `depth-look`, `touch-look`); the answers (`untouched-answer`, `touch-answer`).
 -- Assumes nothing.
 use Prim.Native.Nat.{ℕ, zero, suc, pred, _+_, _*_, _≤_, _<_}
@@ -8,20 +8,20 @@ use native.Mathlib.Decide.{decLt}
 use native.Mathlib.Omega.{arith}
 use mathlib.Core.Path.{_≡_, refl, sym, ap, ap₂, _∙_, fun-ext}
 use mathlib.Core.Logic.{_≢_}
-use mathlib.Core.Bool.{Bool, true, false, cond}
+use mathlib.Core.Bool.{Bool, true, false, cond, _&&_}
 use mathlib.Core.List.{List, [], _∷_}
 use lib.ListN.{length, getD, drop, List·getD-eq-default}
 use lib.Seq.{getD-take, getD-drop}
 use lib.Dec.{eqb, leb, ltb}
 use borrow.Author.Tests.{ltb-true, lt-ltb, le-ltb}
 use Rattle.column.specs.Sets.{inColumn}
-use Rattle.library.specs.Library.{has, Library, Step, Alternative, Entry, step, item, call, Item, entryAt}
+use Rattle.library.specs.Library.{has, Library, Step, Alternative, Item, step, check, Entry, item, call, entryAt}
 use Rattle.library.specs.Tables.{maskOf}
 use Rattle.library.specs.Walk.{alternativesAt}
-use Rattle.library.proofs.Decode.{has-none}
+use Rattle.library.proofs.Decode.{has-none, has-one}
 use Rattle.library.proofs.Lookup.{mask-has}
 use Rattle.runs.specs.Run.{alternativesOf}
-use Rattle.runs.specs.Execution.{noStep, stepOf}
+use Rattle.runs.specs.Domain.{noStep, actionOf}
 use Rattle.runs.specs.Touch.{Side, last, first, Mark, present, absent, untouched, Question, touch, itemTouch}
 use Rattle.runs.specs.Algebra.{sameMark}
 use Rattle.chains.specs.Link.{Link, touchLink, untouchedLink, Chain}
@@ -29,13 +29,14 @@ use Rattle.general.specs.Scan.{every}
 use Rattle.chains.specs.Ranks.{Ranks, Attained, Linked, Unlowered, unranked, entryRank, entryPasses, depthLook, passLook, hasMark, aheadOf, behindOf, touchLook, untouchedLook}
 use Rattle.chains.specs.Answer.{Answer, none, shown, newest, chosenAlternative, followed, linksFrom, touchAnswer, untouchedAnswer}
 use Rattle.rank.specs.Walk.{newestLink, depthFrom, fewestFrom}
-use Rattle.rank.specs.Tables.{entryNumber, inRanks, rankIn, passIn, depthIn, everyIn, fewestIn, lookIn, stepMark, markIn, stepRank, Stepped}
+use Rattle.rank.specs.Tables.{entryNumber, firstStep, checkWord, inRanks, itemRank, rankIn, passIn, depthIn, everyIn, fewestIn, lookIn, stepMark, checkMark, markRank, ItemsRanked}
 use Rattle.link.specs.Choice.{linkIn, alternativeIn, linkEntry, linkAt, linksIn, untouchedIn, answerIn}
-use Rattle.chain.specs.Described.{isFirst, markNumber, Asks, Masked, Placed, StepsBy, Described}
+use Rattle.chain.specs.Described.{isFirst, markNumber, Asks, Masked, Placed, ItemsBy, Described}
 use Rattle.question.specs.declared.asked.Asked.{Asked}
 use Rattle.chains.proofs.Depth.{step-rank, step-passes}
 use Rattle.chains.proofs.Links.{entriesOf, chosenAt, positionAt, chosen, chosen-rank, ranked-listed}
 use Rattle.general.proofs.Scan.{getD-inside}
+use Rattle.rank.proofs.Slots.{check-low, about-word}
 use Rattle.rank.proofs.Walk.{depth-from, fewest-from, link-newest}
 
 cond-mark : (x y : Bool) → cond x 0 (cond y 1 2) ≡ markNumber (cond x present (cond y absent untouched))
@@ -58,7 +59,7 @@ by-test : (b : Bool) (x y : Answer) → cond b x y ≡ elim b [ true ↦ x | fal
 by-test true x y = refl
 by-test false x y = refl
 
--- ---- the ranks of the steps
+-- ---- the ranks of the items
 
 no-touch : (s : Side) (f : ℕ) → touch s noStep f ≡ untouched
 no-touch last f = rw (has-none f)
@@ -68,25 +69,38 @@ module _ (L : Library) (q : Asked) (Q : Question) (masks : List ℕ) (asks : Ask
   abbrev asked : ℕ
   asked = q .fact
 
+  -- the mark of an item, as a number
+  abbrev markNumberOf : Item → ℕ
+  markNumberOf x = markNumber (itemTouch L (Q .side) asked x)
+
   in-mask : (n : ℕ) (facts : List ℕ) → n ≡ maskOf facts → inColumn n asked ≡ has asked facts
   in-mask n facts e = ap (λ (x : ℕ). inColumn x asked) e ∙ mask-has facts asked (omega (arith, asks .fact, masked .narrow))
 
-  step-mark : (a : ℕ) → stepMark q masks a ≡ markNumber (itemTouch L (Q .side) asked (step a))
+  step-mark : (a : ℕ) → stepMark q masks a ≡ markNumberOf (step a)
   step-mark a =
-      let n = in-mask (getD masks (3 * a) 0) (stepOf L (step a) .needs) (masked .needs a) in
-      let s = in-mask (getD masks (3 * a + 1) 0) (stepOf L (step a) .sets) (masked .sets a) in
-      let k = in-mask (getD masks (3 * a + 2) 0) (stepOf L (step a) .clears) (masked .clears a) in
+      let n = in-mask (getD masks (3 * a) 0) (actionOf L (step a) .needs) (masked .needs a) in
+      let s = in-mask (getD masks (3 * a + 1) 0) (actionOf L (step a) .sets) (masked .sets a) in
+      let k = in-mask (getD masks (3 * a + 2) 0) (actionOf L (step a) .clears) (masked .clears a) in
       rw (asks .first, n, s, k) (go (Q .side))
     where
       go : (s : Side)
-          → cond (isFirst s) (cond (has asked (stepOf L (step a) .needs)) 0 (cond (has asked (stepOf L (step a) .sets)) 1 2))
-          (cond (has asked (stepOf L (step a) .sets)) 0 (cond (has asked (stepOf L (step a) .clears)) 1 2))
+          → cond (isFirst s) (cond (has asked (actionOf L (step a) .needs)) 0 (cond (has asked (actionOf L (step a) .sets)) 1 2))
+          (cond (has asked (actionOf L (step a) .sets)) 0 (cond (has asked (actionOf L (step a) .clears)) 1 2))
           ≡ markNumber (itemTouch L s asked (step a))
-      go last = cond-mark (has asked (stepOf L (step a) .sets)) (has asked (stepOf L (step a) .clears))
-      go first = cond-mark (has asked (stepOf L (step a) .needs)) (has asked (stepOf L (step a) .sets))
+      go last = cond-mark (has asked (actionOf L (step a) .sets)) (has asked (actionOf L (step a) .clears))
+      go first = cond-mark (has asked (actionOf L (step a) .needs)) (has asked (actionOf L (step a) .sets))
 
-  mark-is : (a : ℕ) → markIn false q masks a ≡ hasMark L Q asked (step a)
-  mark-is a = rw (step-mark a, asks .mark) (same-number (itemTouch L (Q .side) asked (step a)) (Q .mark))
+  check-mark : (f : ℕ) → checkMark q (eqb f asked) ≡ markNumberOf (check f)
+  check-mark f = rw (asks .first) (go (Q .side))
+    where
+      go : (s : Side) → cond (isFirst s && eqb f asked) 0 2 ≡ markNumber (itemTouch L s asked (check f))
+      go last = rw (has-none asked)
+      go first = rw (has-one asked f, has-none asked) (cond-mark (eqb f asked) false)
+
+  -- the rank of an item by its mark
+  mark-rank : (x : Item) (k : ℕ) → k ≡ markNumberOf x → markRank false q k ≡ cond (hasMark L Q asked x) 0 (q .none)
+  mark-rank x k e =
+      ap (λ (b : Bool). cond b 0 (q .none)) (ap₂ eqb e (asks .mark) ∙ same-number (itemTouch L (Q .side) asked x) (Q .mark))
 
   -- a step past the library's touches nothing
   pub mark-past : (a : ℕ) → length (L .steps) ≤ a → hasMark L Q asked (step a) ≡ sameMark untouched (Q .mark)
@@ -94,64 +108,78 @@ module _ (L : Library) (q : Asked) (Q : Question) (masks : List ℕ) (asks : Ask
       ap (λ (m : Mark). sameMark m (Q .mark))
       (ap (λ (s : Step). touch (Q .side) s asked) (List·getD-eq-default (L .steps) noStep {n = a} le) ∙ no-touch (Q .side) asked)
 
-  module _ (before after : List ℕ) (size : length before ≡ q .none + length (L .steps)) where
+  module _ (before after : List ℕ) (size : length before ≡ q .none + firstStep + length (L .steps)) where
     -- the table's words are by the marks, or all 0
-    step-in : (all : Bool) → Stepped all q masks before after → (past a : ℕ) → a < length (L .steps)
-        → getD (drop (q .none) after) a past ≡ stepRank all q masks a
-    step-in all stepped past a l =
-        getD-drop (q .none) after a past ∙ getD-inside after (q .none + a) past 0 (omega (arith, stepped .long)) ∙ stepped .ranked a (omega arith)
+    module _ (all : Bool) (ranked : ItemsRanked all q masks before after) (past : ℕ) where
+      item-in : (i : ℕ) → q .none + i < length before → getD (drop (q .none) after) i past ≡ getD after (q .none + i) 0
+      item-in i l = getD-drop (q .none) after i past ∙ getD-inside after (q .none + i) past 0 (omega (arith, ranked .long))
 
-    step-out : (all : Bool) → Stepped all q masks before after → (past a : ℕ) → length (L .steps) ≤ a → getD (drop (q .none) after) a past ≡ past
-    step-out all stepped past a l = getD-drop (q .none) after a past ∙ List·getD-eq-default after past {n = q .none + a} (omega (arith, stepped .long))
+      step-in : (a : ℕ) → a < length (L .steps) → itemRank past (drop (q .none) after) (step a) ≡ markRank all q (stepMark q masks a)
+      step-in a l =
+          let at : q .none + (firstStep + a) ≡ q .none + firstStep + a = omega arith in
+          item-in (firstStep + a) (omega arith) ∙ ap (λ (i : ℕ). getD after i 0) at ∙ ranked .steps a (omega arith)
 
-    pub steps-marked : Stepped false q masks before after → (past : ℕ) → past ≡ cond (sameMark untouched (Q .mark)) 0 (q .none)
-        → StepsBy (q .none) past (hasMark L Q asked) after
-    steps-marked stepped past end a =
+      step-out : (a : ℕ) → length (L .steps) ≤ a → itemRank past (drop (q .none) after) (step a) ≡ past
+      step-out a l =
+          getD-drop (q .none) after (firstStep + a) past
+          ∙ List·getD-eq-default after past {n = q .none + (firstStep + a)} (omega (arith, ranked .long))
+
+      check-in : (f : ℕ) → itemRank past (drop (q .none) after) (check f) ≡ markRank all q (checkMark q (eqb f asked))
+      check-in f =
+          ap (λ (g : ℕ). getD (drop (q .none) after) (checkWord (eqb f g)) past) (about-word (q .none) after ∙ ranked .about)
+          ∙ item-in (checkWord (eqb f asked)) (omega (arith, check-low (eqb f asked))) ∙ ranked .checks (eqb f asked)
+
+    pub items-marked : ItemsRanked false q masks before after → (past : ℕ) → past ≡ cond (sameMark untouched (Q .mark)) 0 (q .none)
+        → ItemsBy (q .none) past (hasMark L Q asked) after
+    items-marked ranked past end (step a) =
         elim (decLt a (length (L .steps))) [
-          | yes l ↦ step-in false stepped past a l ∙ ap (λ (b : Bool). cond b 0 (q .none)) (mark-is a)
+          | yes l ↦ step-in false ranked past a l ∙ mark-rank (step a) (stepMark q masks a) (step-mark a)
           | no l ↦
-              step-out false stepped past a (omega arith) ∙ end
+              step-out false ranked past a (omega arith) ∙ end
               ∙ ap (λ (b : Bool). cond b 0 (q .none)) (sym (mark-past a (omega arith)))
         ]
+    items-marked ranked past end (check f) =
+        check-in false ranked past f ∙ mark-rank (check f) (checkMark q (eqb f asked)) (check-mark f)
 
-    pub steps-any : Stepped true q masks before after → StepsBy (q .none) 0 (λ (a : Item). true) after
-    steps-any stepped a =
+    pub items-any : ItemsRanked true q masks before after → ItemsBy (q .none) 0 (λ (x : Item). true) after
+    items-any ranked (step a) =
         elim (decLt a (length (L .steps))) [
-          | yes l ↦ step-in true stepped 0 a l
-          | no l ↦ step-out true stepped 0 a (omega arith)
+          | yes l ↦ step-in true ranked 0 a l
+          | no l ↦ step-out true ranked 0 a (omega arith)
         ]
+    items-any ranked (check f) = check-in true ranked 0 f
 
 -- ---- what a table says of an entry
 
-module _ (none past : ℕ) (test : Item → Bool) (T : List ℕ) (steps : StepsBy none past test T) where
+module _ (none past : ℕ) (test : Item → Bool) (T : List ℕ) (items : ItemsBy none past test T) where
   pub rank-is : rankIn none past T ≡ entryRank none test (inRanks none T)
   rank-is = fun-ext go
     where
       go : (e : Entry) → rankIn none past T e ≡ entryRank none test (inRanks none T) e
-      go (item (step a)) = steps a
+      go (item x) = items x
       go (call d) = refl
 
 -- an entry has a rank exactly where it passes, where a sequence has one exactly where it passes
-pub pass-is : (none : ℕ) → 0 < none → (test : Item → Bool) (run : ℕ → Bool) (T : List ℕ) → StepsBy none 0 test T
+pub pass-is : (none : ℕ) → 0 < none → (test : Item → Bool) (run : ℕ → Bool) (T : List ℕ) → ItemsBy none 0 test T
     → ((d : ℕ) → ltb (inRanks none T d) none ≡ run d) → (e : Entry) → passIn none T e ≡ entryPasses test run e
-pass-is n some test run T steps ranked (item (step a)) = ap (λ (r : ℕ). ltb r n) (steps a) ∙ go (test (step a))
+pass-is n some test run T items ranked (item x) = ap (λ (r : ℕ). ltb r n) (items x) ∙ go (test x)
   where
     go : (b : Bool) → ltb (cond b 0 n) n ≡ b
     go true = lt-ltb 0 n some
     go false = le-ltb n n (omega arith)
-pass-is n some test run T steps ranked (call d) = ranked d
+pass-is n some test run T items ranked (call d) = ranked d
 
 -- ---- the looks are the library's
 
 -- where it is only asked whether all entries pass
-pub pass-look : (m : ℕ) → 0 < m → (q : Asked) (ahead behind : List ℕ) → q .none ≡ m → q .mark ≡ 3 → (test : Item → Bool) (T : List ℕ) → StepsBy m 0 test T
+pub pass-look : (m : ℕ) → 0 < m → (q : Asked) (ahead behind : List ℕ) → q .none ≡ m → q .mark ≡ 3 → (test : Item → Bool) (T : List ℕ) → ItemsBy m 0 test T
     → lookIn q ahead behind T ≡ passLook m test (inRanks m T)
 unfolding passLook
-pass-look m some q ahead behind none-is three test T steps =
+pass-look m some q ahead behind none-is three test T items =
     let by : ℕ → ℕ → Alternative → ℕ =
     λ k n es. cond (eqb k 2) (depthIn n T es) (cond (eqb k 3) (everyIn n T es) (fewestIn n ahead behind T es)) in
     ap₂ by three none-is
-    ∙ fun-ext (λ es. ap (λ (p : Entry → Bool). cond (every p es) 0 m) (fun-ext (pass-is m some test (λ d. ltb (inRanks m T d) m) T steps (λ d. refl))))
+    ∙ fun-ext (λ es. ap (λ (p : Entry → Bool). cond (every p es) 0 m) (fun-ext (pass-is m some test (λ d. ltb (inRanks m T d) m) T items (λ d. refl))))
 
 module _ (L : Library) (q : Asked) (Q : Question) (asks : Asks L q Q) where
   two-is : (b : Bool) → eqb (markNumber (Q .mark)) 2 ≡ b → eqb (q .mark) 2 ≡ b
@@ -174,25 +202,25 @@ module _ (L : Library) (q : Asked) (Q : Question) (asks : Asks L q Q) where
     abbrev lookBy : List ℕ → ℕ → Bool → Bool → Alternative → ℕ
     lookBy T n b d es = cond b (depthIn n T es) (cond d (everyIn n T es) (fewestIn n ahead behind T es))
 
-    -- the depth, by any test of the steps
-    depth-is : (test : Item → Bool) (T : List ℕ) → StepsBy (unranked L) 0 test T → depthIn (unranked L) T ≡ depthLook (unranked L) test (inRanks (unranked L) T)
-    depth-is test T steps =
-        fun-ext (λ es. ap (λ (r : Entry → ℕ). depthFrom (unranked L) r 0 es) (rank-is (unranked L) 0 test T steps) ∙ sym (depth-from (unranked L) test (inRanks (unranked L) T) es))
+    -- the depth, by any test of the items
+    depth-is : (test : Item → Bool) (T : List ℕ) → ItemsBy (unranked L) 0 test T → depthIn (unranked L) T ≡ depthLook (unranked L) test (inRanks (unranked L) T)
+    depth-is test T items =
+        fun-ext (λ es. ap (λ (r : Entry → ℕ). depthFrom (unranked L) r 0 es) (rank-is (unranked L) 0 test T items) ∙ sym (depth-from (unranked L) test (inRanks (unranked L) T) es))
 
-    pub depth-look : Q .mark ≡ untouched → (test : Item → Bool) (T : List ℕ) → StepsBy (unranked L) 0 test T
+    pub depth-look : Q .mark ≡ untouched → (test : Item → Bool) (T : List ℕ) → ItemsBy (unranked L) 0 test T
         → lookIn q ahead behind T ≡ depthLook (unranked L) test (inRanks (unranked L) T)
-    depth-look marks-none test T steps =
-        ap₂ (λ (n : ℕ) (b : Bool). lookBy T n b (eqb (q .mark) 3)) (asks .none) (two-is true (untouched-number (Q .mark) marks-none)) ∙ depth-is test T steps
+    depth-look marks-none test T items =
+        ap₂ (λ (n : ℕ) (b : Bool). lookBy T n b (eqb (q .mark) 3)) (asks .none) (two-is true (untouched-number (Q .mark) marks-none)) ∙ depth-is test T items
 
     -- the links
-    pub touch-look : Q .mark ≢ untouched → Described L Q (q .fact) ahead behind → (T : List ℕ) → StepsBy (unranked L) (unranked L) (hasMark L Q (q .fact)) T
+    pub touch-look : Q .mark ≢ untouched → Described L Q (q .fact) ahead behind → (T : List ℕ) → ItemsBy (unranked L) (unranked L) (hasMark L Q (q .fact)) T
         → lookIn q ahead behind T ≡ touchLook L Q (q .fact) (inRanks (unranked L) T)
-    touch-look touch described T steps =
+    touch-look touch described T items =
         let n = unranked L in
         ap₂ (λ (n : ℕ) (b : Bool). lookBy T n b (eqb (q .mark) 3)) (asks .none) (two-is false (touch-number (Q .mark) touch))
         ∙ ap (lookBy T n false) (three-is (Q .mark) refl)
         ∙ fun-ext (λ es.
-        ap (λ (r : Entry → ℕ). fewestFrom n r (passIn n ahead) (passIn n behind) 0 n es) (rank-is n n (hasMark L Q (q .fact)) T steps)
+        ap (λ (r : Entry → ℕ). fewestFrom n r (passIn n ahead) (passIn n behind) 0 n es) (rank-is n n (hasMark L Q (q .fact)) T items)
         ∙ ap₂ (λ (a b : Entry → Bool). fewestFrom n (entryRank n (hasMark L Q (q .fact)) (inRanks n T)) a b 0 n es) (fun-ext (described .by-ahead)) (fun-ext (described .by-behind))
         ∙ sym (fewest-from n (hasMark L Q (q .fact)) (aheadOf L Q (q .fact) (Q .side)) (behindOf L Q (q .fact) (Q .side)) (inRanks n T) es))
 
@@ -209,15 +237,15 @@ module _ (L : Library) (q : Asked) (Q : Question) (asks : Asks L q Q) where
       own c lt = ap (λ (n : ℕ). getD ranks c n) (asks .none) ∙ sym (getD-take (unranked L) ranks c (unranked L) (omega arith))
 
       -- a question that asks for no touch
-      pub untouched-answer : Q .mark ≡ untouched → StepsBy (unranked L) 0 (hasMark L Q f) ranks → (c : ℕ) → c < length (L .sequences)
+      pub untouched-answer : Q .mark ≡ untouched → ItemsBy (unranked L) 0 (hasMark L Q f) ranks → (c : ℕ) → c < length (L .sequences)
           → answerIn q ahead behind ranks part places c ≡ untouchedAnswer L Q f T c
       unfolding answerIn alternativeIn chosenAlternative untouchedIn untouchedAnswer
-      untouched-answer marks-none steps c lt =
+      untouched-answer marks-none items c lt =
           let chosen = chosenAlternative (L .sequences) (untouchedLook L Q f) T (pred (T c)) c in
           let alternative : alternativeIn (q .none) ranks (pred (getD ranks c (q .none))) (alternativesAt part places c) ≡ chosen =
           ap₂ (λ (r : ℕ) (alts : List Alternative). alternativeIn (q .none) ranks (pred r) alts) (own c lt) (placed c lt)
           ∙ ap (λ (depth : Alternative → ℕ). newest (λ es. leb (depth es) (pred (T c))) (alternativesOf (L .sequences) c))
-          (ap (λ (n : ℕ). depthIn n ranks) (asks .none) ∙ depth-is (hasMark L Q f) ranks steps) in
+          (ap (λ (n : ℕ). depthIn n ranks) (asks .none) ∙ depth-is (hasMark L Q f) ranks items) in
           ap (λ (b : Bool). cond (ltb (getD ranks c (q .none)) (q .none)) (shown (cond b (untouchedIn (q .none) ranks part places c ∷ []) (linksIn (q .none) ahead behind ranks part places (getD ranks c (q .none)) c))) none)
           (two-is true (untouched-number (Q .mark) marks-none))
           ∙ ap₂ (λ (r i : ℕ). cond (ltb r (q .none)) (shown (untouchedLink c i ∷ [])) none) (own c lt) alternative
@@ -225,7 +253,7 @@ module _ (L : Library) (q : Asked) (Q : Question) (asks : Asks L q Q) where
           ∙ by-test (ltb (T c) (unranked L)) (shown (untouchedLink c chosen ∷ [])) none
 
       -- a question that asks for a touch, by ranks that are reached and that no look lowers
-      module _ (touch : Q .mark ≢ untouched) (described : Described L Q f ahead behind) (steps : StepsBy (unranked L) (unranked L) (hasMark L Q f) ranks)
+      module _ (touch : Q .mark ≢ untouched) (described : Described L Q f ahead behind) (items : ItemsBy (unranked L) (unranked L) (hasMark L Q f) ranks)
           (reached : Attained (Linked L Q f) (unranked L) T) (closed : Unlowered (L .sequences) (touchLook L Q f) T) where
         link-is : (k c : ℕ) → k < unranked L → c < length (L .sequences)
             → linkAt (q .none) ahead behind ranks part places k c ≡ touchLink c (chosenAt L Q f (unranked L) T c k) (positionAt L Q f (unranked L) T c k)
@@ -233,7 +261,7 @@ module _ (L : Library) (q : Asked) (Q : Question) (asks : Asks L q Q) where
         link-is k c low lt =
             let m = unranked L in
             ap₂ (λ (n : ℕ) (alts : List Alternative). newestLink n (rankIn n n ranks) (passIn n ahead) (passIn n behind) c k alts) (asks .none) (placed c lt)
-            ∙ ap (λ (r : Entry → ℕ). newestLink m r (passIn m ahead) (passIn m behind) c k (alternativesOf (L .sequences) c)) (rank-is m m (hasMark L Q f) ranks steps)
+            ∙ ap (λ (r : Entry → ℕ). newestLink m r (passIn m ahead) (passIn m behind) c k (alternativesOf (L .sequences) c)) (rank-is m m (hasMark L Q f) ranks items)
             ∙ ap₂ (λ (a b : Entry → Bool). newestLink m (entryRank m (hasMark L Q f) T) a b c k (alternativesOf (L .sequences) c)) (fun-ext (described .by-ahead)) (fun-ext (described .by-behind))
             ∙ sym (link-newest (unranked L) (hasMark L Q f) (aheadOf L Q f (Q .side)) (behindOf L Q f (Q .side)) T k low (L .sequences) c)
 
@@ -242,9 +270,9 @@ module _ (L : Library) (q : Asked) (Q : Question) (asks : Asks L q Q) where
             → ((d : ℕ) → T d ≡ k → linksIn (q .none) ahead behind ranks part places k d ≡ linksFrom L Q f T k d)
             → linksIn (q .none) ahead behind ranks part places k (entryNumber e) ≡ followed e (λ d. linksFrom L Q f T k d)
         unfolding linksIn linksFrom
-        after-is zero low (item (step a)) e rest = refl
-        after-is (suc k) low (item (step a)) e rest =
-            let z = step-rank (unranked L) (hasMark L Q f (step a)) (step-passes (unranked L) (hasMark L Q f (step a)) (omega arith)) in
+        after-is zero low (item x) e rest = refl
+        after-is (suc k) low (item x) e rest =
+            let z = step-rank (unranked L) (hasMark L Q f x) (step-passes (unranked L) (hasMark L Q f x) (omega arith)) in
             absurd (omega arith)
         after-is k low (call d) e rest = rest d e
 

@@ -15,7 +15,7 @@ use lib.ListN.{length, getD, take, drop, replicate, length-replicate, List·getD
 use lib.Seq.{getD-take, ext-getD, length-take-le}
 use Rattle.rules.specs.Checked.{accepts}
 use Rattle.rules.specs.Rules.{opened}
-use Rattle.library.specs.Library.{Library, Sequence, Entry, alternativesFrom, sequencesPart, libraryOf, Item, step}
+use Rattle.library.specs.Library.{Library, Sequence, Entry, alternativesFrom, sequencesPart, libraryOf, Item}
 use Rattle.library.specs.Walk.{alternativesAt}
 use Rattle.general.specs.Tests.{All}
 use Rattle.library.specs.Accepted.{SequenceWord, Counted}
@@ -36,29 +36,29 @@ use Rattle.general.specs.Scan.{every}
 use Rattle.chains.specs.Ranks.{Look, passLook, unranked, entryPasses, hasMark, canStay, canRun, aheadOf, behindOf, touchLook, untouchedLook}
 use Rattle.chains.specs.Answer.{answer, ranksIn}
 use Rattle.rank.specs.Visits.{Visits, RanksSettled}
-use Rattle.rank.specs.Tables.{inRanks, passIn, lookIn, Rankable, RanksReadable, RanksVisitable, Steppable, Ranked}
+use Rattle.rank.specs.Tables.{firstStep, inRanks, itemRank, passIn, lookIn, Rankable, RanksReadable, RanksVisitable, ItemsRankable, Ranked}
 use Rattle.link.specs.Choice.{Choosable, answerIn}
-use Rattle.chain.specs.Described.{Asks, Masked, Placed, StepsBy, Described, FindAsked, RanksAsked, AreasAsked, Unranked, Findable, EntriesMarked, forUntouched, forRun, isFirst, markNumber, sideBy, markBy, questionBy}
+use Rattle.chain.specs.Described.{Asks, Masked, Placed, ItemsBy, Described, FindAsked, ranksLength, RanksAsked, AreasAsked, Unranked, Findable, EntriesMarked, forUntouched, forRun, isFirst, markNumber, sideBy, markBy, questionBy}
 use Rattle.question.specs.declared.asked.Asked.{Asked}
 use Rattle.chains.proofs.Entries.{stays-run, any-run}
 use Rattle.chains.proofs.Passing.{Passable, pass-reached, pass-exact}
 use Rattle.chains.proofs.Ranks.{start-unranked}
 use Rattle.rank.proofs.Visits.{settled-good, touch-good, settled-touch, settled-untouched}
 use Rattle.rank.proofs.Settling.{rankable-at, settled-kept, settled-visits, settled-all}
-use Rattle.chain.proofs.Describes.{steps-marked, steps-any, pass-is, pass-look, depth-look, touch-look, touch-answer, untouched-answer}
+use Rattle.chain.proofs.Describes.{items-marked, items-any, pass-is, pass-look, depth-look, touch-look, touch-answer, untouched-answer}
 
 -- ---- the areas
 
 -- of words that are all `none`
-ranks-asked : (h : Head) (q : Asked) (m : ℕ) → q .none + h .steps ≤ m → RanksAsked h q (replicate m (q .none))
+ranks-asked : (h : Head) (q : Asked) (m : ℕ) → ranksLength h q ≤ m → RanksAsked h q (replicate m (q .none))
 ranks-asked h q m l = record { room = omega (arith, length-replicate m (q .none)); empty = start-unranked [] (λ T es. 0) (q .none) m }
 
 -- for so many steps and sequences
 pub areas-asked : (h : Head) (q : Asked) → q .none ≡ h .sequences + 2 → (steps sequences : ℕ) → h .steps ≤ steps → h .sequences ≤ sequences
-    → AreasAsked h q (replicate (3 * steps) 0) (replicate (4 * sequences) 0) (replicate (sequences + 2 + steps) (q .none))
-    (replicate (sequences + 2 + steps) (q .none)) (replicate (sequences + 2 + steps) (q .none))
+    → AreasAsked h q (replicate (3 * steps) 0) (replicate (4 * sequences) 0) (replicate (sequences + 2 + firstStep + steps) (q .none))
+    (replicate (sequences + 2 + firstStep + steps) (q .none)) (replicate (sequences + 2 + firstStep + steps) (q .none))
 areas-asked h q none steps sequences a c =
-    let ranks = ranks-asked h q (sequences + 2 + steps) (omega arith) in
+    let ranks = ranks-asked h q (sequences + 2 + firstStep + steps) (omega arith) in
     record {
       masks-room = omega (arith, length-replicate {A = ℕ} (3 * steps) 0);
       masks-blank = zeros (3 * steps);
@@ -71,17 +71,17 @@ areas-asked h q none steps sequences a c =
 
 -- the part of an area that has the words
 module _ {h : Head} {q : Asked} {T : List ℕ} (asked : RanksAsked h q T) where
-  pub ranks-long : q .none + h .steps ≡ length (take (q .none + h .steps) T)
-  ranks-long = sym (length-take-le (q .none + h .steps) T (asked .room))
+  pub ranks-long : ranksLength h q ≡ length (take (ranksLength h q) T)
+  ranks-long = sym (length-take-le (ranksLength h q) T (asked .room))
 
-  pub ranks-unranked : Unranked h q (take (q .none + h .steps) T)
+  pub ranks-unranked : Unranked h q (take (ranksLength h q) T)
   ranks-unranked =
       record {
         long = sym ranks-long;
         empty = λ k.
-            elim (decLt k (q .none + h .steps)) [
-              | yes below ↦ getD-take (q .none + h .steps) T k (q .none) below ∙ asked .empty k
-              | no above ↦ List·getD-eq-default (take (q .none + h .steps) T) (q .none) {n = k} (omega (arith, ranks-long))
+            elim (decLt k (ranksLength h q)) [
+              | yes below ↦ getD-take (ranksLength h q) T k (q .none) below ∙ asked .empty k
+              | no above ↦ List·getD-eq-default (take (ranksLength h q) T) (q .none) {n = k} (omega (arith, ranks-long))
             ];
       }
 
@@ -108,17 +108,17 @@ module _ {q : Asked} {n : ℕ} {masks ahead behind links part places callers ord
 
   -- to mark the entries
   pub mark-asked : (T : List ℕ) → length T ≡ length links
-      → Steppable (forUntouched q) masks T × RanksVisitable (forRun q) n links links T part places × Scheduled n part places callers order
+      → ItemsRankable (forUntouched q) masks T × RanksVisitable (forRun q) n links links T part places × Scheduled n part places callers order
   mark-asked T long = (
-    record { fact = asked .steppable .fact; sequences = omega (arith, asked .steppable .sequences); masked = omega (arith, asked .steppable .masked) },
+    record { fact = asked .items .fact; room = omega (arith, asked .items .room); masked = omega (arith, asked .items .masked) },
     record { readable = visited T links links long refl refl; low = asked .low; ranked = omega (arith, asked .ranked); placed = asked .placed; within = λ c l. asked .opened .within c },
     asked .scheduled,
   )
 
   -- to rank the sequences by the question
-  pub rank-asked : Steppable q masks links × RanksVisitable q n ahead behind links part places × Scheduled n part places callers order
+  pub rank-asked : ItemsRankable q masks links × RanksVisitable q n ahead behind links part places × Scheduled n part places callers order
   rank-asked = (
-    asked .steppable,
+    asked .items,
     record { readable = visited links ahead behind refl (asked .ahead-long) (asked .behind-long); low = asked .low; ranked = asked .ranked; placed = asked .placed; within = λ c l. asked .opened .within c },
     asked .scheduled,
   )
@@ -136,7 +136,7 @@ module _ {q : Asked} {n : ℕ} {masks ahead behind links part places callers ord
   pub findable-at : (A B : List ℕ) → length A ≡ length ahead → length B ≡ length behind → Findable q n masks A B links part places callers order
   findable-at A B a b =
       record {
-        steppable = asked .steppable;
+        items = asked .items;
         rankable = asked .rankable;
         ahead-long = a ∙ asked .ahead-long;
         behind-long = b ∙ asked .behind-long;
@@ -169,13 +169,13 @@ module _ {h : Head} {image ms₀ ps₀ ms ps callers order : List ℕ} (accepted
 
   -- the tables are what the readers ask
   module _ {q : Asked} {c : ℕ} (asked : FindAsked h image q c) where
-    tables-rankable : (T : List ℕ) → length T ≡ q .none + h .steps → Rankable (q .none) T part
+    tables-rankable : (T : List ℕ) → length T ≡ ranksLength h q → Rankable (q .none) T part
     tables-rankable T long =
         record {
           within = λ i l.
               let none = asked .none in
               let w = all-at (SequenceWord h) part (subst (All (SequenceWord h)) (sym sequences) (parts image h accepted .sequences)) 0 i l in
-              record { step = λ k. omega (arith, w .step k); sequence = λ k. (omega (arith, w .sequence k), omega (arith, w .sequence k)) };
+              record { step = λ k. omega (arith, w .step k); check = λ k. omega arith; sequence = λ k. (omega (arith, w .sequence k), omega (arith, w .sequence k)) };
         }
 
     pub tables-findable : {ahead behind links : List ℕ} → Unranked h q ahead → Unranked h q behind → Unranked h q links → Zeros ps₀ → 3 * h .steps ≤ length ms
@@ -184,7 +184,7 @@ module _ {h : Head} {image ms₀ ps₀ ms ps callers order : List ℕ} (accepted
     tables-findable {links = links} a-yet b-yet yet blank masked placed room =
         let none = asked .none in
         record {
-          steppable = record { fact = omega (arith, asked .fact, faultless image h accepted .facts-high); sequences = omega (arith, yet .long); masked = omega (arith, yet .long) };
+          items = record { fact = omega (arith, asked .fact, faultless image h accepted .facts-high); room = omega (arith, yet .long); masked = omega (arith, yet .long) };
           rankable = tables-rankable links (yet .long);
           ahead-long = a-yet .long ∙ sym (yet .long);
           behind-long = b-yet .long ∙ sym (yet .long);
@@ -233,7 +233,7 @@ module _ (image : List ℕ) (h : Head) (accepted : accepts image h) (ms ps part 
         fact = omega (arith, has .facts);
       }
 
-  -- a table from one without a rank, whose steps are ranked by the question p and whose sequences by q
+  -- a table from one without a rank, whose items are ranked by the question p and whose sequences by q
   module _ (all : Bool) (p q : Asked) (p-none : p .none ≡ unranked L) (q-none : q .none ≡ unranked L) (ahead behind before ranks : List ℕ)
       (yet : Unranked h p before) (ranked : Ranked all p q (h .sequences) ms ahead behind part ps before ranks) where
     abbrev m : ℕ
@@ -246,19 +246,19 @@ module _ (image : List ℕ) (h : Head) (accepted : accepts image h) (ms ps part 
     start-none : take m (ranked .start) ≡ replicate m m
     start-none =
         ext-getD m (take m (ranked .start)) (replicate m m)
-        (length-take-le m (ranked .start) (omega (arith, ranked .steps .long, yet .long)) ∙ sym (length-replicate m m))
+        (length-take-le m (ranked .start) (omega (arith, ranked .items .long, yet .long)) ∙ sym (length-replicate m m))
         (λ i l.
-        let below : i < m = omega (arith, length-take-le m (ranked .start) (omega (arith, ranked .steps .long, yet .long))) in
+        let below : i < m = omega (arith, length-take-le m (ranked .start) (omega (arith, ranked .items .long, yet .long))) in
         getD-take m (ranked .start) i m below
-        ∙ ap (getD (ranked .start) i) (sym p-none) ∙ ranked .steps .stays i (omega arith) ∙ yet .empty i ∙ p-none
+        ∙ ap (getD (ranked .start) i) (sym p-none) ∙ ranked .items .stays i (omega arith) ∙ yet .empty i ∙ p-none
         ∙ sym (start-unranked (L .sequences) (λ T es. 0) m m i))
 
-    -- the ranks of the steps
-    steps-stay : (past : ℕ) (test : Item → Bool) (T : List ℕ) → drop m T ≡ drop m (ranked .start) → StepsBy (p .none) past test (ranked .start) → StepsBy m past test T
-    steps-stay past test T same steps a =
-        ap (λ (l : List ℕ). getD l a past) (same ∙ ap (λ (n : ℕ). drop n (ranked .start)) (sym p-none)) ∙ steps a ∙ ap (cond (test (step a)) 0) p-none
+    -- the ranks of the items
+    items-stay : (past : ℕ) (test : Item → Bool) (T : List ℕ) → drop m T ≡ drop m (ranked .start) → ItemsBy (p .none) past test (ranked .start) → ItemsBy m past test T
+    items-stay past test T same items x =
+        ap (λ (l : List ℕ). itemRank past l x) (same ∙ ap (λ (n : ℕ). drop n (ranked .start)) (sym p-none)) ∙ items x ∙ ap (cond (test x) 0) p-none
 
-    -- by a look that the tables have, where the ranks of the steps are those that are written
+    -- by a look that the tables have, where the ranks of the items are those that are written
     module _ (look : Look) (looks : (T : List ℕ) → drop m T ≡ drop m (ranked .start) → lookIn q ahead behind T ≡ look (inRanks m T)) where
       reads : (d : ℕ) → d < h .sequences → alternativesAt part ps d ≡ alternativesOf (L .sequences) d
       reads d l = places-are d (omega (arith, has .sequences))
@@ -279,13 +279,13 @@ module _ (image : List ℕ) (h : Head) (accepted : accepts image h) (ms ps part 
           settled-all q ahead behind part ps (drop m (ranked .start)) (L .sequences) look m (h .sequences) (sym (has .sequences)) (omega (arith, has .sequences)) q-none looks
           reads refl (ranked .settled)
 
-    -- where it is only asked whether all entries pass: an entry has a rank exactly where it passes, a sequence where it has a run whose steps do
-    module _ (three : q .mark ≡ 3) (test : Item → Bool) (steps : StepsBy (p .none) 0 test (ranked .start)) where
+    -- where it is only asked whether all entries pass: an entry has a rank exactly where it passes, a sequence where it has a run whose items do
+    module _ (three : q .mark ≡ 3) (test : Item → Bool) (items : ItemsBy (p .none) 0 test (ranked .start)) where
       abbrev look : Look
       look = passLook m test
 
       looks : (T : List ℕ) → drop m T ≡ drop m (ranked .start) → lookIn q ahead behind T ≡ look (inRanks m T)
-      looks T same = pass-look m (omega arith) q ahead behind q-none three test T (steps-stay 0 test T same steps)
+      looks T same = pass-look m (omega arith) q ahead behind q-none three test T (items-stay 0 test T same items)
 
       entries-pass : (run : ℕ → Bool) → ((d : ℕ) → (run d ≡ true) ↔ ((w : List Item) × RunOf (L .sequences) d w × (every test w ≡ true)))
           → (e : Entry) → passIn m ranks e ≡ entryPasses test run e
@@ -293,7 +293,7 @@ module _ (image : List ℕ) (h : Head) (accepted : accepts image h) (ms ps part 
           let good =
           settled-good L lastSet 0 m (take m ranks) (omega arith) (Passable (L .sequences) m test) look (pass-reached (L .sequences) m test)
           (made-visits look looks) (made-settled look looks) in
-          pass-is m (omega arith) test run ranks (steps-stay 0 test ranks (made-kept look looks) steps)
+          pass-is m (omega arith) test run ranks (items-stay 0 test ranks (made-kept look looks) items)
           (λ d. pass-exact (L .sequences) m test (ranksIn L (take m ranks)) (good .closed) (omega arith) (good .reached) d (run d) (right d))
 
   -- ---- the answer by the three tables
@@ -311,24 +311,24 @@ module _ (image : List ℕ) (h : Head) (accepted : accepts image h) (ms ps part 
     again : {T : List ℕ} → Unranked h q T → Unranked h (forUntouched q) T
     again u = record { long = u .long; empty = u .empty }
 
-    stays-steps : (r : Asked) (ahead behind before ranks : List ℕ) → Unranked h q before
+    stays-items : (r : Asked) (ahead behind before ranks : List ℕ) → Unranked h q before
         → (ranked : Ranked false (forUntouched q) r (h .sequences) ms ahead behind part ps before ranks)
-        → StepsBy (q .none) 0 (hasMark L (questionBy (forUntouched q)) (q .fact)) (ranked .start)
-    stays-steps r ahead behind before ranks yet ranked =
-        steps-marked L (forUntouched q) (questionBy (forUntouched q)) ms stays-asks masks-are before (ranked .start) (omega (arith, counted image h accepted .steps, yet .long)) (ranked .steps) 0 refl
+        → ItemsBy (q .none) 0 (hasMark L (questionBy (forUntouched q)) (q .fact)) (ranked .start)
+    stays-items r ahead behind before ranks yet ranked =
+        items-marked L (forUntouched q) (questionBy (forUntouched q)) ms stays-asks masks-are before (ranked .start) (omega (arith, counted image h accepted .steps, yet .long)) (ranked .items) 0 refl
 
     -- the entries that can stay untouched, and those that have a run
     stays-done : (links₀ stays₀ stays : List ℕ) → Unranked h q stays₀ → Ranked false (forUntouched q) (forRun q) (h .sequences) ms links₀ links₀ part ps stays₀ stays
         → (e : Entry) → passIn (unranked L) stays e ≡ canStay L Q (q .fact) e
     stays-done links₀ stays₀ stays yet ranked =
         entries-pass false (forUntouched q) (forRun q) no-rank no-rank links₀ links₀ stays₀ stays (again yet) ranked refl (hasMark L (questionBy (forUntouched q)) (q .fact))
-        (stays-steps (forRun q) links₀ links₀ stays₀ stays yet ranked) (λ d. possibleOutcome L (untouchedOn Q) d (q .fact)) (stays-run L Q (q .fact))
+        (stays-items (forRun q) links₀ links₀ stays₀ stays yet ranked) (λ d. possibleOutcome L (untouchedOn Q) d (q .fact)) (stays-run L Q (q .fact))
 
     runs-done : (links₀ runs₀ runs : List ℕ) → Unranked h q runs₀ → Ranked true (forUntouched q) (forRun q) (h .sequences) ms links₀ links₀ part ps runs₀ runs
         → (e : Entry) → passIn (unranked L) runs e ≡ canRun L Q (q .fact) e
     runs-done links₀ runs₀ runs yet ranked =
         entries-pass true (forUntouched q) (forRun q) no-rank no-rank links₀ links₀ runs₀ runs (again yet) ranked refl (λ (a : Item). true)
-        (steps-any L (forUntouched q) (questionBy (forUntouched q)) ms stays-asks masks-are runs₀ (ranked .start) (omega (arith, counted image h accepted .steps, yet .long)) (ranked .steps))
+        (items-any L (forUntouched q) (questionBy (forUntouched q)) ms stays-asks masks-are runs₀ (ranked .start) (omega (arith, counted image h accepted .steps, yet .long)) (ranked .items))
         (λ d. hasRun L d) (any-run L)
 
     -- by the tables for the entries ahead of the position and those behind it
@@ -355,21 +355,21 @@ module _ (image : List ℕ) (h : Head) (accepted : accepts image h) (ms ps part 
       listed : c < length (L .sequences)
       listed = omega (arith, asked .sequence, counted image h accepted .sequences)
 
-      steps-by : (past : ℕ) → past ≡ cond (sameMark untouched (Q .mark)) 0 (q .none) → StepsBy (q .none) past (hasMark L Q (q .fact)) (ranked .start)
-      steps-by past end =
-          steps-marked L q Q ms asks masks-are links₀ (ranked .start) (omega (arith, counted image h accepted .steps, yet .long)) (ranked .steps) past end
+      items-by : (past : ℕ) → past ≡ cond (sameMark untouched (Q .mark)) 0 (q .none) → ItemsBy (q .none) past (hasMark L Q (q .fact)) (ranked .start)
+      items-by past end =
+          items-marked L q Q ms asks masks-are links₀ (ranked .start) (omega (arith, counted image h accepted .steps, yet .long)) (ranked .items) past end
 
       -- a question that asks for no touch
       untouched-done : Q .mark ≡ untouched → answerIn q ahead behind links part ps c ≡ answer L Q c (q .fact)
       untouched-done marks-none =
           let test = hasMark L Q (q .fact) in
           let look = untouchedLook L Q (q .fact) in
-          let steps = steps-by 0 (ap (λ (k : Mark). cond (sameMark untouched k) 0 (q .none)) (sym marks-none)) in
+          let items = items-by 0 (ap (λ (k : Mark). cond (sameMark untouched k) 0 (q .none)) (sym marks-none)) in
           let looks : (T : List ℕ) → drop (unranked L) T ≡ drop (unranked L) (ranked .start) → lookIn q ahead behind T ≡ look (inRanks (unranked L) T) =
-          λ T same. depth-look L q Q asks ahead behind marks-none test T (steps-stay false q q no-rank no-rank ahead behind links₀ links yet ranked 0 test T same steps) in
+          λ T same. depth-look L q Q asks ahead behind marks-none test T (items-stay false q q no-rank no-rank ahead behind links₀ links yet ranked 0 test T same items) in
           let kept = made-kept false q q no-rank no-rank ahead behind links₀ links yet ranked look looks in
           untouched-answer L q Q asks ahead behind part ps places-are links marks-none
-          (steps-stay false q q no-rank no-rank ahead behind links₀ links yet ranked 0 test links kept steps) c listed
+          (items-stay false q q no-rank no-rank ahead behind links₀ links yet ranked 0 test links kept items) c listed
           ∙ settled-untouched L Q (q .fact) (unranked L) (take (unranked L) links) (omega arith) marks-none
           (made-visits false q q no-rank no-rank ahead behind links₀ links yet ranked look looks)
           (made-settled false q q no-rank no-rank ahead behind links₀ links yet ranked look looks) c
@@ -379,17 +379,17 @@ module _ (image : List ℕ) (h : Head) (accepted : accepts image h) (ms ps part 
       link-done touch described =
           let test = hasMark L Q (q .fact) in
           let look = touchLook L Q (q .fact) in
-          let steps : StepsBy (q .none) (unranked L) test (ranked .start) =
-          subst (λ (n : ℕ). StepsBy (q .none) n test (ranked .start)) no-rank (steps-by (q .none) (past (Q .mark) touch)) in
+          let items : ItemsBy (q .none) (unranked L) test (ranked .start) =
+          subst (λ (n : ℕ). ItemsBy (q .none) n test (ranked .start)) no-rank (items-by (q .none) (past (Q .mark) touch)) in
           let looks : (T : List ℕ) → drop (unranked L) T ≡ drop (unranked L) (ranked .start) → lookIn q ahead behind T ≡ look (inRanks (unranked L) T) =
-          λ T same. touch-look L q Q asks ahead behind touch described T (steps-stay false q q no-rank no-rank ahead behind links₀ links yet ranked (unranked L) test T same steps) in
+          λ T same. touch-look L q Q asks ahead behind touch described T (items-stay false q q no-rank no-rank ahead behind links₀ links yet ranked (unranked L) test T same items) in
           let kept = made-kept false q q no-rank no-rank ahead behind links₀ links yet ranked look looks in
           let good =
           touch-good L Q (q .fact) (unranked L) (take (unranked L) links) (omega arith) touch
           (made-visits false q q no-rank no-rank ahead behind links₀ links yet ranked look looks)
           (made-settled false q q no-rank no-rank ahead behind links₀ links yet ranked look looks) in
           touch-answer L q Q asks ahead behind part ps places-are links touch described
-          (steps-stay false q q no-rank no-rank ahead behind links₀ links yet ranked (unranked L) test links kept steps) (good .reached) (good .closed) c listed
+          (items-stay false q q no-rank no-rank ahead behind links₀ links yet ranked (unranked L) test links kept items) (good .reached) (good .closed) c listed
           ∙ settled-touch L Q (q .fact) (unranked L) (take (unranked L) links) (omega arith) touch good c
         where
           past : (k : Mark) → k ≢ untouched → q .none ≡ cond (sameMark untouched k) 0 (q .none)

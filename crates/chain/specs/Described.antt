@@ -14,10 +14,10 @@ use Rattle.library.specs.Tables.{maskOf}
 use Rattle.general.specs.Numbers.{Zeros}
 use Rattle.settling.specs.Settling.{Scheduled}
 use Rattle.runs.specs.Run.{alternativesOf}
-use Rattle.runs.specs.Execution.{stepOf}
+use Rattle.runs.specs.Domain.{actionOf}
 use Rattle.runs.specs.Touch.{Side, last, first, Mark, present, absent, untouched, Question}
 use Rattle.chains.specs.Ranks.{unranked, aheadOf, behindOf}
-use Rattle.rank.specs.Tables.{passIn, Rankable, Steppable, Ranked}
+use Rattle.rank.specs.Tables.{firstStep, itemRank, passIn, Rankable, ItemsRankable, Ranked}
 use Rattle.link.specs.Choice.{Opened, answerIn}
 use Rattle.question.specs.Answer.{byRank}
 use Rattle.question.specs.Reply.{Answered}
@@ -44,17 +44,17 @@ pub record Asks (L : Library) (q : Asked) (Q : Question) : Type 0 where
 -- the masks are those of the library's steps
 pub record Masked (L : Library) (masks : List ℕ) : Type 0 where
   pub narrow : L .facts ≤ 64
-  pub needs : (a : ℕ) → getD masks (3 * a) 0 ≡ maskOf (stepOf L (step a) .needs)
-  pub sets : (a : ℕ) → getD masks (3 * a + 1) 0 ≡ maskOf (stepOf L (step a) .sets)
-  pub clears : (a : ℕ) → getD masks (3 * a + 2) 0 ≡ maskOf (stepOf L (step a) .clears)
+  pub needs : (a : ℕ) → getD masks (3 * a) 0 ≡ maskOf (actionOf L (step a) .needs)
+  pub sets : (a : ℕ) → getD masks (3 * a + 1) 0 ≡ maskOf (actionOf L (step a) .sets)
+  pub clears : (a : ℕ) → getD masks (3 * a + 2) 0 ≡ maskOf (actionOf L (step a) .clears)
 
 -- the words hold each sequence's alternatives where its place says
 abbrev pub Placed : Library → List ℕ → List ℕ → Type 0
 Placed L part places = (c : ℕ) → c < length (L .sequences) → alternativesAt part places c ≡ alternativesOf (L .sequences) c
 
--- the ranks of the steps in a table are by a test of them, with `past` for a step past the table
-abbrev pub StepsBy : ℕ → ℕ → (Item → Bool) → List ℕ → Type 0
-StepsBy none past test T = (a : ℕ) → getD (drop none T) a past ≡ cond (test (step a)) 0 none
+-- the ranks of the items in a table are by a test of them, with `past` for a step past the table
+abbrev pub ItemsBy : ℕ → ℕ → (Item → Bool) → List ℕ → Type 0
+ItemsBy none past test T = (x : Item) → itemRank past (drop none T) x ≡ cond (test x) 0 none
 
 -- the tables are the library's, where the question asks for a touch: what they say of the entries ahead of the position and of those
 -- behind it
@@ -85,9 +85,13 @@ pub record FindAsked (h : Head) (image : List ℕ) (q : Asked) (c : ℕ) : Type 
 abbrev pub AnswerFound : List ℕ → Asked → ℕ → List ℕ → ℕ → List ℕ → Type 0
 AnswerFound image q c area rank after = Answered (answer (libraryOf image) (questionBy q) c (q .fact)) area (byRank q rank (length area)) after
 
--- an area without a rank, which has a word for each sequence and each step
+-- the words of a table of ranks: for each sequence, the three of the checks, and for each step
+abbrev pub ranksLength : Head → Asked → ℕ
+ranksLength h q = q .none + firstStep + h .steps
+
+-- an area without a rank, which has the room for a table
 pub record RanksAsked (h : Head) (q : Asked) (T : List ℕ) : Type 0 where
-  pub room : q .none + h .steps ≤ length T
+  pub room : ranksLength h q ≤ length T
   pub empty : (k : ℕ) → getD T k (q .none) ≡ q .none
 
 -- the areas that the answer is found in
@@ -100,16 +104,16 @@ pub record AreasAsked (h : Head) (q : Asked) (masks callers ahead behind links :
   pub behind-asked : RanksAsked h q behind
   pub links-asked : RanksAsked h q links
 
--- a table without a rank, which has a word for each sequence and each step and no other
+-- a table without a rank, which has these words and no other
 pub record Unranked (h : Head) (q : Asked) (T : List ℕ) : Type 0 where
-  pub long : length T ≡ q .none + h .steps
+  pub long : length T ≡ ranksLength h q
   pub empty : (k : ℕ) → getD T k (q .none) ≡ q .none
 
 -- ---- the tables, whatever image they are of
 
--- what is asked of the tables that the ranks are worked out in: each has a word for each sequence and each step
+-- what is asked of the tables that the ranks are worked out in: each has a word for each sequence and each item
 pub record Findable (q : Asked) (n : ℕ) (masks ahead behind links part places callers order : List ℕ) : Type 0 where
-  pub steppable : Steppable q masks links
+  pub items : ItemsRankable q masks links
   pub rankable : Rankable (q .none) links part
   pub ahead-long : length ahead ≡ length links
   pub behind-long : length behind ≡ length links

@@ -14,7 +14,8 @@ use question::asked::UNTOUCHED_MARK;
 use question::asked::in_range;
 use question::asked::out_of_range;
 use question::asked::read_question;
-use rank::entry::write_step_ranks;
+use rank::entry::FIRST_STEP;
+use rank::entry::write_item_ranks;
 use rank::settle::settle;
 use reader::check::check;
 use tables::prepare::prepare;
@@ -31,21 +32,23 @@ ghost use mathlib.Core.Bool.{true};
 ghost use Prim.Native.Nat.{_<_};
 ghost use Rattle.settling.specs.Settling.{Scheduled};
 ghost use Rattle.tables.specs.Tables.{isSmall};
-ghost use Rattle.rank.specs.Tables.{Steppable, RanksVisitable, Ranked};
+ghost use Rattle.rank.specs.Tables.{ItemsRankable, RanksVisitable, Ranked};
 ghost use Rattle.chain.specs.Described.{FindAsked, AreasAsked, AnswerFound, Findable, EntriesMarked, Found};
 ghost use Rattle.rules.specs.Checked.{accepts};
 ghost use Rattle.question.specs.Reply.{ChainCalled};
 
-// A table of ranks has a word for each sequence, two between, and a word for each step.
+// A table of ranks has a word for each sequence, two between, those of the checks, and a word for each step.
 pub const SMALL_RANKS: usize = SMALL_SEQUENCES as usize
     + NO_RANK_ABOVE as usize
+    + FIRST_STEP as usize
     + SMALL_STEPS as usize;
 
 pub const MOST_RANKS: usize = MOST_SEQUENCES as usize
     + NO_RANK_ABOVE as usize
+    + FIRST_STEP as usize
     + MOST_STEPS as usize;
 
-// Ranks the steps by one question and the sequences by another, in a table that has no rank yet.
+// Ranks the items by one question and the sequences by another, in a table that has no rank yet.
 fn rank(
     all: bool,
     p: Asked,
@@ -60,10 +63,10 @@ fn rank(
     ranks: &mut [u32],
     n: usize,
 )
-    requires { ⌜ Steppable p (now masks) (now ranks) × RanksVisitable q n (now ahead) (now behind) (now ranks) (now part) (now places) × Scheduled n (now part) (now places) (now callers) (now order) ⌝ }
+    requires { ⌜ ItemsRankable p (now masks) (now ranks) × RanksVisitable q n (now ahead) (now behind) (now ranks) (now part) (now places) × Scheduled n (now part) (now places) (now callers) (now order) ⌝ }
     ensures { λ _. ⌜ Ranked all p q n (now (masks .entry)) (now (ahead .entry)) (now (behind .entry)) (now (part .entry)) (now (places .entry)) (now (ranks .entry)) (now (ranks .exit)) ⌝ }
 {
-    write_step_ranks(all, p, masks, ranks);
+    write_item_ranks(all, p, masks, ranks);
     settle(q, ahead, behind, part, places, callers, order, ranks, n);
 }
 
@@ -195,7 +198,7 @@ fn find_in(
     let mut places = [0u32; MOST_PLACES];
     let mut order = [0usize; MOST_PLACES];
     let n = h.sequences as usize;
-    let words = q.none as usize + h.steps as usize;
+    let words = q.none as usize + FIRST_STEP as usize + h.steps as usize;
     let part = sequences_part(image);
     prepare(h, image, masks, &mut places, callers, &mut order);
     find_by(

@@ -9,9 +9,10 @@ use native.Mathlib.Nat.{le-of-suc-le-suc, zero-add}
 use native.Mathlib.Numerals.{one-add}
 use native.Mathlib.Omega.{arith}
 use mathlib.Core.Path.{_≡_, refl, sym, ap, _∙_, subst}
-use mathlib.Core.Bool.{Bool, true, false, cond}
+use mathlib.Core.Bool.{Bool, true, false, cond, or-false}
 use mathlib.Core.List.{List, [], _∷_, _++_}
 use lib.ListN.{length, getD, take, drop}
+use lib.Dec.{eqb}
 use borrow.Author.Tests.{eq-eqb, ne-eqb, eqb-true}
 use mir.Val.{boolByte}
 use Rattle.image.specs.Word.{kind, payload, isKind, isEntry}
@@ -50,6 +51,10 @@ call-entry w k = rw k
 pub has-none : (f : ℕ) → has f [] ≡ false
 unfolding has
 has-none f = refl
+
+pub has-one : (f g : ℕ) → has f (g ∷ []) ≡ eqb g f
+unfolding has
+has-one f g = or-false (eqb g f)
 
 -- ---- one word of the decoding
 

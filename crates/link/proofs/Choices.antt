@@ -12,9 +12,9 @@ use mathlib.Core.List.{List, [], _∷_}
 use lib.ListN.{length, getD, drop, List·getD-eq-default}
 use lib.Dec.{leb, ltb}
 use borrow.Author.Tests.{lt-ltb, le-ltb}
-use Rattle.image.specs.Word.{payload, isKind, isEntry}
-use Rattle.library.specs.Library.{Entry, step, item, call, Alternative, entriesFrom, alternativesFrom, entryAt}
-use Rattle.library.specs.Walk.{entryOf, Before, openerBefore, LastBefore, AllBefore}
+use Rattle.image.specs.Word.{payload, isEntry}
+use Rattle.library.specs.Library.{step, Entry, item, entryOf, Alternative, entriesFrom, alternativesFrom, entryAt}
+use Rattle.library.specs.Walk.{Before, openerBefore, LastBefore, AllBefore}
 use Rattle.general.specs.Scan.{every, lastIndex}
 use Rattle.chains.specs.Link.{touchLink}
 use Rattle.chains.specs.Answer.{newest}
@@ -25,6 +25,7 @@ use Rattle.library.specs.declared.walk.Alternatives.{Alternatives}
 use Rattle.rank.specs.declared.entry.Traits.{Traits}
 use Rattle.library.proofs.Walking.{Folding, folding-start, folding-inside, folding-turn, folding-read, folding-entry, folding-out}
 use Rattle.library.proofs.Before.{before-few, Back, before-back}
+use Rattle.rank.proofs.Slots.{entry-number}
 use Rattle.rank.proofs.Walk.{tail-from}
 
 -- ---- the newest alternative that passes a test
@@ -84,14 +85,6 @@ unfolding tailFrom
 tail-cons test i start e es b traits = rw (add-one i) (ap (λ (x : Bool). tailFrom test (suc i) (cond x start (suc i)) es) traits)
 
 -- ---- the first position of an alternative
-
--- the number that a word names
-entry-number : (w : ℕ) → entryNumber (entryOf w) ≡ payload w
-entry-number w = go (isKind 8 w)
-  where
-    go : (b : Bool) → entryNumber (cond b (item (step (payload w))) (call (payload w))) ≡ payload w
-    go true = refl
-    go false = refl
 
 module _ (none : ℕ) (ahead behind ranks part : List ℕ) (k : ℕ) where
   abbrev rank : Entry → ℕ

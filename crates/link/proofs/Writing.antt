@@ -12,13 +12,13 @@ use lib.ListN.{length, getD, set, drop, length-append, length-drop}
 use lib.Seq.{set-at, drop-cons}
 use lib.Dec.{eqb, leb, ltb}
 use borrow.Author.Tests.{eq-eqb, ne-eqb, lt-ltb, le-ltb, leb-true}
-use Rattle.image.specs.Word.{payload, isKind}
 use Rattle.general.specs.Tests.{All}
-use Rattle.library.specs.Library.{Entry, step, item, call, alternativesFrom, entryAt}
-use Rattle.library.specs.Walk.{entryOf, alternativesAt}
+use Rattle.library.specs.Library.{step, Entry, item, entryOf, alternativesFrom, entryAt}
+use Rattle.library.specs.Walk.{alternativesAt}
 use Rattle.question.specs.Answer.{linkLength, linkCount, byRank, shownLinks}
 use Rattle.chains.specs.Link.{Link, touchLink, choiceWord, linkWords, chainWords}
 use Rattle.rank.specs.Tables.{entryNumber}
+use Rattle.rank.proofs.Slots.{entry-number}
 use Rattle.link.specs.Choice.{linkIn, alternativeIn, Chosen, linkEntry, linkAt, linksIn, untouchedIn, untouchedWords, answerIn}
 use Rattle.link.specs.declared.link.Choice.{Choice}
 use Rattle.chains.specs.Answer.{Answer, none, shown}
@@ -37,11 +37,7 @@ abbrev Low : Entry → Type 0
 Low e = entryNumber e < 2 ^ 28
 
 word-low : (w : ℕ) → Low (entryOf w)
-word-low w = go (isKind 8 w)
-  where
-    go : (b : Bool) → Low (cond b (item (step (payload w))) (call (payload w)))
-    go true = omega arith
-    go false = omega arith
+word-low w = omega (arith, entry-number w)
 
 pub entry-low : (ws : List ℕ) (i p : ℕ) → Low (entryAt (getD (alternativesFrom ws) i []) p)
 entry-low ws i p =

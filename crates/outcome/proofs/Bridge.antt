@@ -13,6 +13,7 @@ use Rattle.general.specs.Tests.{All}
 use Rattle.library.specs.Accepted.{Named}
 use Rattle.library.specs.Tables.{maskOf}
 use Rattle.image.specs.declared.answer.Head.{Head}
+use Rattle.library.proofs.Decode.{has-none, has-one}
 use Rattle.library.proofs.Lookup.{mask-bit, mask-lt}
 use Rattle.general.specs.Tests.{some}
 use Rattle.runs.specs.Domain.{actionOf}
@@ -68,10 +69,10 @@ module _ (L : Library) (h : Head) (steps table : List ℕ) (narrow : L .facts �
 
   -- a check's row
   check-row : (g : ℕ) → g < L .facts → Agree (checkRow all g) (rows.itemRow L f (check g))
-  unfolding Agree all has
+  unfolding Agree all
   check-row g l j k =
       check-bits (L .facts) g f below narrow (omega arith) j k
-      ∙ ap (λ (b : Bool). touchRow true b false false j) (sym (or-false (eqb g f))) ∙ sym (itemRow-touch L f (check g) j)
+      ∙ sym (itemRow-touch L f (check g) j ∙ (λ i. touchRow true (has-one f g i) (has-none f i) (has-none f i) j))
 
   -- rows that agree before an entry agree after it
   join-entry : (X : Row) (R : rows.Row) (Y : Row) (S : rows.Row) → Agree X R → Agree Y S → Agree (joinRows X Y) (joinRow R S)

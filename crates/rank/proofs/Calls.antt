@@ -18,7 +18,7 @@ use Rattle.callers.proofs.Calls.{calls-all}
 use Rattle.settling.proofs.Stale.{Local}
 use Rattle.question.specs.declared.asked.Asked.{Asked}
 use Rattle.rank.specs.Walk.{loweredFrom, depthFrom, fewestFrom}
-use Rattle.rank.specs.Tables.{rankIn, passIn, lookIn, visitedRank, visitedRanks}
+use Rattle.rank.specs.Tables.{itemRank, rankIn, passIn, lookIn, visitedRank, visitedRanks}
 
 -- ---- what is made of entries depends on what is said of each
 
@@ -68,7 +68,7 @@ lowered-again v r (es ∷ alts) =
     let rest = lowered-again v r alts in
     omega arith
 
--- ---- two tables with the same ranks of the steps and of the sequences called
+-- ---- two tables with the same ranks of the items and of the sequences called
 
 module _ (q : Asked) (ahead behind T U : List ℕ) where
   -- an entry has the same rank by both
@@ -106,7 +106,7 @@ module _ (q : Asked) (ahead behind part places : List ℕ) where
       lowered-same (lookIn q ahead behind (set T c s)) (lookIn q ahead behind T) r (alternativesAt part places d)
       (looks-local q ahead behind (set T c s) T (alternativesAt part places d)
       (calls-all (Same q ahead behind (set T c s) T)
-      (λ a past. ap (λ (D : List ℕ). getD D a past) (drop-set-lt (q .none) T c s low))
+      (λ x past. ap (λ (items : List ℕ). itemRank past items x) (drop-set-lt (q .none) T c s low))
       (alternativesAt part places d)
       (λ e called past.
       ap (λ (D : List ℕ). getD D e (q .none)) (take-set-lt (q .none) T c s low)

@@ -62,7 +62,11 @@ rankable-at U e r =
     record {
       within = λ i l.
           let w = r .within i l in
-          record { step = λ k. omega (arith, w .step k); sequence = λ k. (w .sequence k .0, omega (arith, w .sequence k .1)) };
+          record {
+            step = λ k. omega (arith, w .step k);
+            check = λ k. omega (arith, w .check k);
+            sequence = λ k. (w .sequence k .0, omega (arith, w .sequence k .1));
+          };
     }
 
 pub readable-at : {none : ℕ} {ahead behind T part : List ℕ} (U : List ℕ) → length U ≡ length T → RanksReadable none ahead behind T part
@@ -75,11 +79,11 @@ visitable-at U e v =
     record { readable = readable-at U e (v .readable); low = v .low; ranked = omega (arith, v .ranked); placed = v .placed; within = v .within }
 
 -- Where the words hold the alternatives of each sequence, and the tables say of an alternative what the look says, visits lower the ranks
--- of the sequences as the definitions do, and those of the steps stay.
-module _ (q : Asked) (ahead behind part places steps : List ℕ) (S : List Sequence) (look : Look) (none n : ℕ) (count : n ≡ length S) (low : n ≤ none)
-    (absent : q .none ≡ none) (looks : (T : List ℕ) → drop none T ≡ steps → lookIn q ahead behind T ≡ look (inRanks none T))
+-- of the sequences as the definitions do, and those of the items stay.
+module _ (q : Asked) (ahead behind part places items : List ℕ) (S : List Sequence) (look : Look) (none n : ℕ) (count : n ≡ length S) (low : n ≤ none)
+    (absent : q .none ≡ none) (looks : (T : List ℕ) → drop none T ≡ items → lookIn q ahead behind T ≡ look (inRanks none T))
     (reads : (c : ℕ) → c < n → alternativesFrom (drop (getD places c 0 + 1) part) ≡ alternativesOf S c) where
-  visit-same : (T : List ℕ) (c : ℕ) → c < n → drop none T ≡ steps
+  visit-same : (T : List ℕ) (c : ℕ) → c < n → drop none T ≡ items
       → take none (visitedRanks q ahead behind part places T c) ≡ visited S look none (take none T) c
   visit-same T c lt kept =
       take-set-lt none T c (visitedRank q ahead behind part places T c) (omega arith)
@@ -93,19 +97,19 @@ module _ (q : Asked) (ahead behind part places steps : List ℕ) (S : List Seque
   visit-keeps : (T : List ℕ) (c : ℕ) → c < n → drop none (visitedRanks q ahead behind part places T c) ≡ drop none T
   visit-keeps T c lt = drop-set-lt none T c (visitedRank q ahead behind part places T c) (omega arith)
 
-  reached-kept : {before after : List ℕ} → settling.Reached (visitedRanks q ahead behind part places) n before after → drop none before ≡ steps
-      → drop none after ≡ steps
+  reached-kept : {before after : List ℕ} → settling.Reached (visitedRanks q ahead behind part places) n before after → drop none before ≡ items
+      → drop none after ≡ items
   reached-kept settling.here kept = kept
   reached-kept (settling.next {table = T} c lt r) kept = visit-keeps T c lt ∙ reached-kept r kept
 
-  reached-visits : {before after : List ℕ} → settling.Reached (visitedRanks q ahead behind part places) n before after → drop none before ≡ steps
+  reached-visits : {before after : List ℕ} → settling.Reached (visitedRanks q ahead behind part places) n before after → drop none before ≡ items
       → settling.Reached (visited S look none) n (take none before) (take none after)
   reached-visits settling.here kept = settling.here
   reached-visits {before} (settling.next {table = T} c lt r) kept =
       subst (settling.Reached (visited S look none) n (take none before)) (sym (visit-same T c lt (reached-kept r kept))) (settling.next c lt (reached-visits r kept))
 
-  module _ {before after : List ℕ} (kept : drop none before ≡ steps) (p : settling.Settles (visitedRanks q ahead behind part places) n before after) where
-    pub settled-kept : drop none after ≡ steps
+  module _ {before after : List ℕ} (kept : drop none before ≡ items) (p : settling.Settles (visitedRanks q ahead behind part places) n before after) where
+    pub settled-kept : drop none after ≡ items
     settled-kept = reached-kept (p .reached) kept
 
     pub settled-visits : Visits S look none (take none before) (take none after)

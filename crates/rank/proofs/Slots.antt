@@ -1,46 +1,97 @@
--- A table of ranks: the word of an entry, and the loop that writes those of the steps.
+-- A table of ranks: the word of an entry, and how those of the items are written, the steps' by a loop.
 -- Assumes nothing.
 use Prim.Native.Nat.{ℕ, _+_, _*_, _≤_, _<_}
 use native.Mathlib.Decide.{ℕ-discrete}
 use native.Mathlib.Omega.{arith}
-use mathlib.Core.Path.{_≡_, refl, sym, ap, _∙_}
+use mathlib.Core.Path.{_≡_, refl, sym, ap, _∙_, subst}
+use mathlib.Core.Logic.{⊎-elim}
 use mathlib.Core.Bool.{Bool, true, false, cond}
 use mathlib.Core.List.{List}
-use lib.ListN.{length, getD, set, length-set}
+use lib.ListN.{length, getD, set, drop, length-set}
 use lib.Seq.{getD-take, getD-drop, getD-set-same, getD-set-other}
-use borrow.Author.Tests.{eqb-true, eqb-false}
+use lib.Dec.{eqb}
 use Rattle.image.specs.Word.{kind, payload, isKind, isEntry}
-use Rattle.library.specs.Library.{step, item, call}
-use Rattle.library.specs.Walk.{entryOf}
-use Rattle.image.proofs.Words.{entry-kinds}
-use Rattle.rank.specs.Tables.{slotOf, rankIn, RankWithin, markOf, stepMark, stepRank, Stepped, Steppable}
+use Rattle.library.specs.Library.{step, check, Entry, item, call, entryOf}
+use Rattle.library.proofs.Decode.{step-entry, check-entry, call-entry}
+use Rattle.image.proofs.Words.{entry-cases}
+use Rattle.rank.specs.Tables.{otherCheck, ownCheck, firstStep, checkWord, entryNumber, slotOf, rankIn, RankWithin, markOf, stepMark, checkMark, markRank, ItemsRankable, ItemsRanked, checksWritten, StepsRanked}
 use Rattle.question.specs.declared.asked.Asked.{Asked}
 use Rattle.general.proofs.Scan.{getD-inside}
 
 -- ---- the word of an entry
 
-module _ (none w : ℕ) (T : List ℕ) (e : isEntry w ≡ true) (within : RankWithin none T w) where
-  pub slot-inside : slotOf none w < length T
-  slot-inside = go (isKind 8 w) refl
-    where
-      go : (b : Bool) → isKind 8 w ≡ b → payload w + cond b none 0 < length T
-      go true k = omega (arith, within .step (eqb-true (kind w) 8 k))
-      go false k = omega (arith, within .sequence (entry-kinds w e (eqb-false (kind w) 8 k)) .1)
+-- the number that a word names
+pub entry-number : (w : ℕ) → entryNumber (entryOf w) ≡ payload w
+entry-number w = go (isKind 8 w) (isKind 13 w)
+  where
+    go : (b d : Bool) → entryNumber (cond b (item (step (payload w))) (cond d (item (check (payload w))) (call (payload w)))) ≡ payload w
+    go true d = refl
+    go false true = refl
+    go false false = refl
 
-  pub slot-rank : (past : ℕ) → getD T (slotOf none w) 0 ≡ rankIn none past T (entryOf w)
-  slot-rank past = go (isKind 8 w) refl
+pub cond-low : (b : Bool) (n : ℕ) → cond b n 0 ≤ n
+cond-low true n = omega arith
+cond-low false n = omega arith
+
+pub check-low : (own : Bool) → checkWord own ≤ ownCheck
+check-low true = omega arith
+check-low false = omega arith
+
+-- the fact that the table is about, by the words of the items
+pub about-word : (none : ℕ) (T : List ℕ) → getD (drop none T) 0 0 ≡ getD T none 0
+about-word none T = let same : none + 0 ≡ none = omega arith in getD-drop none T 0 0 ∙ ap (λ (n : ℕ). getD T n 0) same
+
+module _ (none w : ℕ) (T : List ℕ) where
+  -- by whether the word is a check
+  pub slot-by : (b : Bool) → isKind 13 w ≡ b
+      → slotOf none T w ≡ cond b (none + checkWord (eqb (payload w) (getD T none 0))) (payload w + cond (isKind 8 w) (none + firstStep) 0)
+  slot-by b e = ap (λ (x : Bool). cond x (none + checkWord (eqb (payload w) (getD T none 0))) (payload w + cond (isKind 8 w) (none + firstStep) 0)) e
+
+  -- by the kind of the word
+  step-slot : kind w ≡ 8 → slotOf none T w ≡ none + firstStep + payload w
+  step-slot k = rw k (omega arith)
+
+  check-slot : kind w ≡ 13 → slotOf none T w ≡ none + checkWord (eqb (payload w) (getD T none 0))
+  check-slot k = rw k
+
+  call-slot : kind w ≡ 9 → slotOf none T w ≡ payload w
+  call-slot k = rw k (omega arith)
+
+  pub slot-inside : RankWithin none T w → isEntry w ≡ true → slotOf none T w < length T
+  slot-inside within e =
+      ⊎-elim (λ k. omega (arith, step-slot k, within .step k))
+      (λ s. ⊎-elim (λ k. omega (arith, call-slot k, within .sequence k .1))
+      (λ k. omega (arith, check-slot k, within .check k, check-low (eqb (payload w) (getD T none 0)))) s)
+      (entry-cases w e)
+
+  pub slot-rank : RankWithin none T w → isEntry w ≡ true → (past : ℕ) → getD T (slotOf none T w) 0 ≡ rankIn none past T (entryOf w)
+  slot-rank within e past =
+      getD-inside T (slotOf none T w) 0 past (slot-inside within e)
+      ∙ ⊎-elim by-step (λ s. ⊎-elim by-call by-check s) (entry-cases w e)
     where
       p : ℕ
       p = payload w
 
-      go : (b : Bool) → isKind 8 w ≡ b → getD T (p + cond b none 0) 0 ≡ rankIn none past T (cond b (item (step p)) (call p))
-      go true k =
-          let swap : p + none ≡ none + p = omega arith in
-          ap (λ (n : ℕ). getD T n 0) swap ∙ getD-inside T (none + p) 0 past (within .step (eqb-true (kind w) 8 k)) ∙ sym (getD-drop none T p past)
-      go false k =
-          let inside = within .sequence (entry-kinds w e (eqb-false (kind w) 8 k)) in
-          let same : p + 0 ≡ p = omega arith in
-          ap (λ (n : ℕ). getD T n 0) same ∙ getD-inside T p 0 none (inside .1) ∙ sym (getD-take none T p none (inside .0))
+      -- the word, and the entry that it names
+      named : (i : ℕ) (x : Entry) → slotOf none T w ≡ i → getD T i past ≡ rankIn none past T x → entryOf w ≡ x
+          → getD T (slotOf none T w) past ≡ rankIn none past T (entryOf w)
+      named i x slot rank entry = ap (λ (n : ℕ). getD T n past) slot ∙ rank ∙ ap (rankIn none past T) (sym entry)
+
+      by-step : kind w ≡ 8 → getD T (slotOf none T w) past ≡ rankIn none past T (entryOf w)
+      by-step k =
+          let at : slotOf none T w ≡ none + (firstStep + p) = step-slot k ∙ omega arith in
+          named (none + (firstStep + p)) (item (step p)) at (sym (getD-drop none T (firstStep + p) past)) (step-entry w k)
+
+      by-check : kind w ≡ 13 → getD T (slotOf none T w) past ≡ rankIn none past T (entryOf w)
+      by-check k =
+          let word = checkWord (eqb p (getD (drop none T) 0 0)) in
+          let at : slotOf none T w ≡ none + word = check-slot k ∙ ap (λ (g : ℕ). none + checkWord (eqb p g)) (sym (about-word none T)) in
+          named (none + word) (item (check p)) at (sym (getD-drop none T word past)) (check-entry w k)
+
+      by-call : kind w ≡ 9 → getD T (slotOf none T w) past ≡ rankIn none past T (entryOf w)
+      by-call k =
+          let inside = within .sequence k in
+          named p (call p) (call-slot k) (getD-inside T p past none (inside .1) ∙ sym (getD-take none T p none (inside .0))) (call-entry w k)
 
 -- ---- the ranks of the steps
 
@@ -59,31 +110,89 @@ side-mark q masks a side e = ap (λ (n : ℕ). markOf (q .fact) (getD masks (3 *
     go false = let next : 3 * a + 1 + 1 ≡ 3 * a + 2 = omega arith in ap (λ (n : ℕ). markOf (q .fact) (getD masks (3 * a + 1) 0) (getD masks n 0)) next
 
 module _ (all : Bool) (q : Asked) (masks before : List ℕ) where
+  -- the first word of the steps
+  abbrev base : ℕ
+  base = q .none + firstStep
+
   -- at the head: the ranks of the steps below a are written
   pub record Stepping (T : List ℕ) (a : ℕ) : Type 0 where
     pub long : length T ≡ length before
-    pub low : q .none + a ≤ length before
-    pub stays : (d : ℕ) → d < q .none → getD T d (q .none) ≡ getD before d (q .none)
-    pub ranked : (j : ℕ) → j < a → getD T (q .none + j) 0 ≡ stepRank all q masks j
+    pub low : base + a ≤ length before
+    pub stays : (i : ℕ) → i < base → (past : ℕ) → getD T i past ≡ getD before i past
+    pub ranked : (j : ℕ) → j < a → getD T (base + j) 0 ≡ markRank all q (stepMark q masks j)
 
-  pub stepping-start : Steppable q masks before → Stepping before 0
-  stepping-start s = record { long = refl; low = omega (arith, s .sequences); stays = λ d l. refl; ranked = λ j l. absurd (omega arith) }
+  pub stepping-start : ItemsRankable q masks before → Stepping before 0
+  stepping-start s = record { long = refl; low = omega (arith, s .room); stays = λ i l past. refl; ranked = λ j l. absurd (omega arith) }
 
   module _ (T : List ℕ) (a : ℕ) (here : Stepping T a) where
-    pub stepping-turn : q .none + a < length before → (r : ℕ) → r ≡ stepRank all q masks a → Stepping (set T (q .none + a) r) (a + 1)
+    pub stepping-turn : base + a < length before → (r : ℕ) → r ≡ markRank all q (stepMark q masks a) → Stepping (set T (base + a) r) (a + 1)
     stepping-turn l r rank =
         record {
-          long = length-set T (q .none + a) r ∙ here .long;
+          long = length-set T (base + a) r ∙ here .long;
           low = omega arith;
-          stays = λ d k. getD-set-other T (q .none + a) d r (q .none) (λ e. omega arith) ∙ here .stays d k;
+          stays = λ i k past. getD-set-other T (base + a) i r past (λ e. omega arith) ∙ here .stays i k past;
           ranked = λ j k.
               elim (ℕ-discrete j a) [
                 | yes e ↦
-                    ap (λ (i : ℕ). getD (set T (q .none + a) r) (q .none + i) 0) e
-                    ∙ getD-set-same T (q .none + a) r 0 (omega (arith, here .long)) ∙ rank ∙ ap (stepRank all q masks) (sym e)
-                | no e ↦ getD-set-other T (q .none + a) (q .none + j) r 0 (λ x. e (omega arith)) ∙ here .ranked j (omega arith)
+                    ap (λ (i : ℕ). getD (set T (base + a) r) (base + i) 0) e
+                    ∙ getD-set-same T (base + a) r 0 (omega (arith, here .long)) ∙ rank ∙ ap (λ (i : ℕ). markRank all q (stepMark q masks i)) (sym e)
+                | no e ↦ getD-set-other T (base + a) (base + j) r 0 (λ x. e (omega arith)) ∙ here .ranked j (omega arith)
               ];
         }
 
-    pub stepping-end : length before ≤ q .none + a → Stepped all q masks before T
+    pub stepping-end : length before ≤ base + a → StepsRanked all q masks before T
     stepping-end le = record { long = here .long; stays = here .stays; ranked = λ j l. here .ranked j (omega arith) }
+
+  -- the checks and then the steps
+  pub items-ranked : (between after : List ℕ) → ItemsRankable q masks before → between ≡ checksWritten all q before → StepsRanked all q masks between after
+      → ItemsRanked all q masks before after
+  items-ranked between after asked written by-steps =
+      record {
+        long = steps .long ∙ long-three;
+        stays = λ d l.
+            steps .stays d (omega arith) none
+            ∙ getD-set-other two (none + ownCheck) d (rank true) none (λ e. omega arith)
+            ∙ getD-set-other one (none + otherCheck) d (rank false) none (λ e. omega arith)
+            ∙ getD-set-other before none d (q .fact) none (λ e. omega arith);
+        about =
+            steps .stays none (omega arith) 0
+            ∙ getD-set-other two (none + ownCheck) none (rank true) 0 (λ e. omega arith)
+            ∙ getD-set-other one (none + otherCheck) none (rank false) 0 (λ e. omega arith)
+            ∙ getD-set-same before none (q .fact) 0 (omega (arith, asked .room));
+        checks = checks;
+        steps = λ a l. steps .ranked a (omega (arith, long-three));
+      }
+    where
+      none : ℕ
+      none = q .none
+
+      rank : Bool → ℕ
+      rank own = markRank all q (checkMark q own)
+
+      one : List ℕ
+      one = set before none (q .fact)
+
+      two : List ℕ
+      two = set one (none + otherCheck) (rank false)
+
+      three : List ℕ
+      three = set two (none + ownCheck) (rank true)
+
+      long-one : length one ≡ length before
+      long-one = length-set before none (q .fact)
+
+      long-two : length two ≡ length before
+      long-two = length-set one (none + otherCheck) (rank false) ∙ long-one
+
+      long-three : length three ≡ length before
+      long-three = length-set two (none + ownCheck) (rank true) ∙ long-two
+
+      steps : StepsRanked all q masks three after
+      steps = subst (λ (T : List ℕ). StepsRanked all q masks T after) written by-steps
+
+      checks : (own : Bool) → getD after (none + checkWord own) 0 ≡ rank own
+      checks true = steps .stays (none + ownCheck) (omega arith) 0 ∙ getD-set-same two (none + ownCheck) (rank true) 0 (omega (arith, asked .room, long-two))
+      checks false =
+          steps .stays (none + otherCheck) (omega arith) 0
+          ∙ getD-set-other two (none + ownCheck) (none + otherCheck) (rank true) 0 (λ e. omega arith)
+          ∙ getD-set-same one (none + otherCheck) (rank false) 0 (omega (arith, asked .room, long-one))

@@ -1,16 +1,17 @@
 -- What tables of words say of an entry of an alternative, for the question that is asked: its rank, and whether it passes as one ahead of
--- the position or behind it. A table of ranks has a word for each sequence and, from word `none` on, one for each step. Crate `chain`
--- (proofs/Describes) shows that the tables of an accepted image say what `Ranks` says of its library.
+-- the position or behind it. A table of ranks has a word for each sequence and, from word `none` on, those of the items: the fact that it is
+-- about, the ranks of the two sorts of check, and a word for each step. Crate `chain` (proofs/Describes) shows that the tables of an accepted
+-- image say what `Ranks` says of its library.
 use Prim.Native.Nat.{ℕ, _+_, _*_, _≤_, _<_}
 use mathlib.Core.Path.{_≡_}
-use mathlib.Core.Bool.{Bool, true, cond, not, _||_}
+use mathlib.Core.Bool.{Bool, true, false, cond, not, _&&_, _||_}
 use mathlib.Core.List.{List}
 use lib.ListN.{length, getD, set, take, drop}
 use lib.Dec.{eqb, ltb}
 use Rattle.column.specs.Sets.{inColumn}
 use Rattle.image.specs.Word.{kind, payload, isKind, isEntry}
-use Rattle.library.specs.Library.{Alternative, Entry, step, item, call, entriesFrom}
-use Rattle.library.specs.Walk.{entryOf, walkEnd, alternativesAt}
+use Rattle.library.specs.Library.{Alternative, Item, step, check, Entry, item, call, entryOf, entriesFrom}
+use Rattle.library.specs.Walk.{walkEnd, alternativesAt}
 use Rattle.settling.specs.Settling.{Settles}
 use Rattle.general.specs.Scan.{every}
 use Rattle.chains.specs.Ranks.{Ranks}
@@ -24,21 +25,42 @@ use Rattle.rank.specs.declared.read.Read.{Read}
 -- the number that an entry names
 abbrev pub entryNumber : Entry → ℕ
 entryNumber (item (step a)) = a
+entryNumber (item (check f)) = f
 entryNumber (call d) = d
 
 -- ---- a table of ranks
 
+-- The words of the items, counted from word `none`: word 0 has the fact that the table is about, and these are the rank of a check of any
+-- other fact, the rank of a check of that fact, and the rank of the first step.
+abbrev pub otherCheck : ℕ
+otherCheck = 1
+
+abbrev pub ownCheck : ℕ
+ownCheck = 2
+
+abbrev pub firstStep : ℕ
+firstStep = 3
+
+-- the word of a check, by whether it is one of the fact that the table is about
+abbrev pub checkWord : Bool → ℕ
+checkWord own = cond own ownCheck otherCheck
+
 -- where the rank of the entry stands that a word names
-abbrev pub slotOf : ℕ → ℕ → ℕ
-slotOf none w = payload w + cond (isKind 8 w) none 0
+abbrev pub slotOf : ℕ → List ℕ → ℕ → ℕ
+slotOf none T w = cond (isKind 13 w) (none + checkWord (eqb (payload w) (getD T none 0))) (payload w + cond (isKind 8 w) (none + firstStep) 0)
 
 -- the ranks of the sequences in a table
 abbrev pub inRanks : ℕ → List ℕ → Ranks
 inRanks none T d = getD (take none T) d none
 
--- the rank of an entry, where `past` is that of a step past the table
+-- the rank of an item by the words of the items, where `past` is that of a step past the table
+abbrev pub itemRank : ℕ → List ℕ → Item → ℕ
+itemRank past items (step a) = getD items (firstStep + a) past
+itemRank past items (check f) = getD items (checkWord (eqb f (getD items 0 0))) past
+
+-- the rank of an entry
 abbrev pub rankIn : ℕ → ℕ → List ℕ → Entry → ℕ
-rankIn none past T (item (step a)) = getD (drop none T) a past
+rankIn none past T (item x) = itemRank past (drop none T) x
 rankIn none past T (call d) = inRanks none T d
 
 -- an entry that has a rank; a step past the table touches nothing and runs
@@ -85,7 +107,8 @@ lookIn q ahead behind ranks es =
 
 -- an entry has a word in a table
 pub record RankWithin (none : ℕ) (T : List ℕ) (w : ℕ) : Type 0 where
-  pub step : kind w ≡ 8 → none + payload w < length T
+  pub step : kind w ≡ 8 → none + firstStep + payload w < length T
+  pub check : kind w ≡ 13 → none + ownCheck < length T
   pub sequence : kind w ≡ 9 → (payload w < none) × (payload w < length T)
 
 -- each entry among the words has one
@@ -98,7 +121,7 @@ pub record RanksReadable (none : ℕ) (ahead behind ranks part : List ℕ) : Typ
   pub by-behind : Rankable none behind part
   pub by-ranks : Rankable none ranks part
 
--- ---- the ranks of the steps
+-- ---- the ranks of the items
 
 -- the mark that two columns give fact f, as a number: 0 by the first, otherwise 1 by the second, otherwise 2 for untouched
 abbrev pub markOf : ℕ → ℕ → ℕ → ℕ
@@ -110,24 +133,42 @@ stepMark q masks a =
     cond (q .first) (markOf (q .fact) (getD masks (3 * a) 0) (getD masks (3 * a + 1) 0))
     (markOf (q .fact) (getD masks (3 * a + 1) 0) (getD masks (3 * a + 2) 0))
 
--- the step has the mark asked for, or any will do
-abbrev pub markIn : Bool → Asked → List ℕ → ℕ → Bool
-markIn all q masks a = all || eqb (stepMark q masks a) (q .mark)
+-- "On the first side a check counts as a need" of its own fact; otherwise it leaves the fact untouched
+abbrev pub checkMark : Asked → Bool → ℕ
+checkMark q own = cond (q .first && own) 0 2
 
-abbrev pub stepRank : Bool → Asked → List ℕ → ℕ → ℕ
-stepRank all q masks a = cond (markIn all q masks a) 0 (q .none)
+-- the rank of an item with a mark: 0 where it is the mark asked for, or any will do, so that "a chain may end on one". A check "has depth 0",
+-- as a step has
+abbrev pub markRank : Bool → Asked → ℕ → ℕ
+markRank all q mark = cond (all || eqb mark (q .mark)) 0 (q .none)
 
--- the words of the steps are their ranks, and those of the sequences stay
-pub record Stepped (all : Bool) (q : Asked) (masks before after : List ℕ) : Type 0 where
+-- the words of the items are their ranks by the question, and those of the sequences stay
+pub record ItemsRanked (all : Bool) (q : Asked) (masks before after : List ℕ) : Type 0 where
   pub long : length after ≡ length before
   pub stays : (d : ℕ) → d < q .none → getD after d (q .none) ≡ getD before d (q .none)
-  pub ranked : (a : ℕ) → q .none + a < length before → getD after (q .none + a) 0 ≡ stepRank all q masks a
+  pub about : getD after (q .none) 0 ≡ q .fact
+  pub checks : (own : Bool) → getD after (q .none + checkWord own) 0 ≡ markRank all q (checkMark q own)
+  pub steps : (a : ℕ) → q .none + firstStep + a < length before
+      → getD after (q .none + firstStep + a) 0 ≡ markRank all q (stepMark q masks a)
 
--- what that asks: a word for each sequence, and three masks for each step that has a word
-pub record Steppable (q : Asked) (masks ranks : List ℕ) : Type 0 where
+-- what that asks: a word for each sequence, the three of the checks, and three masks for each step that has a word
+pub record ItemsRankable (q : Asked) (masks ranks : List ℕ) : Type 0 where
   pub fact : q .fact < 64
-  pub sequences : q .none ≤ length ranks
-  pub masked : 3 * length ranks ≤ length masks + 3 * q .none
+  pub room : q .none + firstStep ≤ length ranks
+  pub masked : 3 * length ranks ≤ length masks + 3 * (q .none + firstStep)
+
+-- the words of the checks alone
+abbrev pub checksWritten : Bool → Asked → List ℕ → List ℕ
+checksWritten all q T =
+    let rank : Bool → ℕ = λ own. markRank all q (checkMark q own) in
+    set (set (set T (q .none) (q .fact)) (q .none + otherCheck) (rank false)) (q .none + ownCheck) (rank true)
+
+-- the words of the steps alone
+pub record StepsRanked (all : Bool) (q : Asked) (masks before after : List ℕ) : Type 0 where
+  pub long : length after ≡ length before
+  pub stays : (i : ℕ) → i < q .none + firstStep → (past : ℕ) → getD after i past ≡ getD before i past
+  pub ranked : (a : ℕ) → q .none + firstStep + a < length before
+      → getD after (q .none + firstStep + a) 0 ≡ markRank all q (stepMark q masks a)
 
 -- ---- the alternatives of a sequence
 
@@ -158,9 +199,9 @@ module _ (q : Asked) (ahead behind part places : List ℕ) where
   abbrev pub visitedRanks : List ℕ → ℕ → List ℕ
   visitedRanks ranks c = set ranks c (visitedRank ranks c)
 
--- a table of ranks that is made from one without a rank: those of the steps are written by the question p, then those of the sequences below
+-- a table of ranks that is made from one without a rank: those of the items are written by the question p, then those of the sequences below
 -- n lowered by the question q until no visit changes them
 pub record Ranked (all : Bool) (p q : Asked) (n : ℕ) (masks ahead behind part places before after : List ℕ) : Type 0 where
   pub start : List ℕ
-  pub steps : Stepped all p masks before start
+  pub items : ItemsRanked all p masks before start
   pub settled : Settles (visitedRanks q ahead behind part places) n start after

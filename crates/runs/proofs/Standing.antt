@@ -10,6 +10,7 @@ use mathlib.Core.Bool.{Bool, true, false, cond, _&&_, _||_, false≢true, true�
 use mathlib.Core.List.{List, [], _∷_}
 use lib.Dec.{eqb}
 use Rattle.library.specs.Library.{has, Library, Entry, item, call, Item, step, check}
+use Rattle.library.proofs.Decode.{has-none, has-one}
 use Rattle.general.proofs.Bools.{and-parts, and-both, or-cases, or-left, or-right}
 use Rattle.runs.specs.Domain.{actionOf}
 use Rattle.runs.specs.Touch.{Mark, present, absent, untouched, last}
@@ -40,28 +41,26 @@ marks-none true false needs = ((λ e. absurd (false≢true (ap (sameMark untouch
 marks-none false false true = ((λ e. absurd (false≢true (ap (sameMark untouched) e))), λ p. absurd (true≢false p))
 marks-none false false false = ((λ e. refl), λ p. refl)
 
-check-present : (b : Bool) → (cond (b || false) present untouched ≡ present) ↔ ((b ≡ true) × (false ≡ false))
+check-present : (b : Bool) → (cond b present untouched ≡ present) ↔ ((b ≡ true) × (false ≡ false))
 check-present true = ((λ e. (refl, refl)), λ p. refl)
 check-present false = ((λ e. absurd (false≢true (ap (sameMark present) e))), λ p. absurd (false≢true (p .0)))
 
-check-none : (b : Bool) → (cond (b || false) present untouched ≡ untouched) ↔ (b ≡ false)
+check-none : (b : Bool) → (cond b present untouched ≡ untouched) ↔ (b ≡ false)
 check-none true = ((λ e. absurd (false≢true (ap (sameMark untouched) e))), λ p. absurd (true≢false p))
 check-none false = ((λ e. refl), λ p. refl)
 
 module _ (L : Library) (f : ℕ) where
   item-present : (x : Item) → (viewMark L standing f x ≡ present) ↔ ((mentions L f x ≡ true) × (clears L f x ≡ false))
-  unfolding has
   item-present (step a) =
       let s = actionOf L (step a) in
       marks-present (has f (s .sets)) (has f (s .clears)) (has f (s .needs))
-  item-present (check g) = check-present (eqb g f)
+  item-present (check g) = rw (has-none f, has-one f g) (check-present (eqb g f))
 
   item-none : (x : Item) → (viewMark L standing f x ≡ untouched) ↔ (mentions L f x ≡ false)
-  unfolding has
   item-none (step a) =
       let s = actionOf L (step a) in
       marks-none (has f (s .sets)) (has f (s .clears)) (has f (s .needs))
-  item-none (check g) = check-none (eqb g f)
+  item-none (check g) = rw (has-none f, has-one f g) (check-none (eqb g f))
 
   -- a run's outcome is that the fact stands exactly where "the last item that sets, clears, needs or checks the fact is there and does not clear
   -- it"

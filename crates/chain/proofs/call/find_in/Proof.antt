@@ -30,6 +30,12 @@ cast-words-2 c = search needs
 add-words : tie.Need-add-words
 add-words c = search needs
 
+cast-words-3 : tie.Need-cast-words-3
+cast-words-3 c = search needs
+
+add-words-2 : tie.Need-add-words-2
+add-words-2 c = search needs
+
 sequences-part-requires : tie.Need-sequences-part-requires
 sequences-part-requires c κs = let start = c .before .before .before .before .before .before .before .before .before .before in image-long (start .args .image .now) (start .args .h) (start .pre .0 .accepted)
 
@@ -127,6 +133,8 @@ find-in-spec =
     cast-words
     cast-words-2
     add-words
+    cast-words-3
+    add-words-2
     sequences-part-requires
     slice-aggregate-prepare
     slice-aggregate-prepare-2

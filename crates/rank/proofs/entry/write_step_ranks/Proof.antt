@@ -4,21 +4,30 @@ use borrow.Author.Needs.{needs}
 use native.Mathlib.Omega.{arith}
 use Prim.Native.Nat.{_+_, _-_}
 use lib.ListN.{length}
+use mathlib.Core.Path.{ap, _∙_}
+use Rattle.rank.specs.Tables.{firstStep, markRank}
 use Rattle.rank.proofs.Slots.{Stepping, stepping-start, stepping-turn, stepping-end}
 use Rattle.rank.proofs.entry.write_step_ranks.Statement.{statement}
 use Rattle.rank.proofs.entry.write_step_ranks.Tie as tie
 use Rattle.rank.proofs.entry.write_step_ranks.Reads as reads
 use Rattle.rank.proofs.entry.write_step_ranks.Lts as lts
-use Rattle.rank.proofs.entry.step_rank.Reads as step-rank-reads
+use Rattle.rank.proofs.entry.step_mark.Reads as step-mark-reads
+use Rattle.rank.proofs.entry.mark_rank.Reads as mark-rank-reads
 
 abbrev Inv-loop : tie.InvT-loop
 Inv-loop all q masks ranks₀ base a₀ ranks a = Stepping all q masks ranks₀ ranks a
 
 abbrev μ-loop : tie.MeasureT-loop
-μ-loop all q masks ranks₀ base a₀ ranks a = length ranks₀ - (q .none + a)
+μ-loop all q masks ranks₀ base a₀ ranks a = length ranks₀ - (q .none + firstStep + a)
 
 cast-base : tie.Need-cast-base Inv-loop μ-loop
 cast-base c = search needs
+
+cast-base-2 : tie.Need-cast-base-2 Inv-loop μ-loop
+cast-base-2 c = search needs
+
+add-base : tie.Need-add-base Inv-loop μ-loop
+add-base c = search needs
 
 loop-holds : tie.Need-loop-holds Inv-loop μ-loop
 loop-holds c =
@@ -29,11 +38,14 @@ loop-holds c =
 add-loop : tie.Need-add-loop Inv-loop μ-loop
 add-loop c = omega (arith, c .loop .inv .low, c .before .before .before .before .good)
 
-step-rank-requires : tie.Need-step-rank-requires Inv-loop μ-loop
-step-rank-requires c κs =
+step-mark-requires : tie.Need-step-mark-requires Inv-loop μ-loop
+step-mark-requires c κs =
     let at-loop = c .before in
     let start = at-loop .before .before .before .before in
     (start .pre .fact, omega (arith, c .loop-test .taken, at-loop .loop .inv .long, start .pre .masked))
+
+mark-rank-requires : tie.Need-mark-rank-requires Inv-loop μ-loop
+mark-rank-requires c κs = search needs
 
 add-ranks : tie.Need-add-ranks Inv-loop μ-loop
 add-ranks c = search needs
@@ -52,11 +64,13 @@ loop-less c = search needs
 
 loop-again : tie.Need-loop-again Inv-loop μ-loop
 loop-again c =
-    let turn = c .before in
+    let mark = c .before in
+    let turn = mark .before in
     let at-loop = turn .before in
     let a = at-loop .before .before .before .before .args in
     stepping-turn (a .all) (a .q) (a .masks .now) (a .ranks .now) (at-loop .loop .ranks) (at-loop .loop .a) (at-loop .loop .inv)
-    (omega (arith, turn .loop-test .taken, at-loop .loop .inv .long)) _ (c .step-rank .ensures)
+    (omega (arith, turn .loop-test .taken, at-loop .loop .inv .long)) _
+    (c .mark-rank .ensures ∙ ap (markRank (a .all) (a .q)) (mark .step-mark .ensures))
 
 same-length : tie.Need-same-length Inv-loop μ-loop
 same-length c = search needs
@@ -75,9 +89,12 @@ write-step-ranks-spec =
     Inv-loop
     μ-loop
     cast-base
+    cast-base-2
+    add-base
     loop-holds
     add-loop
-    step-rank-requires
+    step-mark-requires
+    mark-rank-requires
     add-ranks
     mul-ranks
     slice-write-ranks
