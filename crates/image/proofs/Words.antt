@@ -1,6 +1,7 @@
 -- The kinds of fact words and of entries.
 -- Assumes nothing.
-use Prim.Native.Nat.{ℕ, _≤_}
+use Prim.Native.Nat.{ℕ, zero, suc, _/_, _%_, _^_, _≤_, _<_}
+use lib.Dec.{eqb}
 use native.Mathlib.Omega.{arith}
 use mathlib.Core.Path.{_≡_, refl}
 use mathlib.Core.Bool.{Bool, true, false, _||_}
@@ -42,3 +43,26 @@ entry-kinds w e step check = ⊎-elim (λ k. absurd (step k)) (λ k. ⊎-elim (�
 
 pub entry-high : (w : ℕ) → isEntry w ≡ true → 8 ≤ kind w
 entry-high w e = ⊎-elim (λ k. omega arith) (λ k. ⊎-elim (λ l. omega arith) (λ l. omega arith) k) (entry-cases w e)
+
+-- the kinds of entries as the bits of a number
+kind-bit : (k : ℕ) → k < 16 → eqb (0x2300 / 2 ^ k % 2) 1 ≡ (eqb k 8 || eqb k 9 || eqb k 13)
+kind-bit zero l = refl
+kind-bit (suc zero) l = refl
+kind-bit (suc (suc zero)) l = refl
+kind-bit (suc (suc (suc zero))) l = refl
+kind-bit (suc (suc (suc (suc zero)))) l = refl
+kind-bit (suc (suc (suc (suc (suc zero))))) l = refl
+kind-bit (suc (suc (suc (suc (suc (suc zero)))))) l = refl
+kind-bit (suc (suc (suc (suc (suc (suc (suc zero))))))) l = refl
+kind-bit (suc (suc (suc (suc (suc (suc (suc (suc zero)))))))) l = refl
+kind-bit (suc (suc (suc (suc (suc (suc (suc (suc (suc zero))))))))) l = refl
+kind-bit (suc (suc (suc (suc (suc (suc (suc (suc (suc (suc zero)))))))))) l = refl
+kind-bit (suc (suc (suc (suc (suc (suc (suc (suc (suc (suc (suc zero))))))))))) l = refl
+kind-bit (suc (suc (suc (suc (suc (suc (suc (suc (suc (suc (suc (suc zero)))))))))))) l = refl
+kind-bit (suc (suc (suc (suc (suc (suc (suc (suc (suc (suc (suc (suc (suc zero))))))))))))) l = refl
+kind-bit (suc (suc (suc (suc (suc (suc (suc (suc (suc (suc (suc (suc (suc (suc zero)))))))))))))) l = refl
+kind-bit (suc (suc (suc (suc (suc (suc (suc (suc (suc (suc (suc (suc (suc (suc (suc zero))))))))))))))) l = refl
+kind-bit (suc (suc (suc (suc (suc (suc (suc (suc (suc (suc (suc (suc (suc (suc (suc (suc k)))))))))))))))) l = absurd (omega arith)
+
+pub entry-bit : (w : ℕ) → w < 2 ^ 32 → eqb (0x2300 / 2 ^ kind w % 2) 1 ≡ isEntry w
+entry-bit w l = kind-bit (kind w) (omega arith)

@@ -16,13 +16,13 @@ use row::words::row_at;
 use row::words::start;
 use row::words::united;
 ghost use mathlib.Core.Path.{_≡_};
-ghost use mathlib.Core.Bool.{true};
-ghost use Prim.Native.Nat.{_≤_};
+ghost use mathlib.Core.Bool.{true, false};
+ghost use Prim.Native.Nat.{_≤_, _<_};
 ghost use lib.ListN.{length, drop};
-ghost use Rattle.image.specs.Word.{isEntry};
+ghost use Rattle.image.specs.Word.{payload, isKind, isEntry, mostFacts};
 ghost use Rattle.library.specs.Library.{alternativesFrom};
 ghost use Rattle.library.specs.Walk.{entryOf};
-ghost use Rattle.row.specs.Words.{noRow};
+ghost use Rattle.row.specs.Words.{noRow, checkRow};
 ghost use Rattle.outcome.specs.Walks.{RowWithin, RowsReadable, entryIn, unitedFrom, AlternativeFolded, EmptiesEnd};
 
 // The row of an alternative, and the index at which the walk over its entries ended: that of the first dead one, or of the word after them.
@@ -31,18 +31,23 @@ pub struct Read {
     pub ended: usize,
 }
 
-// The row of an entry, by the rows of the steps and of the sequences. That of a check is made of its fact.
-fn entry_row(all: u64, steps: &[u64], table: &[u64], w: u32) -> Row
-    requires { ⌜ RowWithin all (now steps) (now table) w × (isEntry w ≡ true) ⌝ }
+// The row of an entry that names a step or a sequence.
+fn named_row(all: u64, steps: &[u64], table: &[u64], w: u32) -> Row
+    requires { ⌜ RowWithin all (now steps) (now table) w × (isEntry w ≡ true) × (isKind 13 w ≡ false) ⌝ }
     ensures { λ r. ⌜ r ≡ entryIn all (now (steps .entry)) (now (table .entry)) (entryOf w) ⌝ }
 {
     if is_kind(KIND_STEP_ENTRY, w) {
         return row_at(steps, payload_of(w) as usize);
     }
-    if is_kind(KIND_CHECK, w) {
-        return of_check(all, payload_of(w));
-    }
     row_at(table, payload_of(w) as usize)
+}
+
+// The row of an entry that is a check, made of its fact.
+fn check_row(all: u64, w: u32) -> Row
+    requires { ⌜ payload w < mostFacts ⌝ }
+    ensures { λ r. ⌜ r ≡ checkRow all (payload w) ⌝ }
+{
+    of_check(all, payload_of(w))
 }
 
 // What is answered where a walk is left at a dead entry: nothing is possible.
@@ -56,7 +61,8 @@ fn left_at(i: usize) -> Read
 }
 
 // Reads the entries that stand from index `at` on. The walk ends at the first that names a sequence not found to have a run: nothing further can
-// count. A step and a check have one, so their rows pass the same test.
+// count. A step has one, so its row passes the same test. A check has one too; it is joined apart, so that the rows of the others are joined from
+// their tables without a copy.
 fn read_alternative(all: u64, steps: &[u64], table: &[u64], part: &[u32], at: usize) -> Read
     requires { ⌜ RowsReadable all (now steps) (now table) (now part) × (at ≤ length (now part)) ⌝ }
     ensures { λ r. ⌜ AlternativeFolded all (now (steps .entry)) (now (table .entry)) (now (part .entry)) at r ⌝ }
@@ -71,12 +77,17 @@ fn read_alternative(all: u64, steps: &[u64], table: &[u64], part: &[u32], at: us
                 ended: i,
             };
         }
-        let y = entry_row(all, steps, table, w);
-        if y.run == 0 {
-            return left_at(i);
+        if is_kind(KIND_CHECK, w) {
+            x = joined(x, check_row(all, w));
+            i += 1;
+        } else {
+            let y = named_row(all, steps, table, w);
+            if y.run == 0 {
+                return left_at(i);
+            }
+            x = joined(x, y);
+            i += 1;
         }
-        x = joined(x, y);
-        i += 1;
     }
 }
 

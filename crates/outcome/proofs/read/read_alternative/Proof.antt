@@ -1,18 +1,19 @@
 -- `outcome::read::read_alternative` meets its contract: what is joined so far, with the entries to come, is the whole alternative.
 -- Assumes nothing.
 use borrow.Author.Needs.{needs}
-use borrow.Author.Tests.{not-true, not-false, lt-ltb}
+use borrow.Author.Tests.{not-true, not-false, lt-ltb, eqb-true}
 use native.Mathlib.Omega.{arith}
 use mathlib.Core.Path.{_≡_, refl, sym, ap, _∙_}
-use mathlib.Core.Bool.{Bool, true, not}
+use mathlib.Core.Bool.{Bool, true, false, not}
 use Prim.Native.Nat.{ℕ, _-_, _<_}
 use lib.ListN.{length, getD, drop}
 use lib.Dec.{ltb}
-use Rattle.image.specs.Word.{isEntry}
+use Rattle.image.specs.Word.{kind, payload, isKind, isEntry}
+use Rattle.library.proofs.Decode.{check-entry}
 use Rattle.library.specs.Library.{entriesFrom}
 use Rattle.library.specs.Walk.{entryOf}
 use Rattle.library.proofs.Walking.{tested, folding-inside, folding-out, Leaving, leaving-start, leaving-turn, leaving-dead, leaving-rest, leaving-out}
-use Rattle.row.specs.Words.{startRow, liveRow}
+use Rattle.row.specs.Words.{startRow, checkRow, liveRow}
 use Rattle.row.specs.declared.words.Row.{Row}
 use Rattle.outcome.specs.Walks.{isDead, entryIn, joinedFrom}
 use Rattle.outcome.proofs.Walks.{dead-entry, dead-is}
@@ -36,23 +37,33 @@ inside : (c : tie.Else1 Inv-loop μ-loop)
     → c .before .before .before .loop .i < length (c .before .before .before .before .before .before .before .before .args .part .now)
 inside c = folding-inside (c .before .before .before .loop .inv .folding) (entry c)
 
--- its row
-row-is : (c : tie.After-entry-row Inv-loop μ-loop)
-    → let start = c .before .before .before .before .before .before .before .before .before in
-    c .entry-row .result ≡ entryIn (start .args .all) (start .args .steps .now) (start .args .table .now) (entryOf (getD (start .args .part .now) (c .before .before .before .before .loop .i) 0))
+-- the word is a check, or none
+check-told : (c : tie.After-is-kind Inv-loop μ-loop) (b : Bool) → c .is-kind .result ≡ b
+    → let at-loop = c .before .before .before .before in
+    isKind 13 (getD (at-loop .before .before .before .before .before .args .part .now) (at-loop .loop .i) 0) ≡ b
+check-told c b told = tested (isKind 13) (c .before .before .before .word-at .ensures) (c .is-kind .ensures) told
+
+-- the row of a step or a sequence
+row-is : (c : tie.After-named-row Inv-loop μ-loop)
+    → let at-loop = c .before .before .before .before .before .before in
+    let start = at-loop .before .before .before .before .before in
+    c .named-row .result ≡ entryIn (start .args .all) (start .args .steps .now) (start .args .table .now) (entryOf (getD (start .args .part .now) (at-loop .loop .i) 0))
 row-is c =
-    let a = c .before .before .before .before .before .before .before .before .before .args in
-    c .entry-row .ensures ∙ ap (λ (w : ℕ). entryIn (a .all) (a .steps .now) (a .table .now) (entryOf w)) (c .before .before .before .word-at .ensures)
+    let word = c .before .before .before .before .before in
+    let a = word .before .before .before .before .before .before .args in
+    c .named-row .ensures ∙ ap (λ (w : ℕ). entryIn (a .all) (a .steps .now) (a .table .now) (entryOf w)) (word .word-at .ensures)
 
 -- whether it is dead, by its row
-dead : (c : tie.After-entry-row Inv-loop μ-loop) (b : Bool) → not (ltb 0 (c .entry-row .result .run)) ≡ b
-    → let start = c .before .before .before .before .before .before .before .before .before in
-    isDead (start .args .table .now) (entryOf (getD (start .args .part .now) (c .before .before .before .before .loop .i) 0)) ≡ b
+dead : (c : tie.After-named-row Inv-loop μ-loop) (b : Bool) → not (ltb 0 (c .named-row .result .run)) ≡ b
+    → let at-loop = c .before .before .before .before .before .before in
+    let start = at-loop .before .before .before .before .before in
+    isDead (start .args .table .now) (entryOf (getD (start .args .part .now) (at-loop .loop .i) 0)) ≡ b
 dead c b told =
-    let at-loop = c .before .before .before .before in
+    let test = c .before .before .before in
+    let at-loop = test .before .before .before in
     let start = at-loop .before .before .before .before .before in
     dead-is (start .args .all) (start .args .steps .now) (start .args .table .now) (getD (start .args .part .now) (at-loop .loop .i) 0)
-    (start .pre .0 (at-loop .loop .i) (inside (c .before))) (entry (c .before))
+    (start .pre .0 (at-loop .loop .i) (inside test)) (entry test)
     ∙ ap (λ (r : Row). not (ltb 0 (r .run))) (sym (row-is c)) ∙ told
 
 start-requires : tie.Need-start-requires Inv-loop μ-loop
@@ -78,26 +89,21 @@ returns c =
     let e = tested isEntry (word .word-at .ensures) (c .before .before .is-entry .ensures) (not-true _ (c .before .if1 .taken)) in
     record { row = c .live .ensures ∙ ap liveRow (folding-out (here .folding) e); ended = leaving-out here e }
 
-entry-row-requires : tie.Need-entry-row-requires Inv-loop μ-loop
-entry-row-requires c κs =
-    let at-loop = c .before .before .before in
-    rw (c .before .before .word-at .ensures) (at-loop .before .before .before .before .before .pre .0 (at-loop .loop .i) (inside c), entry c)
+is-kind-requires : tie.Need-is-kind-requires Inv-loop μ-loop
+is-kind-requires c κs = search needs
 
-left-at-requires : tie.Need-left-at-requires Inv-loop μ-loop
-left-at-requires c κs = search needs
+-- a check: its row, and it is not dead
+check-kind : (c : tie.Then2 Inv-loop μ-loop)
+    → let at-loop = c .before .before .before .before .before in
+    kind (getD (at-loop .before .before .before .before .before .args .part .now) (at-loop .loop .i) 0) ≡ 13
+check-kind c = eqb-true _ 13 (check-told (c .before) true (c .if2 .taken))
 
-returns-2 : tie.Need-returns-2 Inv-loop μ-loop
-returns-2 c =
-    let left = c .before in
-    let row = left .before .before in
-    let test = row .before in
-    let here = test .before .before .before .loop .inv in
-    record {
-      row =
-          c .left-at .ensures .0 ∙ sym (dead-entry _ _ _ _ _ _ (ap (λ (r : Row). r .run) (sym (row-is row)) ∙ left .if2 .taken))
-          ∙ ap liveRow (leaving-rest here (entry test));
-      ended = c .left-at .ensures .1 ∙ leaving-dead here (entry test) (dead row _ (ap (λ (n : ℕ). not (ltb 0 n)) (left .if2 .taken)));
-    }
+check-row-requires : tie.Need-check-row-requires Inv-loop μ-loop
+check-row-requires c κs =
+    let test = c .before .before in
+    let at-loop = test .before .before .before in
+    rw (test .before .before .word-at .ensures)
+    (at-loop .before .before .before .before .before .pre .0 (at-loop .loop .i) (inside test) .check (check-kind c) .0)
 
 joined-requires : tie.Need-joined-requires Inv-loop μ-loop
 joined-requires c κs = search needs
@@ -110,13 +116,68 @@ add-i c =
 loop-less : tie.Need-loop-less Inv-loop μ-loop
 loop-less c = omega (arith, inside (c .before .before .before .before))
 
+check-is : (c : tie.After-check-row Inv-loop μ-loop)
+    → let at-loop = c .before .before .before .before .before .before in
+    let start = at-loop .before .before .before .before .before in
+    c .check-row .result ≡ entryIn (start .args .all) (start .args .steps .now) (start .args .table .now) (entryOf (getD (start .args .part .now) (at-loop .loop .i) 0))
+check-is c =
+    let word = c .before .before .before .before .before in
+    let a = word .before .before .before .before .before .before .args in
+    c .check-row .ensures ∙ ap (λ (w : ℕ). checkRow (a .all) (payload w)) (word .word-at .ensures)
+    ∙ sym (ap (entryIn (a .all) (a .steps .now) (a .table .now)) (check-entry (getD (a .part .now) (word .before .loop .i) 0) (check-kind (c .before))))
+
 loop-again : tie.Need-loop-again Inv-loop μ-loop
 unfolding joinedFrom
 loop-again c =
+    let row = c .before in
+    let test = row .before .before .before in
+    let at-loop = test .before .before .before in
+    let a = at-loop .before .before .before .before .before .args in
+    rw (c .joined .ensures, check-is row)
+    (leaving-turn (at-loop .loop .inv) (entry test)
+    (ap (isDead (a .table .now)) (check-entry (getD (a .part .now) (at-loop .loop .i) 0) (check-kind (row .before)))) refl)
+
+named-row-requires : tie.Need-named-row-requires Inv-loop μ-loop
+named-row-requires c κs =
+    let test = c .before .before in
+    let at-loop = test .before .before .before in
+    rw (test .before .before .word-at .ensures)
+    (at-loop .before .before .before .before .before .pre .0 (at-loop .loop .i) (inside test), entry test, check-told (c .before) false (c .if2 .left))
+
+left-at-requires : tie.Need-left-at-requires Inv-loop μ-loop
+left-at-requires c κs = search needs
+
+returns-2 : tie.Need-returns-2 Inv-loop μ-loop
+returns-2 c =
+    let left = c .before in
+    let row = left .before .before in
+    let test = row .before .before .before in
+    let here = test .before .before .before .loop .inv in
+    record {
+      row =
+          c .left-at .ensures .0 ∙ sym (dead-entry _ _ _ _ _ _ (ap (λ (r : Row). r .run) (sym (row-is row)) ∙ left .if3 .taken))
+          ∙ ap liveRow (leaving-rest here (entry test));
+      ended = c .left-at .ensures .1 ∙ leaving-dead here (entry test) (dead row _ (ap (λ (n : ℕ). not (ltb 0 n)) (left .if3 .taken)));
+    }
+
+joined-requires-2 : tie.Need-joined-requires-2 Inv-loop μ-loop
+joined-requires-2 c κs = search needs
+
+add-i-2 : tie.Need-add-i-2 Inv-loop μ-loop
+add-i-2 c =
+    let test = c .before .before .before .before .before .before in
+    omega (arith, test .before .before .before .before .before .before .before .before .good, inside test)
+
+loop-less-2 : tie.Need-loop-less-2 Inv-loop μ-loop
+loop-less-2 c = omega (arith, inside (c .before .before .before .before .before .before))
+
+loop-again-2 : tie.Need-loop-again-2 Inv-loop μ-loop
+unfolding joinedFrom
+loop-again-2 c =
     let row = c .before .before .before in
-    let test = row .before in
-    rw (c .joined .ensures, row-is row)
-    (leaving-turn (test .before .before .before .loop .inv) (entry test) (dead row _ (ap not (lt-ltb 0 (row .entry-row .result .run) (omega (arith, c .before .if2 .left))))) refl)
+    let test = row .before .before .before in
+    rw (c .joined2 .ensures, row-is row)
+    (leaving-turn (test .before .before .before .loop .inv) (entry test) (dead row _ (ap not (lt-ltb 0 (row .named-row .result .run) (omega (arith, c .before .if3 .left))))) refl)
 
 pub read-alternative-spec : {M : Type 1} → statement M
 read-alternative-spec =
@@ -130,10 +191,16 @@ read-alternative-spec =
     is-entry-requires
     live-requires
     returns
-    entry-row-requires
-    left-at-requires
-    returns-2
+    is-kind-requires
+    check-row-requires
     joined-requires
     add-i
     loop-less
-    loop-again)
+    loop-again
+    named-row-requires
+    left-at-requires
+    returns-2
+    joined-requires-2
+    add-i-2
+    loop-less-2
+    loop-again-2)
