@@ -68,10 +68,10 @@ module _ (L : Library) (h : Head) (steps table : List ℕ) (narrow : L .facts �
       ∙ sym (itemRow-touch L f (step a) j)
 
   -- a check's row
-  check-row : (g : ℕ) → g < L .facts → Agree (checkRow all g) (rows.itemRow L f (check g))
-  unfolding Agree all
+  check-row : (g : ℕ) → g < L .facts → Agree (checkRow g) (rows.itemRow L f (check g))
+  unfolding Agree
   check-row g l j k =
-      check-bits (L .facts) g f below narrow (omega arith) j k
+      check-bits g f (omega arith) (omega arith) j k
       ∙ sym (itemRow-touch L f (check g) j ∙ (λ i. touchRow true (has-one f g i) (has-none f i) (has-none f i) j))
 
   -- rows that agree before an entry agree after it
@@ -80,7 +80,7 @@ module _ (L : Library) (h : Head) (steps table : List ℕ) (narrow : L .facts �
   join-entry X R Y S p q j k = join-bits X Y f j k ∙ join-agree (bitRow X f) R (bitRow Y f) S p q j k
 
   -- an entry's row
-  entry-bits : (e : Entry) → Named h e → Agree (entryIn all steps table e) (entryRow L f (tableBits table f) e)
+  entry-bits : (e : Entry) → Named h e → Agree (entryIn steps table e) (entryRow L f (tableBits table f) e)
   unfolding Agree all
   entry-bits (item (step a)) l = step-row a (omega arith)
   entry-bits (item (check g)) l = check-row g (omega arith)
@@ -88,11 +88,11 @@ module _ (L : Library) (h : Head) (steps table : List ℕ) (narrow : L .facts �
 
   -- the entries of an alternative
   joined-bits : (es : List Entry) → All (Named h) es → (X : Row) (R : rows.Row) → Agree X R
-      → Agree (joinedFrom all steps table X es) (foldRow L f (tableBits table f) R es)
+      → Agree (joinedFrom steps table X es) (foldRow L f (tableBits table f) R es)
   unfolding joinedFrom foldRow all
   joined-bits [] a X R same = same
   joined-bits (e ∷ es) a X R same =
-      let Y = entryIn all steps table e in
+      let Y = entryIn steps table e in
       let S = entryRow L f (tableBits table f) e in
       joined-bits es (a .1) (joinRows X Y) (joinRow R S) (join-entry X R Y S same (entry-bits e (a .0)))
 
@@ -101,7 +101,7 @@ module _ (L : Library) (h : Head) (steps table : List ℕ) (narrow : L .facts �
   unfolding Agree all
   alternative-bits es a j k =
       let whole = joined-bits es a (startRow all) rows.startRow (start-bits (L .facts) f below) in
-      live-bits (joinedFrom all steps table (startRow all) es) f j k ∙ ap₂ _&&_ (whole 0 (omega arith)) (whole j k)
+      live-bits (joinedFrom steps table (startRow all) es) f j k ∙ ap₂ _&&_ (whole 0 (omega arith)) (whole j k)
 
   -- a sequence: what it has already, or what one of its alternatives gives
   pub united-bits : (alts : List Alternative) → All (All (Named h)) alts → (X : Row) (j : ℕ) → j < rowWords

@@ -24,13 +24,13 @@ use Rattle.settling.proofs.Stale.{Local}
 module _ (all : ℕ) (steps t t′ : List ℕ) where
   -- an entry has the same row by both
   abbrev Same : Entry → Type 0
-  Same e = entryIn all steps t e ≡ entryIn all steps t′ e
+  Same e = entryIn steps t e ≡ entryIn steps t′ e
 
-  joined-local : (X : Row) (es : List Entry) → All Same es → joinedFrom all steps t X es ≡ joinedFrom all steps t′ X es
+  joined-local : (X : Row) (es : List Entry) → All Same es → joinedFrom steps t X es ≡ joinedFrom steps t′ X es
   unfolding joinedFrom
   joined-local X [] a = refl
   joined-local X (e ∷ es) a =
-      ap (λ (r : Row). joinedFrom all steps t (joinRows X r) es) (a .0) ∙ joined-local (joinRows X (entryIn all steps t′ e)) es (a .1)
+      ap (λ (r : Row). joinedFrom steps t (joinRows X r) es) (a .0) ∙ joined-local (joinRows X (entryIn steps t′ e)) es (a .1)
 
   united-local : (X : Row) (alts : List Alternative) → All (All Same) alts → unitedFrom all steps t X alts ≡ unitedFrom all steps t′ X alts
   unfolding unitedFrom

@@ -112,7 +112,7 @@ module _ {h : Head} {image ms₀ ps₀ callers₀ order₀ rs₀ table : List �
         omega (arith, ones, pow-mono {i = 1} {j = h .facts} (right .facts-low))
 
     -- what the passes ask
-    pub settle-asked : RowsVisitable all (h .sequences) rs part ps (take (rowWords * h .sequences) table)
+    pub settle-asked : RowsVisitable (h .sequences) rs part ps (take (rowWords * h .sequences) table)
         × Scheduled (h .sequences) part ps callers (take (h .sequences) order)
     settle-asked = (
       record {
@@ -122,7 +122,7 @@ module _ {h : Head} {image ms₀ ps₀ callers₀ order₀ rs₀ table : List �
               step = λ k. omega (arith, w .step k, asked .rows-room);
               run = λ k. omega (arith, ap (λ (r : Row). r .run) (rowed .written (payload (getD part i 0)) (w .step k)), all-some);
               sequence = λ k. omega (arith, w .sequence k, table-long);
-              check = λ k. (omega (arith, w .check k, faultless image h (asked .tables .accepted) .facts-high), all-some);
+              check = λ k. omega (arith, w .check k, faultless image h (asked .tables .accepted) .facts-high);
             };
         rows = omega (arith, table-long);
         placed = omega (arith, asked .tables .places-room);

@@ -7,12 +7,13 @@ use native.Mathlib.Omega.{arith}
 use mathlib.Core.Path.{sym, subst}
 use mathlib.Core.List.{List, [], _∷_}
 use lib.ListN.{length}
-use lib.Bits.{bitAnd, bitOr, and-le-l, or-lt}
+use lib.Bits.{bitAnd, bitOr, and-le-l, and-le-r, or-lt}
 use lib.Pow.{pow-pos, ones-lt}
 use Rattle.column.specs.Column.{withFact}
+use Rattle.column.specs.Sets.{difference}
 use Rattle.library.specs.Library.{Entry, step, check, item, call, Alternative}
 use Rattle.library.specs.Walk.{alternativesAt}
-use Rattle.row.specs.Words.{rowWords, allFacts, noRow, startRow, notWord, stepMarks, stepRow, checkRow, laterMarks, joinRows, orMarks, orRows, liveRow, rowIn}
+use Rattle.row.specs.Words.{rowWords, allFacts, allBits, noRow, startRow, notWord, stepMarks, stepRow, checkRow, laterMarks, joinRows, orMarks, orRows, liveRow, rowIn}
 use Rattle.outcome.specs.Walks.{entryIn, joinedFrom, alternativeIn, unitedFrom}
 use Rattle.outcome.specs.Visited.{visited}
 use Rattle.settling.specs.Settling.{Reached, here, next}
@@ -41,6 +42,9 @@ module _ (n : ℕ) where
   and-low : (a b : ℕ) → a < 2 ^ n → bitAnd a b < 2 ^ n
   and-low a b l = lt-of-le-of-lt (and-le-l a b) l
 
+  and-low-r : (a b : ℕ) → b < 2 ^ n → bitAnd a b < 2 ^ n
+  and-low-r a b l = lt-of-le-of-lt (and-le-r a b) l
+
   pub none-low : LowRow noRow
   none-low = let z = pow-pos n in record { run = z; empty = z; last = (z, z, z); first = (z, z, z); cleared = z; unmentioned = z }
 
@@ -63,13 +67,6 @@ module _ (n : ℕ) where
         unmentioned = and-low (allFacts n) (notWord (bitOr (bitOr needs sets) clears)) (ones-lt n);
       }
 
-  check-low : (f : ℕ) → LowRow (checkRow (allFacts n) f)
-  check-low f =
-      let z = pow-pos n in
-      let o = ones-lt n in
-      let others = and-low (allFacts n) (notWord (withFact 0 f)) o in
-      record { run = o; empty = o; last = (z, z, o); first = (and-low (allFacts n) (withFact 0 f) o, z, others); cleared = z; unmentioned = others }
-
   later-low : (x y : Marks) → LowMarks x → LowMarks y → LowMarks (laterMarks x y)
   unfolding LowMarks
   later-low x y a b = (
@@ -88,6 +85,26 @@ module _ (n : ℕ) where
         first = later-low (y .first) (x .first) (b .first) (a .first);
         cleared = or-low (bitAnd (x .cleared) (y .unmentioned)) (y .cleared) (and-low (x .cleared) (y .unmentioned) (a .cleared)) (b .cleared);
         unmentioned = and-low (x .unmentioned) (y .unmentioned) (a .unmentioned);
+      }
+
+  -- a check after a row leaves it low, though the check's own row is not
+  check-low : (x : Row) (f : ℕ) → LowRow x → LowRow (joinRows x (checkRow f))
+  unfolding LowMarks
+  check-low x f a =
+      let fact = withFact 0 f in
+      let others = difference 64 allBits fact in
+      let kept : (b c : ℕ) → b < 2 ^ n → bitOr (bitAnd b c) 0 < 2 ^ n = λ b c l. or-low (bitAnd b c) 0 (and-low b c l) (pow-pos n) in
+      record {
+        run = and-low (x .run) allBits (a .run);
+        empty = and-low (x .empty) allBits (a .empty);
+        last = (kept (x .last .present) allBits (a .last .0), kept (x .last .absent) allBits (a .last .1), and-low (x .last .untouched) allBits (a .last .2));
+        first = (
+          or-low (bitAnd fact (x .first .untouched)) (x .first .present) (and-low-r fact (x .first .untouched) (a .first .2)) (a .first .0),
+          or-low (bitAnd 0 (x .first .untouched)) (x .first .absent) (and-low-r 0 (x .first .untouched) (a .first .2)) (a .first .1),
+          and-low-r others (x .first .untouched) (a .first .2),
+        );
+        cleared = kept (x .cleared) others (a .cleared);
+        unmentioned = and-low (x .unmentioned) others (a .unmentioned);
       }
 
   either-low : (x y : Marks) → LowMarks x → LowMarks y → LowMarks (orMarks x y)
@@ -122,15 +139,15 @@ module _ (n : ℕ) where
   -- ---- entries and alternatives
 
   module _ (steps table : List ℕ) (low-steps : (a : ℕ) → LowRow (rowIn steps a)) (low-table : (c : ℕ) → LowRow (rowIn table c)) where
-    entry-low : (e : Entry) → LowRow (entryIn (allFacts n) steps table e)
-    entry-low (item (step a)) = low-steps a
-    entry-low (item (check f)) = check-low f
-    entry-low (call d) = low-table d
+    entry-low : (e : Entry) (X : Row) → LowRow X → LowRow (joinRows X (entryIn steps table e))
+    entry-low (item (step a)) X x = join-low X _ x (low-steps a)
+    entry-low (item (check f)) X x = check-low X f x
+    entry-low (call d) X x = join-low X _ x (low-table d)
 
-    joined-low : (es : List Entry) (X : Row) → LowRow X → LowRow (joinedFrom (allFacts n) steps table X es)
+    joined-low : (es : List Entry) (X : Row) → LowRow X → LowRow (joinedFrom steps table X es)
     unfolding joinedFrom
     joined-low [] X a = a
-    joined-low (e ∷ es) X a = joined-low es (joinRows X (entryIn (allFacts n) steps table e)) (join-low X _ a (entry-low e))
+    joined-low (e ∷ es) X a = joined-low es (joinRows X (entryIn steps table e)) (entry-low e X a)
 
     united-low : (alts : List Alternative) (X : Row) → LowRow X → LowRow (unitedFrom (allFacts n) steps table X alts)
     unfolding unitedFrom

@@ -36,7 +36,7 @@ module _ (all : ℕ) (steps part places : List ℕ) where
       }
 
 -- areas of the same lengths can be visited too
-pub visitable-at : {all n : ℕ} {steps part places t : List ℕ} (s : List ℕ) → length s ≡ length t → RowsVisitable all n steps part places t → RowsVisitable all n steps part places s
+pub visitable-at : {n : ℕ} {steps part places t : List ℕ} (s : List ℕ) → length s ≡ length t → RowsVisitable n steps part places t → RowsVisitable n steps part places s
 visitable-at s e v =
     record {
       readable = λ i l. let w = v .readable i l in record { step = w .step; run = w .run; sequence = λ k. omega (arith, w .sequence k); check = w .check };

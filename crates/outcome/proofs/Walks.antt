@@ -19,28 +19,28 @@ use Rattle.row.specs.declared.words.Row.{Row}
 use Rattle.outcome.proofs.Stores.{rows-again}
 
 -- an alternative of which what stands before has no run
-pub dead-fold : (all : ℕ) (steps table : List ℕ) (X : Row) (es : List Entry) → X .run ≡ 0 → liveRow (joinedFrom all steps table X es) ≡ noRow
+pub dead-fold : (steps table : List ℕ) (X : Row) (es : List Entry) → X .run ≡ 0 → liveRow (joinedFrom steps table X es) ≡ noRow
 unfolding joinedFrom
-dead-fold all steps table X [] none = rw none (simp and-zero-l)
-dead-fold all steps table X (e ∷ es) none =
-    dead-fold all steps table (joinRows X (entryIn all steps table e)) es (rw none (and-zero-l (entryIn all steps table e .run)))
+dead-fold steps table X [] none = rw none (simp and-zero-l)
+dead-fold steps table X (e ∷ es) none =
+    dead-fold steps table (joinRows X (entryIn steps table e)) es (rw none (and-zero-l (entryIn steps table e .run)))
 
 -- an alternative with an entry in whose row no run is found
-pub dead-entry : (all : ℕ) (steps table : List ℕ) (X : Row) (e : Entry) (es : List Entry) → entryIn all steps table e .run ≡ 0
-    → liveRow (joinedFrom all steps table X (e ∷ es)) ≡ noRow
+pub dead-entry : (steps table : List ℕ) (X : Row) (e : Entry) (es : List Entry) → entryIn steps table e .run ≡ 0
+    → liveRow (joinedFrom steps table X (e ∷ es)) ≡ noRow
 unfolding joinedFrom
-dead-entry all steps table X e es none = dead-fold all steps table (joinRows X (entryIn all steps table e)) es (rw none (and-zero-r (X .run)))
+dead-entry steps table X e es none = dead-fold steps table (joinRows X (entryIn steps table e)) es (rw none (and-zero-r (X .run)))
 
 -- such an entry names a sequence, since a run is found in the row of a step and in that of a check
-pub dead-is : (all : ℕ) (steps table : List ℕ) (w : ℕ) → RowWithin all steps table w → isEntry w ≡ true
-    → isDead table (entryOf w) ≡ not (ltb 0 (entryIn all steps table (entryOf w) .run))
-dead-is all steps table w within e = go (isKind 8 w) (isKind 13 w) refl refl
+pub dead-is : (steps table : List ℕ) (w : ℕ) → RowWithin steps table w → isEntry w ≡ true
+    → isDead table (entryOf w) ≡ not (ltb 0 (entryIn steps table (entryOf w) .run))
+dead-is steps table w within e = go (isKind 8 w) (isKind 13 w) refl refl
   where
     go : (a b : Bool) → isKind 8 w ≡ a → isKind 13 w ≡ b
         → let x : Entry = cond a (item (step (payload w))) (cond b (item (check (payload w))) (call (payload w))) in
-        isDead table x ≡ not (ltb 0 (entryIn all steps table x .run))
+        isDead table x ≡ not (ltb 0 (entryIn steps table x .run))
     go true b k m = sym (ap not (lt-ltb 0 (rowIn steps (payload w) .run) (within .run (eqb-true (kind w) 8 k))))
-    go false true k m = sym (ap not (lt-ltb 0 all (within .check (eqb-true (kind w) 13 m) .1)))
+    go false true k m = refl
     go false false k m = refl
 
 -- ---- alternatives without entries

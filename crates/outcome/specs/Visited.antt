@@ -13,8 +13,8 @@ lacking [] = 0
 lacking (x ∷ xs) = 2 ^ 64 - 1 - x + lacking xs
 
 -- what a visit of the sequences below n asks of the areas
-pub record RowsVisitable (all n : ℕ) (steps part places table : List ℕ) : Type 0 where
-  pub readable : RowsReadable all steps table part
+pub record RowsVisitable (n : ℕ) (steps part places table : List ℕ) : Type 0 where
+  pub readable : RowsReadable steps table part
   pub rows : rowWords * n ≤ length table
   pub placed : n ≤ length places
   pub within : (c : ℕ) → c < n → getD places c 0 < length part

@@ -15,25 +15,25 @@ use Rattle.outcome.specs.declared.read.Read.{Read}
 use Rattle.library.specs.Tables.{maskWords}
 
 -- an entry names a row of the steps' table, in which a run is found, one of the table of outcomes, or a fact that there is
-pub record RowWithin (all : ℕ) (steps table : List ℕ) (w : ℕ) : Type 0 where
+pub record RowWithin (steps table : List ℕ) (w : ℕ) : Type 0 where
   pub step : kind w ≡ 8 → rowWords * payload w + rowWords ≤ length steps
   pub run : kind w ≡ 8 → 0 < rowIn steps (payload w) .run
   pub sequence : kind w ≡ 9 → rowWords * payload w + rowWords ≤ length table
-  pub check : kind w ≡ 13 → (payload w < mostFacts) × (0 < all)
+  pub check : kind w ≡ 13 → payload w < mostFacts
 
 -- each entry among the words does
-abbrev pub RowsReadable : ℕ → List ℕ → List ℕ → List ℕ → Type 0
-RowsReadable all steps table part = (i : ℕ) → i < length part → RowWithin all steps table (getD part i 0)
+abbrev pub RowsReadable : List ℕ → List ℕ → List ℕ → Type 0
+RowsReadable steps table part = (i : ℕ) → i < length part → RowWithin steps table (getD part i 0)
 
 -- "names a sequence not found to have one by then": a sequence in whose row no run is found
 abbrev pub isDead : List ℕ → Entry → Bool
 isDead table = namesNone (λ d. ltb 0 (rowIn table d .run))
 
-module _ (all : ℕ) (steps table : List ℕ) where
+module _ (steps table : List ℕ) where
   -- the row of an entry
   abbrev pub entryIn : Entry → Row
   entryIn (item (step a)) = rowIn steps a
-  entryIn (item (check f)) = checkRow all f
+  entryIn (item (check f)) = checkRow f
   entryIn (call d) = rowIn table d
 
   -- the row after the entries from here on, where that of those before is X
@@ -41,9 +41,10 @@ module _ (all : ℕ) (steps table : List ℕ) where
   joinedFrom X [] = X
   joinedFrom X (e ∷ es) = joinedFrom (joinRows X (entryIn e)) es
 
+module _ (all : ℕ) (steps table : List ℕ) where
   -- the row of an alternative
   abbrev pub alternativeIn : Alternative → Row
-  alternativeIn es = liveRow (joinedFrom (startRow all) es)
+  alternativeIn es = liveRow (joinedFrom steps table (startRow all) es)
 
   -- X with the rows of the alternatives from here on
   unfoldable pub unitedFrom : Row → List Alternative → Row

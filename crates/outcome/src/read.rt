@@ -32,9 +32,9 @@ pub struct Read {
 }
 
 // The row of an entry that names a step or a sequence.
-fn named_row(all: u64, steps: &[u64], table: &[u64], w: u32) -> Row
-    requires { ⌜ RowWithin all (now steps) (now table) w × (isEntry w ≡ true) × (isKind 13 w ≡ false) ⌝ }
-    ensures { λ r. ⌜ r ≡ entryIn all (now (steps .entry)) (now (table .entry)) (entryOf w) ⌝ }
+fn named_row(steps: &[u64], table: &[u64], w: u32) -> Row
+    requires { ⌜ RowWithin (now steps) (now table) w × (isEntry w ≡ true) × (isKind 13 w ≡ false) ⌝ }
+    ensures { λ r. ⌜ r ≡ entryIn (now (steps .entry)) (now (table .entry)) (entryOf w) ⌝ }
 {
     if is_kind(KIND_STEP_ENTRY, w) {
         return row_at(steps, payload_of(w) as usize);
@@ -43,11 +43,11 @@ fn named_row(all: u64, steps: &[u64], table: &[u64], w: u32) -> Row
 }
 
 // The row of an entry that is a check, made of its fact.
-fn check_row(all: u64, w: u32) -> Row
+fn check_row(w: u32) -> Row
     requires { ⌜ payload w < mostFacts ⌝ }
-    ensures { λ r. ⌜ r ≡ checkRow all (payload w) ⌝ }
+    ensures { λ r. ⌜ r ≡ checkRow (payload w) ⌝ }
 {
-    of_check(all, payload_of(w))
+    of_check(payload_of(w))
 }
 
 // What is answered where a walk is left at a dead entry: nothing is possible.
@@ -64,7 +64,7 @@ fn left_at(i: usize) -> Read
 // count. A step has one, so its row passes the same test. A check has one too; it is joined apart, so that the rows of the others are joined from
 // their tables without a copy.
 fn read_alternative(all: u64, steps: &[u64], table: &[u64], part: &[u32], at: usize) -> Read
-    requires { ⌜ RowsReadable all (now steps) (now table) (now part) × (at ≤ length (now part)) ⌝ }
+    requires { ⌜ RowsReadable (now steps) (now table) (now part) × (at ≤ length (now part)) ⌝ }
     ensures { λ r. ⌜ AlternativeFolded all (now (steps .entry)) (now (table .entry)) (now (part .entry)) at r ⌝ }
 {
     let mut x = start(all);
@@ -78,10 +78,10 @@ fn read_alternative(all: u64, steps: &[u64], table: &[u64], part: &[u32], at: us
             };
         }
         if is_kind(KIND_CHECK, w) {
-            x = joined(x, check_row(all, w));
+            x = joined(x, check_row(w));
             i += 1;
         } else {
-            let y = named_row(all, steps, table, w);
+            let y = named_row(steps, table, w);
             if y.run == 0 {
                 return left_at(i);
             }
@@ -109,7 +109,7 @@ fn empties_end(part: &[u32], at: usize) -> usize
 // Unites the alternatives that stand from index `at` on, up to the next sequence, past the entries that a walk has left. An alternative
 // without entries has the row that reading begins with, and where many of them stand in a row it is united once.
 pub fn read_sequence(all: u64, steps: &[u64], table: &[u64], part: &[u32], at: usize) -> Row
-    requires { ⌜ RowsReadable all (now steps) (now table) (now part) × (at ≤ length (now part)) ⌝ }
+    requires { ⌜ RowsReadable (now steps) (now table) (now part) × (at ≤ length (now part)) ⌝ }
     ensures { λ r. ⌜ r ≡ unitedFrom all (now (steps .entry)) (now (table .entry)) noRow (alternativesFrom (drop at (now (part .entry)))) ⌝ }
 {
     let mut x = none();

@@ -24,7 +24,7 @@ fn visit(
     n: usize,
     c: usize,
 ) -> bool
-    requires { ⌜ RowsVisitable all n (now steps) (now part) (now places) (now table) × (c < n) ⌝ }
+    requires { ⌜ RowsVisitable n (now steps) (now part) (now places) (now table) × (c < n) ⌝ }
     ensures { λ r. ⌜ Visit (visited all (now (steps .entry)) (now (part .entry)) (now (places .entry))) lacking (now (table .entry)) c (now (table .exit)) r ⌝ }
 {
     let old = row_at(table, c);
@@ -46,7 +46,7 @@ fn sweep(
     stale: &mut [u64],
     n: usize,
 )
-    requires { ⌜ RowsVisitable all n (now steps) (now part) (now places) (now table) × Scheduled n (now part) (now places) (now callers) (now order) × Swept (visited all (now steps) (now part) (now places)) n (now table) (now table) (now stale) ⌝ }
+    requires { ⌜ RowsVisitable n (now steps) (now part) (now places) (now table) × Scheduled n (now part) (now places) (now callers) (now order) × Swept (visited all (now steps) (now part) (now places)) n (now table) (now table) (now stale) ⌝ }
     ensures { λ _. ⌜ Swept (visited all (now (steps .entry)) (now (part .entry)) (now (places .entry))) n (now (table .entry)) (now (table .exit)) (now (stale .exit)) ⌝ }
 {
     let mut i = 0;
@@ -71,7 +71,7 @@ pub fn settle(
     table: &mut [u64],
     n: usize,
 )
-    requires { ⌜ RowsVisitable all n (now steps) (now part) (now places) (now table) × Scheduled n (now part) (now places) (now callers) (now order) ⌝ }
+    requires { ⌜ RowsVisitable n (now steps) (now part) (now places) (now table) × Scheduled n (now part) (now places) (now callers) (now order) ⌝ }
     ensures { λ _. ⌜ Settles (visited all (now (steps .entry)) (now (part .entry)) (now (places .entry))) n (now (table .entry)) (now (table .exit)) ⌝ }
 {
     let mut stale = [ALL_SEQUENCES; SET_WORDS];

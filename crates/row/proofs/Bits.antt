@@ -15,7 +15,7 @@ use Rattle.column.proofs.Bits.{bit-le, bit-or, bit-and, bit-not, bit-none, bit-
 use Rattle.runs.specs.Touch.{Mark, present, absent, untouched, Side, last, first}
 use Rattle.runs.specs.Rows as rows
 use Rattle.runs.specs.Rows.{columnNumber, joinRow, touchRow}
-use Rattle.row.specs.Words.{rowWords, allFacts, startRow, notWord, stepRow, checkRow, joinRows, orRows, liveRow, isSet, bitRow}
+use Rattle.row.specs.Words.{rowWords, allFacts, allBits, startRow, notWord, stepRow, checkRow, joinRows, orRows, liveRow, isSet, bitRow}
 use Rattle.row.specs.declared.words.Row.{Row}
 use Rattle.runs.proofs.Rows.{by-column}
 
@@ -161,28 +161,24 @@ byte-set : (b : Bool) → eqb (boolByte b) 1 ≡ b
 byte-set true = refl
 byte-set false = refl
 
-module _ (n g f : ℕ) (l : f < n) (u : n ≤ 64) (low : g < 64) where
-  one-set : isSet (2 ^ g) f ≡ eqb g f
-  one-set = ap (λ (n : ℕ). eqb n 1) (bit-pow g f) ∙ byte-set (eqb g f)
+module _ (g f : ℕ) (l : f < 64) (low : g < 64) where
+  fact-set : isSet (withFact 0 g) f ≡ eqb g f
+  fact-set = ap (λ (n : ℕ). eqb n 1) (bit-pow g f) ∙ byte-set (eqb g f)
 
-  fact-set : isSet (bitAnd (allFacts n) (2 ^ g)) f ≡ eqb g f
-  fact-set = and-set (allFacts n) (2 ^ g) f ∙ ap (λ (t : Bool). t && isSet (2 ^ g) f) (all-set n f l) ∙ one-set
-
-  others-set : isSet (difference 64 (allFacts n) (withFact 0 g)) f ≡ not (eqb g f)
+  others-set : isSet (difference 64 allBits (withFact 0 g)) f ≡ not (eqb g f)
   others-set =
-      and-set (allFacts n) (notWord (2 ^ g)) f ∙ ap (λ (t : Bool). t && isSet (notWord (2 ^ g)) f) (all-set n f l)
-      ∙ not-set (2 ^ g) f (pow-lt low) (omega arith) ∙ ap not one-set
+      and-set allBits (notWord (2 ^ g)) f ∙ ap (λ (t : Bool). t && isSet (notWord (2 ^ g)) f) (all-set 64 f l) ∙ not-set (2 ^ g) f (pow-lt low) l
+      ∙ ap not fact-set
 
-pub check-bits : (n g f : ℕ) → f < n → n ≤ 64 → g < 64 → (j : ℕ) → j < rowWords
-    → bitRow (checkRow (allFacts n) g) f j ≡ touchRow true (eqb g f) false false j
-check-bits n g f l u low =
-    by-column (λ (j : ℕ). bitRow (checkRow (allFacts n) g) f j ≡ touchRow true (eqb g f) false false j) (all-set n f l) (all-set n f l) side
-    (none-set f) (others-set n g f l u low ∙ ap not (sym (or-false (eqb g f || false) ∙ or-false (eqb g f))))
+pub check-bits : (g f : ℕ) → f < 64 → g < 64 → (j : ℕ) → j < rowWords → bitRow (checkRow g) f j ≡ touchRow true (eqb g f) false false j
+check-bits g f l low =
+    by-column (λ (j : ℕ). bitRow (checkRow g) f j ≡ touchRow true (eqb g f) false false j) (all-set 64 f l) (all-set 64 f l) side (none-set f)
+    (others-set g f l low ∙ ap not (sym (or-false (eqb g f || false) ∙ or-false (eqb g f))))
   where
-    side : (s : Side) (m : Mark) → bitRow (checkRow (allFacts n) g) f (columnNumber s m) ≡ touchRow true (eqb g f) false false (columnNumber s m)
+    side : (s : Side) (m : Mark) → bitRow (checkRow g) f (columnNumber s m) ≡ touchRow true (eqb g f) false false (columnNumber s m)
     side last present = none-set f
     side last absent = none-set f
-    side last untouched = all-set n f l
-    side first present = fact-set n g f l u low
+    side last untouched = all-set 64 f l
+    side first present = fact-set g f l low
     side first absent = none-set f
-    side first untouched = others-set n g f l u low ∙ ap not (sym (or-false (eqb g f)))
+    side first untouched = others-set g f l low ∙ ap not (sym (or-false (eqb g f)))

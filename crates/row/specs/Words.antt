@@ -20,6 +20,10 @@ rowWords = columnCount
 abbrev pub allFacts : ℕ → ℕ
 allFacts facts = 2 ^ facts - 1
 
+-- a word of which every bit is set
+abbrev pub allBits : ℕ
+allBits = 2 ^ 64 - 1
+
 abbrev pub noMarks : Marks
 noMarks = record { present = 0; absent = 0; untouched = 0 }
 
@@ -52,16 +56,17 @@ stepRow all needs sets clears =
       unmentioned = bitAnd all (notWord (bitOr (bitOr needs sets) clears));
     }
 
--- a check of fact f: "a check is no step" and "counts as a need" on the first side (document 02, request 4)
-abbrev pub checkRow : ℕ → ℕ → Row
-checkRow all f =
+-- a check of fact f: "a check is no step" and "counts as a need" on the first side (document 02, request 4). It leaves all other facts alone,
+-- whatever F is
+abbrev pub checkRow : ℕ → Row
+checkRow f =
     record {
-      run = all;
-      empty = all;
-      last = startMarks all;
-      first = record { present = bitAnd all (withFact 0 f); absent = 0; untouched = difference 64 all (withFact 0 f) };
+      run = allBits;
+      empty = allBits;
+      last = startMarks allBits;
+      first = record { present = withFact 0 f; absent = 0; untouched = difference 64 allBits (withFact 0 f) };
       cleared = 0;
-      unmentioned = difference 64 all (withFact 0 f);
+      unmentioned = difference 64 allBits (withFact 0 f);
     }
 
 -- one list followed by another

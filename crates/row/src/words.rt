@@ -132,23 +132,24 @@ pub fn of_step(all: u64, needs: u64, sets: u64, clears: u64) -> Row
     }
 }
 
-// The row of a check of fact `f`: an empty run, which needs the fact and touches nothing on the last side.
-pub fn of_check(all: u64, f: u32) -> Row
+// The row of a check of fact `f`: an empty run, which needs the fact and touches nothing on the last side. Where it leaves a fact alone all bits
+// are set, those from F upward too, so that the row before it is joined to it by the fact's bit alone.
+pub fn of_check(f: u32) -> Row
     requires { ⌜ f < mostFacts ⌝ }
-    ensures { λ r. ⌜ r ≡ checkRow all f ⌝ }
+    ensures { λ r. ⌜ r ≡ checkRow f ⌝ }
 {
     let fact = with_fact(0, f);
-    let others = without(all, fact);
+    let others = without(ALL_BITS, fact);
     Row {
-        run: all,
-        empty: all,
+        run: ALL_BITS,
+        empty: ALL_BITS,
         last: Marks {
             present: 0,
             absent: 0,
-            untouched: all,
+            untouched: ALL_BITS,
         },
         first: Marks {
-            present: all & fact,
+            present: fact,
             absent: 0,
             untouched: others,
         },

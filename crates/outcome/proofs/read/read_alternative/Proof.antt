@@ -22,7 +22,7 @@ use Rattle.outcome.proofs.read.read_alternative.Tie as tie
 
 abbrev Inv-loop : tie.InvT-loop
 Inv-loop all steps table part at x₀ i₀ x i =
-    Leaving part (joinedFrom all steps table (startRow all) (entriesFrom (drop at part))) (isDead table) at (joinedFrom all steps table x) i
+    Leaving part (joinedFrom steps table (startRow all) (entriesFrom (drop at part))) (isDead table) at (joinedFrom steps table x) i
 
 abbrev μ-loop : tie.MeasureT-loop
 μ-loop all steps table part at x₀ i₀ x i = length part - i
@@ -47,11 +47,11 @@ check-told c b told = tested (isKind 13) (c .before .before .before .word-at .en
 row-is : (c : tie.After-named-row Inv-loop μ-loop)
     → let at-loop = c .before .before .before .before .before .before in
     let start = at-loop .before .before .before .before .before in
-    c .named-row .result ≡ entryIn (start .args .all) (start .args .steps .now) (start .args .table .now) (entryOf (getD (start .args .part .now) (at-loop .loop .i) 0))
+    c .named-row .result ≡ entryIn (start .args .steps .now) (start .args .table .now) (entryOf (getD (start .args .part .now) (at-loop .loop .i) 0))
 row-is c =
     let word = c .before .before .before .before .before in
     let a = word .before .before .before .before .before .before .args in
-    c .named-row .ensures ∙ ap (λ (w : ℕ). entryIn (a .all) (a .steps .now) (a .table .now) (entryOf w)) (word .word-at .ensures)
+    c .named-row .ensures ∙ ap (λ (w : ℕ). entryIn (a .steps .now) (a .table .now) (entryOf w)) (word .word-at .ensures)
 
 -- whether it is dead, by its row
 dead : (c : tie.After-named-row Inv-loop μ-loop) (b : Bool) → not (ltb 0 (c .named-row .result .run)) ≡ b
@@ -62,7 +62,7 @@ dead c b told =
     let test = c .before .before .before in
     let at-loop = test .before .before .before in
     let start = at-loop .before .before .before .before .before in
-    dead-is (start .args .all) (start .args .steps .now) (start .args .table .now) (getD (start .args .part .now) (at-loop .loop .i) 0)
+    dead-is (start .args .steps .now) (start .args .table .now) (getD (start .args .part .now) (at-loop .loop .i) 0)
     (start .pre .0 (at-loop .loop .i) (inside test)) (entry test)
     ∙ ap (λ (r : Row). not (ltb 0 (r .run))) (sym (row-is c)) ∙ told
 
@@ -103,7 +103,7 @@ check-row-requires c κs =
     let test = c .before .before in
     let at-loop = test .before .before .before in
     rw (test .before .before .word-at .ensures)
-    (at-loop .before .before .before .before .before .pre .0 (at-loop .loop .i) (inside test) .check (check-kind c) .0)
+    (at-loop .before .before .before .before .before .pre .0 (at-loop .loop .i) (inside test) .check (check-kind c))
 
 joined-requires : tie.Need-joined-requires Inv-loop μ-loop
 joined-requires c κs = search needs
@@ -119,12 +119,12 @@ loop-less c = omega (arith, inside (c .before .before .before .before))
 check-is : (c : tie.After-check-row Inv-loop μ-loop)
     → let at-loop = c .before .before .before .before .before .before in
     let start = at-loop .before .before .before .before .before in
-    c .check-row .result ≡ entryIn (start .args .all) (start .args .steps .now) (start .args .table .now) (entryOf (getD (start .args .part .now) (at-loop .loop .i) 0))
+    c .check-row .result ≡ entryIn (start .args .steps .now) (start .args .table .now) (entryOf (getD (start .args .part .now) (at-loop .loop .i) 0))
 check-is c =
     let word = c .before .before .before .before .before in
     let a = word .before .before .before .before .before .before .args in
-    c .check-row .ensures ∙ ap (λ (w : ℕ). checkRow (a .all) (payload w)) (word .word-at .ensures)
-    ∙ sym (ap (entryIn (a .all) (a .steps .now) (a .table .now)) (check-entry (getD (a .part .now) (word .before .loop .i) 0) (check-kind (c .before))))
+    c .check-row .ensures ∙ ap (λ (w : ℕ). checkRow (payload w)) (word .word-at .ensures)
+    ∙ sym (ap (entryIn (a .steps .now) (a .table .now)) (check-entry (getD (a .part .now) (word .before .loop .i) 0) (check-kind (c .before))))
 
 loop-again : tie.Need-loop-again Inv-loop μ-loop
 unfolding joinedFrom
@@ -155,7 +155,7 @@ returns-2 c =
     let here = test .before .before .before .loop .inv in
     record {
       row =
-          c .left-at .ensures .0 ∙ sym (dead-entry _ _ _ _ _ _ (ap (λ (r : Row). r .run) (sym (row-is row)) ∙ left .if3 .taken))
+          c .left-at .ensures .0 ∙ sym (dead-entry _ _ _ _ _ (ap (λ (r : Row). r .run) (sym (row-is row)) ∙ left .if3 .taken))
           ∙ ap liveRow (leaving-rest here (entry test));
       ended = c .left-at .ensures .1 ∙ leaving-dead here (entry test) (dead row _ (ap (λ (n : ℕ). not (ltb 0 n)) (left .if3 .taken)));
     }
