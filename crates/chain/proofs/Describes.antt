@@ -10,11 +10,12 @@ use mathlib.Core.Path.{_≡_, refl, sym, ap, ap₂, _∙_, fun-ext}
 use mathlib.Core.Logic.{_≢_}
 use mathlib.Core.Bool.{Bool, true, false, cond, _&&_}
 use mathlib.Core.List.{List, [], _∷_}
-use lib.ListN.{length, getD, drop, List·getD-eq-default}
+use lib.ListN.{length, getD, take, drop, length-take, List·getD-eq-default}
 use lib.Seq.{getD-take, getD-drop}
 use lib.Dec.{eqb, leb, ltb}
-use borrow.Author.Tests.{ltb-true, lt-ltb, le-ltb}
+use borrow.Author.Tests.{ne-eqb, ltb-true, lt-ltb, le-ltb}
 use Rattle.column.specs.Sets.{inColumn}
+use Rattle.image.specs.Word.{mostFacts}
 use Rattle.library.specs.Library.{has, Library, Step, Alternative, Item, step, check, Entry, item, call, entryAt}
 use Rattle.library.specs.Tables.{maskOf}
 use Rattle.library.specs.Walk.{alternativesAt}
@@ -29,14 +30,13 @@ use Rattle.general.specs.Scan.{every}
 use Rattle.chains.specs.Ranks.{Ranks, Attained, Linked, Unlowered, unranked, entryRank, entryPasses, depthLook, passLook, hasMark, aheadOf, behindOf, touchLook, untouchedLook}
 use Rattle.chains.specs.Answer.{Answer, none, shown, newest, chosenAlternative, followed, linksFrom, touchAnswer, untouchedAnswer}
 use Rattle.rank.specs.Walk.{newestLink, depthFrom, fewestFrom}
-use Rattle.rank.specs.Tables.{entryNumber, firstStep, checkWord, inRanks, itemRank, rankIn, passIn, depthIn, everyIn, fewestIn, lookIn, stepMark, checkMark, markRank, ItemsRanked}
+use Rattle.rank.specs.Tables.{entryNumber, firstStep, inRanks, itemRank, rankIn, passIn, depthIn, everyIn, fewestIn, lookIn, stepMark, checkMark, markRank, checkRank, stepRank, ItemsRanked}
 use Rattle.link.specs.Choice.{linkIn, alternativeIn, linkEntry, linkAt, linksIn, untouchedIn, answerIn}
 use Rattle.chain.specs.Described.{isFirst, markNumber, Asks, Masked, Placed, ItemsBy, Described}
 use Rattle.question.specs.declared.asked.Asked.{Asked}
 use Rattle.chains.proofs.Depth.{step-rank, step-passes}
 use Rattle.chains.proofs.Links.{entriesOf, chosenAt, positionAt, chosen, chosen-rank, ranked-listed}
 use Rattle.general.proofs.Scan.{getD-inside}
-use Rattle.rank.proofs.Slots.{check-low, about-word}
 use Rattle.rank.proofs.Walk.{depth-from, fewest-from, link-newest}
 
 cond-mark : (x y : Bool) → cond x 0 (cond y 1 2) ≡ markNumber (cond x present (cond y absent untouched))
@@ -90,56 +90,73 @@ module _ (L : Library) (q : Asked) (Q : Question) (masks : List ℕ) (asks : Ask
       go last = cond-mark (has asked (actionOf L (step a) .sets)) (has asked (actionOf L (step a) .clears))
       go first = cond-mark (has asked (actionOf L (step a) .needs)) (has asked (actionOf L (step a) .sets))
 
-  check-mark : (f : ℕ) → checkMark q (eqb f asked) ≡ markNumberOf (check f)
-  check-mark f = rw (asks .first) (go (Q .side))
-    where
-      go : (s : Side) → cond (isFirst s && eqb f asked) 0 2 ≡ markNumber (itemTouch L s asked (check f))
-      go last = rw (has-none asked)
-      go first = rw (has-one asked f, has-none asked) (cond-mark (eqb f asked) false)
+  -- a check touches its own fact on the first side, and nothing else
+  check-touch : (s : Side) (f : ℕ) → itemTouch L s asked (check f) ≡ cond (isFirst s && eqb f asked) present untouched
+  check-touch last f = rw (has-none asked)
+  check-touch first f = rw (has-one asked f, has-none asked)
+
+  check-mark : (f : ℕ) → checkMark q f ≡ markNumberOf (check f)
+  check-mark f = rw (asks .first, check-touch (Q .side) f) (cond-mark (isFirst (Q .side) && eqb f asked) false)
 
   -- the rank of an item by its mark
   mark-rank : (x : Item) (k : ℕ) → k ≡ markNumberOf x → markRank false q k ≡ cond (hasMark L Q asked x) 0 (q .none)
   mark-rank x k e =
       ap (λ (b : Bool). cond b 0 (q .none)) (ap₂ eqb e (asks .mark) ∙ same-number (itemTouch L (Q .side) asked x) (Q .mark))
 
-  -- a step past the library's touches nothing
+  -- a step past the library's touches nothing, and no more does a check of a fact past those that there may be
   pub mark-past : (a : ℕ) → length (L .steps) ≤ a → hasMark L Q asked (step a) ≡ sameMark untouched (Q .mark)
   mark-past a le =
       ap (λ (m : Mark). sameMark m (Q .mark))
       (ap (λ (s : Step). touch (Q .side) s asked) (List·getD-eq-default (L .steps) noStep {n = a} le) ∙ no-touch (Q .side) asked)
 
-  module _ (before after : List ℕ) (size : length before ≡ q .none + firstStep + length (L .steps)) where
+  check-past : (f : ℕ) → mostFacts ≤ f → hasMark L Q asked (check f) ≡ sameMark untouched (Q .mark)
+  check-past f le =
+      ap (λ (m : Mark). sameMark m (Q .mark))
+      (check-touch (Q .side) f
+      ∙ ap (λ (b : Bool). cond (isFirst (Q .side) && b) present untouched) (ne-eqb f asked (λ e. omega (arith, asks .fact, masked .narrow)))
+      ∙ go (isFirst (Q .side)))
+    where
+      go : (b : Bool) → cond (b && false) present untouched ≡ untouched
+      go true = refl
+      go false = refl
+
+  module _ (before after : List ℕ) (size : length before ≡ firstStep (q .none) + length (L .steps)) where
     -- the table's words are by the marks, or all 0
     module _ (all : Bool) (ranked : ItemsRanked all q masks before after) (past : ℕ) where
-      item-in : (i : ℕ) → q .none + i < length before → getD (drop (q .none) after) i past ≡ getD after (q .none + i) 0
+      abbrev items : List ℕ
+      items = drop (q .none) after
+
+      item-in : (i : ℕ) → q .none + i < length before → getD items i past ≡ getD after (q .none + i) 0
       item-in i l = getD-drop (q .none) after i past ∙ getD-inside after (q .none + i) past 0 (omega (arith, ranked .long))
 
-      step-in : (a : ℕ) → a < length (L .steps) → itemRank past (drop (q .none) after) (step a) ≡ markRank all q (stepMark q masks a)
+      step-in : (a : ℕ) → a < length (L .steps) → itemRank past items (step a) ≡ stepRank all q masks a
       step-in a l =
-          let at : q .none + (firstStep + a) ≡ q .none + firstStep + a = omega arith in
-          item-in (firstStep + a) (omega arith) ∙ ap (λ (i : ℕ). getD after i 0) at ∙ ranked .steps a (omega arith)
+          let at : q .none + (mostFacts + a) ≡ firstStep (q .none) + a = omega arith in
+          item-in (mostFacts + a) (omega arith) ∙ ap (λ (i : ℕ). getD after i 0) at ∙ ranked .steps a (omega arith)
 
-      step-out : (a : ℕ) → length (L .steps) ≤ a → itemRank past (drop (q .none) after) (step a) ≡ past
+      step-out : (a : ℕ) → length (L .steps) ≤ a → itemRank past items (step a) ≡ past
       step-out a l =
-          getD-drop (q .none) after (firstStep + a) past
-          ∙ List·getD-eq-default after past {n = q .none + (firstStep + a)} (omega (arith, ranked .long))
+          getD-drop (q .none) after (mostFacts + a) past
+          ∙ List·getD-eq-default after past {n = q .none + (mostFacts + a)} (omega (arith, ranked .long))
 
-      check-in : (f : ℕ) → itemRank past (drop (q .none) after) (check f) ≡ markRank all q (checkMark q (eqb f asked))
-      check-in f =
-          ap (λ (g : ℕ). getD (drop (q .none) after) (checkWord (eqb f g)) past) (about-word (q .none) after ∙ ranked .about)
-          ∙ item-in (checkWord (eqb f asked)) (omega (arith, check-low (eqb f asked))) ∙ ranked .checks (eqb f asked)
+      check-in : (f : ℕ) → f < mostFacts → itemRank past items (check f) ≡ checkRank all q f
+      check-in f l = getD-take mostFacts items f past l ∙ item-in f (omega arith) ∙ ranked .checks f l
+
+      check-out : (f : ℕ) → mostFacts ≤ f → itemRank past items (check f) ≡ past
+      check-out f l = List·getD-eq-default (take mostFacts items) past {n = f} (omega (arith, length-take mostFacts items))
 
     pub items-marked : ItemsRanked false q masks before after → (past : ℕ) → past ≡ cond (sameMark untouched (Q .mark)) 0 (q .none)
         → ItemsBy (q .none) past (hasMark L Q asked) after
     items-marked ranked past end (step a) =
         elim (decLt a (length (L .steps))) [
           | yes l ↦ step-in false ranked past a l ∙ mark-rank (step a) (stepMark q masks a) (step-mark a)
-          | no l ↦
-              step-out false ranked past a (omega arith) ∙ end
-              ∙ ap (λ (b : Bool). cond b 0 (q .none)) (sym (mark-past a (omega arith)))
+          | no l ↦ step-out false ranked past a (omega arith) ∙ end ∙ ap (λ (b : Bool). cond b 0 (q .none)) (sym (mark-past a (omega arith)))
         ]
     items-marked ranked past end (check f) =
-        check-in false ranked past f ∙ mark-rank (check f) (checkMark q (eqb f asked)) (check-mark f)
+        elim (decLt f mostFacts) [
+          | yes l ↦ check-in false ranked past f l ∙ mark-rank (check f) (checkMark q f) (check-mark f)
+          | no l ↦ check-out false ranked past f (omega arith) ∙ end ∙ ap (λ (b : Bool). cond b 0 (q .none)) (sym (check-past f (omega arith)))
+        ]
 
     pub items-any : ItemsRanked true q masks before after → ItemsBy (q .none) 0 (λ (x : Item). true) after
     items-any ranked (step a) =
@@ -147,7 +164,11 @@ module _ (L : Library) (q : Asked) (Q : Question) (masks : List ℕ) (asks : Ask
           | yes l ↦ step-in true ranked 0 a l
           | no l ↦ step-out true ranked 0 a (omega arith)
         ]
-    items-any ranked (check f) = check-in true ranked 0 f
+    items-any ranked (check f) =
+        elim (decLt f mostFacts) [
+          | yes l ↦ check-in true ranked 0 f l
+          | no l ↦ check-out true ranked 0 f (omega arith)
+        ]
 
 -- ---- what a table says of an entry
 

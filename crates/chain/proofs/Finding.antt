@@ -8,7 +8,7 @@ use native.Mathlib.Decide.{decLt, ℕ-discrete}
 use native.Mathlib.Numerals.{add-one}
 use native.Mathlib.Omega.{arith}
 use mathlib.Core.Path.{_≡_, refl, sym, ap, _∙_, subst}
-use mathlib.Core.Logic.{_≢_, _↔_}
+use mathlib.Core.Logic.{_≢_, _↔_, ⊎-elim}
 use mathlib.Core.Bool.{Bool, true, false, cond, not}
 use mathlib.Core.List.{List, []}
 use lib.ListN.{length, getD, take, drop, replicate, length-replicate, List·getD-eq-default}
@@ -55,10 +55,10 @@ ranks-asked h q m l = record { room = omega (arith, length-replicate m (q .none)
 
 -- for so many steps and sequences
 pub areas-asked : (h : Head) (q : Asked) → q .none ≡ h .sequences + 2 → (steps sequences : ℕ) → h .steps ≤ steps → h .sequences ≤ sequences
-    → AreasAsked h q (replicate (3 * steps) 0) (replicate (4 * sequences) 0) (replicate (sequences + 2 + firstStep + steps) (q .none))
-    (replicate (sequences + 2 + firstStep + steps) (q .none)) (replicate (sequences + 2 + firstStep + steps) (q .none))
+    → AreasAsked h q (replicate (3 * steps) 0) (replicate (4 * sequences) 0) (replicate (firstStep (sequences + 2) + steps) (q .none))
+    (replicate (firstStep (sequences + 2) + steps) (q .none)) (replicate (firstStep (sequences + 2) + steps) (q .none))
 areas-asked h q none steps sequences a c =
-    let ranks = ranks-asked h q (sequences + 2 + firstStep + steps) (omega arith) in
+    let ranks = ranks-asked h q (firstStep (sequences + 2) + steps) (omega arith) in
     record {
       masks-room = omega (arith, length-replicate {A = ℕ} (3 * steps) 0);
       masks-blank = zeros (3 * steps);
@@ -174,8 +174,14 @@ module _ {h : Head} {image ms₀ ps₀ ms ps callers order : List ℕ} (accepted
         record {
           within = λ i l.
               let none = asked .none in
+              let low = faultless image h accepted .facts-high in
               let w = all-at (SequenceWord h) part (subst (All (SequenceWord h)) (sym sequences) (parts image h accepted .sequences)) 0 i l in
-              record { step = λ k. omega (arith, w .step k); check = λ k. omega arith; sequence = λ k. (omega (arith, w .sequence k), omega (arith, w .sequence k)) };
+              record {
+                high = λ k. ⊎-elim (λ six. absurd (omega arith)) (λ more. ⊎-elim (λ seven. absurd (omega arith)) (λ entry. entry) more) (w .among);
+                step = λ k. omega (arith, w .step k);
+                check = λ k. (omega (arith, w .check k), omega (arith, w .check k));
+                sequence = λ k. (omega (arith, w .sequence k), omega (arith, w .sequence k));
+              };
         }
 
     pub tables-findable : {ahead behind links : List ℕ} → Unranked h q ahead → Unranked h q behind → Unranked h q links → Zeros ps₀ → 3 * h .steps ≤ length ms

@@ -52,7 +52,7 @@ pub record Masked (L : Library) (masks : List ℕ) : Type 0 where
 abbrev pub Placed : Library → List ℕ → List ℕ → Type 0
 Placed L part places = (c : ℕ) → c < length (L .sequences) → alternativesAt part places c ≡ alternativesOf (L .sequences) c
 
--- the ranks of the items in a table are by a test of them, with `past` for a step past the table
+-- the ranks of the items in a table are by a test of them, with `past` for an item that has no word
 abbrev pub ItemsBy : ℕ → ℕ → (Item → Bool) → List ℕ → Type 0
 ItemsBy none past test T = (x : Item) → itemRank past (drop none T) x ≡ cond (test x) 0 none
 
@@ -85,9 +85,9 @@ pub record FindAsked (h : Head) (image : List ℕ) (q : Asked) (c : ℕ) : Type 
 abbrev pub AnswerFound : List ℕ → Asked → ℕ → List ℕ → ℕ → List ℕ → Type 0
 AnswerFound image q c area rank after = Answered (answer (libraryOf image) (questionBy q) c (q .fact)) area (byRank q rank (length area)) after
 
--- the words of a table of ranks: for each sequence, the three of the checks, and for each step
+-- the words of a table of ranks: those of the sequences and of the checks, and one for each step
 abbrev pub ranksLength : Head → Asked → ℕ
-ranksLength h q = q .none + firstStep + h .steps
+ranksLength h q = firstStep (q .none) + h .steps
 
 -- an area without a rank, which has the room for a table
 pub record RanksAsked (h : Head) (q : Asked) (T : List ℕ) : Type 0 where

@@ -1,6 +1,7 @@
 // The chain call: refusals 1 to 7 and 9 to 13, a chain, or none.
 use image::answer::Checked;
 use image::answer::Head;
+use image::word::MOST_FACTS;
 use image::word::MOST_SEQUENCES;
 use image::word::MOST_STEPS;
 use library::parts::sequences_part;
@@ -14,7 +15,6 @@ use question::asked::UNTOUCHED_MARK;
 use question::asked::in_range;
 use question::asked::out_of_range;
 use question::asked::read_question;
-use rank::entry::FIRST_STEP;
 use rank::entry::write_item_ranks;
 use rank::settle::settle;
 use reader::check::check;
@@ -37,15 +37,15 @@ ghost use Rattle.chain.specs.Described.{FindAsked, AreasAsked, AnswerFou
 ghost use Rattle.rules.specs.Checked.{accepts};
 ghost use Rattle.question.specs.Reply.{ChainCalled};
 
-// A table of ranks has a word for each sequence, two between, those of the checks, and a word for each step.
+// A table of ranks has a word for each sequence, two between, a word for the check of each fact that there may be, and a word for each step.
 pub const SMALL_RANKS: usize = SMALL_SEQUENCES as usize
     + NO_RANK_ABOVE as usize
-    + FIRST_STEP as usize
+    + MOST_FACTS as usize
     + SMALL_STEPS as usize;
 
 pub const MOST_RANKS: usize = MOST_SEQUENCES as usize
     + NO_RANK_ABOVE as usize
-    + FIRST_STEP as usize
+    + MOST_FACTS as usize
     + MOST_STEPS as usize;
 
 // Ranks the items by one question and the sequences by another, in a table that has no rank yet.
@@ -198,7 +198,7 @@ fn find_in(
     let mut places = [0u32; MOST_PLACES];
     let mut order = [0usize; MOST_PLACES];
     let n = h.sequences as usize;
-    let words = q.none as usize + FIRST_STEP as usize + h.steps as usize;
+    let words = q.none as usize + MOST_FACTS as usize + h.steps as usize;
     let part = sequences_part(image);
     prepare(h, image, masks, &mut places, callers, &mut order);
     find_by(

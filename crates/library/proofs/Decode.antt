@@ -12,14 +12,16 @@ use mathlib.Core.Path.{_≡_, refl, sym, ap, _∙_, subst}
 use mathlib.Core.Bool.{Bool, true, false, cond, or-false}
 use mathlib.Core.List.{List, [], _∷_, _++_}
 use lib.ListN.{length, getD, take, drop}
-use lib.Dec.{eqb}
-use borrow.Author.Tests.{eq-eqb, ne-eqb, eqb-true}
+use lib.Dec.{eqb, leb}
+use borrow.Author.Tests.{eq-eqb, ne-eqb, eqb-true, le-leb, leb-true}
 use mir.Val.{boolByte}
 use Rattle.image.specs.Word.{kind, payload, isKind, isEntry}
 use Rattle.rules.specs.Rules.{opened}
 use Rattle.general.specs.Tests.{All}
 use Rattle.library.specs.Library.{has, Step, step, check, Entry, item, call, entryOf, factsFrom, stepsFrom, entriesFrom, alternativesFrom, sequencesFrom, beforeSequences, fromSequences}
 use Rattle.image.proofs.Words.{fact-of, entry-high}
+use Rattle.general.proofs.Bools.{both-ways}
+use Rattle.library.specs.Walk.{HighEntry}
 
 -- ---- kinds
 
@@ -34,6 +36,11 @@ kind-is k w e = eqb-true (kind w) k e
 
 pub entry-opens-none : (w : ℕ) → isEntry w ≡ true → isKind 7 w ≡ false
 entry-opens-none w e = is-not 7 w (λ q. omega (arith, entry-high w e))
+
+-- a word of the sequences' part is an entry exactly where its kind is 8 or above
+pub entry-part : (w : ℕ) → HighEntry w → leb 8 (kind w) ≡ isEntry w
+entry-part w high =
+    both-ways (leb 8 (kind w)) (isEntry w) (λ e. high (leb-true 8 (kind w) e)) (λ e. le-leb 8 (kind w) (entry-high w e))
 
 -- ---- the entry that a word names, by its kind
 

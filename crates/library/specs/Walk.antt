@@ -6,10 +6,14 @@ use mathlib.Core.Bool.{Bool, true, false, not, _||_}
 use mathlib.Core.List.{List}
 use lib.ListN.{length, getD, drop}
 use Rattle.general.specs.Scan.{firstIndex, lastIndex}
-use Rattle.image.specs.Word.{isKind, isEntry}
+use Rattle.image.specs.Word.{kind, isKind, isEntry}
 use Rattle.library.specs.Library.{Entry, item, call, Alternative, entryAt, entriesFrom, alternativesFrom}
 pub use Rattle.library.specs.Library.{entryOf}
 use Rattle.library.specs.declared.walk.Alternatives.{Alternatives}
+
+-- a word that is an entry if its kind is 8 or above: one of the sequences' part, in which no other word has such a kind
+abbrev pub HighEntry : ℕ → Type 0
+HighEntry w = 8 ≤ kind w → isEntry w ≡ true
 
 -- the index after the entries that stand from index `at` on
 abbrev pub entriesEnd : List ℕ → ℕ → ℕ

@@ -1,6 +1,8 @@
 // The words of a sequence: walked from left to right, and back from one alternative to the one before it.
 use image::word::AT_ONCE;
 use image::word::KIND_ALTERNATIVE;
+use image::word::KIND_STEP_ENTRY;
+use image::word::PAYLOADS;
 use image::word::is_entry;
 use image::word::is_kind;
 ghost use mathlib.Core.Path.{_≡_};
@@ -8,7 +10,7 @@ ghost use mathlib.Core.Bool.{cond, _&&_};
 ghost use Prim.Native.Nat.{_≤_};
 ghost use lib.ListN.{length, getD};
 ghost use Rattle.image.specs.Word.{mostWords, isEntry};
-ghost use Rattle.library.specs.Walk.{entriesEnd, AllBefore, openerBefore};
+ghost use Rattle.library.specs.Walk.{HighEntry, entriesEnd, AllBefore, openerBefore};
 
 // How many alternatives a sequence has, and the index of the last one's opener.
 pub struct Alternatives {
@@ -24,6 +26,14 @@ pub fn word_at(part: &[u32], i: usize) -> u32
         return part[i];
     }
     0
+}
+
+// Whether a word of the sequences' part is an entry: no other word has a kind from 8 on there. It is one test of one bit.
+pub fn part_entry(w: u32) -> bool
+    requires { ⌜ HighEntry w ⌝ }
+    ensures { λ r. ⌜ r ≡ isEntry w ⌝ }
+{
+    KIND_STEP_ENTRY <= w / PAYLOADS
 }
 
 // The index after the entries that stand from index `at` on.

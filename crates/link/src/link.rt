@@ -1,8 +1,8 @@
 // The choice of a link: "Among equally good choices a link takes the highest alternative, then the lowest position."
-use image::word::is_entry;
 use image::word::payload_of;
 use library::walk::alternatives_of;
 use library::walk::opener_before;
+use library::walk::part_entry;
 use library::walk::selected_index;
 use library::walk::word_at;
 use rank::entry::passes;
@@ -33,7 +33,7 @@ fn tail_from(none: u32, behind: &[u32], part: &[u32], at: usize) -> usize
     let mut i = at;
     loop {
         let w = word_at(part, i);
-        if !is_entry(w) {
+        if !part_entry(w) {
             return start;
         }
         i += 1;
@@ -72,7 +72,7 @@ pub fn chosen_link(
         let mut i = start;
         loop {
             let e = word_at(part, i);
-            if !is_entry(e) {
+            if !part_entry(e) {
                 break;
             }
             let t = traits_of(none, ahead, behind, ranks, e);

@@ -63,8 +63,9 @@ rankable-at U e r =
       within = λ i l.
           let w = r .within i l in
           record {
+            high = w .high;
             step = λ k. omega (arith, w .step k);
-            check = λ k. omega (arith, w .check k);
+            check = λ k. (w .check k .0, omega (arith, w .check k .1));
             sequence = λ k. (w .sequence k .0, omega (arith, w .sequence k .1));
           };
     }

@@ -1,20 +1,21 @@
 -- A table of ranks: the word of an entry, and how those of the items are written, the steps' by a loop.
 -- Assumes nothing.
 use Prim.Native.Nat.{ℕ, _+_, _*_, _≤_, _<_}
-use native.Mathlib.Decide.{ℕ-discrete}
+use native.Mathlib.Decide.{ℕ-discrete, decLt}
 use native.Mathlib.Omega.{arith}
-use mathlib.Core.Path.{_≡_, refl, sym, ap, _∙_, subst}
+use mathlib.Core.Path.{_≡_, refl, sym, ap, _∙_}
 use mathlib.Core.Logic.{⊎-elim}
 use mathlib.Core.Bool.{Bool, true, false, cond}
 use mathlib.Core.List.{List}
-use lib.ListN.{length, getD, set, drop, length-set}
+use lib.ListN.{length, getD, set, drop, length-set, List·getD-eq-default}
+use lib.Dec.{leb}
 use lib.Seq.{getD-take, getD-drop, getD-set-same, getD-set-other}
-use lib.Dec.{eqb}
-use Rattle.image.specs.Word.{kind, payload, isKind, isEntry}
+use Rattle.image.specs.Word.{mostFacts, kind, payload, isKind, isEntry}
 use Rattle.library.specs.Library.{step, check, Entry, item, call, entryOf}
+use Rattle.library.specs.Walk.{HighEntry}
 use Rattle.library.proofs.Decode.{step-entry, check-entry, call-entry}
 use Rattle.image.proofs.Words.{entry-cases}
-use Rattle.rank.specs.Tables.{otherCheck, ownCheck, firstStep, checkWord, entryNumber, slotOf, rankIn, RankWithin, markOf, stepMark, checkMark, markRank, ItemsRankable, ItemsRanked, checksWritten, StepsRanked}
+use Rattle.rank.specs.Tables.{entryNumber, firstStep, slotOf, rankIn, RankWithin, Rankable, markOf, stepMark, checkRank, stepRank, Written, ItemsRanked}
 use Rattle.question.specs.declared.asked.Asked.{Asked}
 use Rattle.general.proofs.Scan.{getD-inside}
 
@@ -29,71 +30,58 @@ entry-number w = go (isKind 8 w) (isKind 13 w)
     go false true = refl
     go false false = refl
 
-pub cond-low : (b : Bool) (n : ℕ) → cond b n 0 ≤ n
-cond-low true n = omega arith
-cond-low false n = omega arith
+-- the words that a table has ranks for are of the sequences' part, and so is 0, which stands past them
+pub rankable-high : {none : ℕ} {T part : List ℕ} → Rankable none T part → (i : ℕ) → HighEntry (getD part i 0)
+rankable-high {part = part} words i =
+    elim (decLt i (length part)) [
+      | yes l ↦ words .within i l .high
+      | no l ↦ λ k. absurd (omega (arith, List·getD-eq-default part 0 {n = i} (omega arith)))
+    ]
 
-pub check-low : (own : Bool) → checkWord own ≤ ownCheck
-check-low true = omega arith
-check-low false = omega arith
+pub cond-low : (b : Bool) (x y n : ℕ) → x ≤ n → y ≤ n → cond b x y ≤ n
+cond-low true x y n l m = l
+cond-low false x y n l m = m
 
--- the fact that the table is about, by the words of the items
-pub about-word : (none : ℕ) (T : List ℕ) → getD (drop none T) 0 0 ≡ getD T none 0
-about-word none T = let same : none + 0 ≡ none = omega arith in getD-drop none T 0 0 ∙ ap (λ (n : ℕ). getD T n 0) same
+-- of the kinds of entries that of steps is the least and that of checks the greatest
+pub kinds-between : (w : ℕ) → isEntry w ≡ true → (leb (kind w) 8 ≡ isKind 8 w) × (leb 13 (kind w) ≡ isKind 13 w)
+kinds-between w e = ⊎-elim (λ k. rw k (refl, refl)) (λ s. ⊎-elim (λ k. rw k (refl, refl)) (λ k. rw k (refl, refl)) s) (entry-cases w e)
 
-module _ (none w : ℕ) (T : List ℕ) where
-  -- by whether the word is a check
-  pub slot-by : (b : Bool) → isKind 13 w ≡ b
-      → slotOf none T w ≡ cond b (none + checkWord (eqb (payload w) (getD T none 0))) (payload w + cond (isKind 8 w) (none + firstStep) 0)
-  slot-by b e = ap (λ (x : Bool). cond x (none + checkWord (eqb (payload w) (getD T none 0))) (payload w + cond (isKind 8 w) (none + firstStep) 0)) e
-
+module _ (none w : ℕ) (T : List ℕ) (within : RankWithin none T w) (e : isEntry w ≡ true) where
   -- by the kind of the word
-  step-slot : kind w ≡ 8 → slotOf none T w ≡ none + firstStep + payload w
-  step-slot k = rw k (omega arith)
+  pub slot-inside : slotOf none w < length T
+  slot-inside =
+      ⊎-elim (λ k. rw k (omega (arith, within .step k)))
+      (λ s. ⊎-elim (λ k. rw k (omega (arith, within .sequence k .1))) (λ k. rw k (omega (arith, within .check k .1))) s) (entry-cases w e)
 
-  check-slot : kind w ≡ 13 → slotOf none T w ≡ none + checkWord (eqb (payload w) (getD T none 0))
-  check-slot k = rw k
-
-  call-slot : kind w ≡ 9 → slotOf none T w ≡ payload w
-  call-slot k = rw k (omega arith)
-
-  pub slot-inside : RankWithin none T w → isEntry w ≡ true → slotOf none T w < length T
-  slot-inside within e =
-      ⊎-elim (λ k. omega (arith, step-slot k, within .step k))
-      (λ s. ⊎-elim (λ k. omega (arith, call-slot k, within .sequence k .1))
-      (λ k. omega (arith, check-slot k, within .check k, check-low (eqb (payload w) (getD T none 0)))) s)
-      (entry-cases w e)
-
-  pub slot-rank : RankWithin none T w → isEntry w ≡ true → (past : ℕ) → getD T (slotOf none T w) 0 ≡ rankIn none past T (entryOf w)
-  slot-rank within e past =
-      getD-inside T (slotOf none T w) 0 past (slot-inside within e)
-      ∙ ⊎-elim by-step (λ s. ⊎-elim by-call by-check s) (entry-cases w e)
+  pub slot-rank : (past : ℕ) → getD T (slotOf none w) 0 ≡ rankIn none past T (entryOf w)
+  slot-rank past = getD-inside T (slotOf none w) 0 past slot-inside ∙ ⊎-elim by-step (λ s. ⊎-elim by-call by-check s) (entry-cases w e)
     where
       p : ℕ
       p = payload w
 
       -- the word, and the entry that it names
-      named : (i : ℕ) (x : Entry) → slotOf none T w ≡ i → getD T i past ≡ rankIn none past T x → entryOf w ≡ x
-          → getD T (slotOf none T w) past ≡ rankIn none past T (entryOf w)
+      named : (i : ℕ) (x : Entry) → slotOf none w ≡ i → getD T i past ≡ rankIn none past T x → entryOf w ≡ x
+          → getD T (slotOf none w) past ≡ rankIn none past T (entryOf w)
       named i x slot rank entry = ap (λ (n : ℕ). getD T n past) slot ∙ rank ∙ ap (rankIn none past T) (sym entry)
 
-      by-step : kind w ≡ 8 → getD T (slotOf none T w) past ≡ rankIn none past T (entryOf w)
+      by-step : kind w ≡ 8 → getD T (slotOf none w) past ≡ rankIn none past T (entryOf w)
       by-step k =
-          let at : slotOf none T w ≡ none + (firstStep + p) = step-slot k ∙ omega arith in
-          named (none + (firstStep + p)) (item (step p)) at (sym (getD-drop none T (firstStep + p) past)) (step-entry w k)
+          let at : slotOf none w ≡ none + (mostFacts + p) = rw k (omega arith) in
+          named (none + (mostFacts + p)) (item (step p)) at (sym (getD-drop none T (mostFacts + p) past)) (step-entry w k)
 
-      by-check : kind w ≡ 13 → getD T (slotOf none T w) past ≡ rankIn none past T (entryOf w)
+      by-check : kind w ≡ 13 → getD T (slotOf none w) past ≡ rankIn none past T (entryOf w)
       by-check k =
-          let word = checkWord (eqb p (getD (drop none T) 0 0)) in
-          let at : slotOf none T w ≡ none + word = check-slot k ∙ ap (λ (g : ℕ). none + checkWord (eqb p g)) (sym (about-word none T)) in
-          named (none + word) (item (check p)) at (sym (getD-drop none T word past)) (check-entry w k)
+          let at : slotOf none w ≡ none + p = rw k (omega arith) in
+          named (none + p) (item (check p)) at (sym (getD-drop none T p past) ∙ sym (getD-take mostFacts (drop none T) p past (within .check k .0)))
+          (check-entry w k)
 
-      by-call : kind w ≡ 9 → getD T (slotOf none T w) past ≡ rankIn none past T (entryOf w)
+      by-call : kind w ≡ 9 → getD T (slotOf none w) past ≡ rankIn none past T (entryOf w)
       by-call k =
+          let at : slotOf none w ≡ p = rw k (omega arith) in
           let inside = within .sequence k in
-          named p (call p) (call-slot k) (getD-inside T p past none (inside .1) ∙ sym (getD-take none T p none (inside .0))) (call-entry w k)
+          named p (call p) at (getD-inside T p past none (inside .1) ∙ sym (getD-take none T p none (inside .0))) (call-entry w k)
 
--- ---- the ranks of the steps
+-- ---- the ranks of the items
 
 -- what a step needs and sets stands one word before what it sets and clears
 pub side-low : (b : Bool) → cond b 0 1 ≤ 1
@@ -109,90 +97,49 @@ side-mark q masks a side e = ap (λ (n : ℕ). markOf (q .fact) (getD masks (3 *
     go true = let same : 3 * a + 0 ≡ 3 * a = omega arith in ap (λ (n : ℕ). markOf (q .fact) (getD masks n 0) (getD masks (n + 1) 0)) same
     go false = let next : 3 * a + 1 + 1 ≡ 3 * a + 2 = omega arith in ap (λ (n : ℕ). markOf (q .fact) (getD masks (3 * a + 1) 0) (getD masks n 0)) next
 
-module _ (all : Bool) (q : Asked) (masks before : List ℕ) where
-  -- the first word of the steps
-  abbrev base : ℕ
-  base = q .none + firstStep
+-- words that are written one by one, from index `from` on
+module _ (from to : ℕ) (rank : ℕ → ℕ) (before : List ℕ) where
+  -- at the head: those of the numbers below j are written
+  pub record Writing (T : List ℕ) (j : ℕ) : Type 0 where
+    pub low : from + j ≤ to
+    pub written : Written from (from + j) rank before T
 
-  -- at the head: the ranks of the steps below a are written
-  pub record Stepping (T : List ℕ) (a : ℕ) : Type 0 where
-    pub long : length T ≡ length before
-    pub low : base + a ≤ length before
-    pub stays : (i : ℕ) → i < base → (past : ℕ) → getD T i past ≡ getD before i past
-    pub ranked : (j : ℕ) → j < a → getD T (base + j) 0 ≡ markRank all q (stepMark q masks j)
+  pub writing-start : from ≤ to → Writing before 0
+  writing-start l =
+      record { low = omega arith; written = record { long = refl; stays = λ i l past. refl; ranked = λ j l. absurd (omega arith) } }
 
-  pub stepping-start : ItemsRankable q masks before → Stepping before 0
-  stepping-start s = record { long = refl; low = omega (arith, s .room); stays = λ i l past. refl; ranked = λ j l. absurd (omega arith) }
-
-  module _ (T : List ℕ) (a : ℕ) (here : Stepping T a) where
-    pub stepping-turn : base + a < length before → (r : ℕ) → r ≡ markRank all q (stepMark q masks a) → Stepping (set T (base + a) r) (a + 1)
-    stepping-turn l r rank =
+  module _ (T : List ℕ) (j : ℕ) (here : Writing T j) where
+    pub writing-turn : from + j < to → to ≤ length before → (r : ℕ) → r ≡ rank j → Writing (set T (from + j) r) (j + 1)
+    writing-turn l room r is =
+        let so-far = here .written in
         record {
-          long = length-set T (base + a) r ∙ here .long;
           low = omega arith;
-          stays = λ i k past. getD-set-other T (base + a) i r past (λ e. omega arith) ∙ here .stays i k past;
-          ranked = λ j k.
-              elim (ℕ-discrete j a) [
-                | yes e ↦
-                    ap (λ (i : ℕ). getD (set T (base + a) r) (base + i) 0) e
-                    ∙ getD-set-same T (base + a) r 0 (omega (arith, here .long)) ∙ rank ∙ ap (λ (i : ℕ). markRank all q (stepMark q masks i)) (sym e)
-                | no e ↦ getD-set-other T (base + a) (base + j) r 0 (λ x. e (omega arith)) ∙ here .ranked j (omega arith)
-              ];
+          written =
+              record {
+                long = length-set T (from + j) r ∙ so-far .long;
+                stays = λ i k past. getD-set-other T (from + j) i r past (λ e. omega arith) ∙ so-far .stays i k past;
+                ranked = λ k m.
+                    elim (ℕ-discrete k j) [
+                      | yes e ↦
+                          ap (λ (i : ℕ). getD (set T (from + j) r) (from + i) 0) e
+                          ∙ getD-set-same T (from + j) r 0 (omega (arith, so-far .long)) ∙ is ∙ ap rank (sym e)
+                      | no e ↦ getD-set-other T (from + j) (from + k) r 0 (λ x. e (omega arith)) ∙ so-far .ranked k (omega arith)
+                    ];
+              };
         }
 
-    pub stepping-end : length before ≤ base + a → StepsRanked all q masks before T
-    stepping-end le = record { long = here .long; stays = here .stays; ranked = λ j l. here .ranked j (omega arith) }
+    pub writing-end : to ≤ from + j → Written from to rank before T
+    writing-end le =
+        let all = here .written in
+        record { long = all .long; stays = all .stays; ranked = λ k l. all .ranked k (omega arith) }
 
-  -- the checks and then the steps
-  pub items-ranked : (between after : List ℕ) → ItemsRankable q masks before → between ≡ checksWritten all q before → StepsRanked all q masks between after
-      → ItemsRanked all q masks before after
-  items-ranked between after asked written by-steps =
-      record {
-        long = steps .long ∙ long-three;
-        stays = λ d l.
-            steps .stays d (omega arith) none
-            ∙ getD-set-other two (none + ownCheck) d (rank true) none (λ e. omega arith)
-            ∙ getD-set-other one (none + otherCheck) d (rank false) none (λ e. omega arith)
-            ∙ getD-set-other before none d (q .fact) none (λ e. omega arith);
-        about =
-            steps .stays none (omega arith) 0
-            ∙ getD-set-other two (none + ownCheck) none (rank true) 0 (λ e. omega arith)
-            ∙ getD-set-other one (none + otherCheck) none (rank false) 0 (λ e. omega arith)
-            ∙ getD-set-same before none (q .fact) 0 (omega (arith, asked .room));
-        checks = checks;
-        steps = λ a l. steps .ranked a (omega (arith, long-three));
-      }
-    where
-      none : ℕ
-      none = q .none
-
-      rank : Bool → ℕ
-      rank own = markRank all q (checkMark q own)
-
-      one : List ℕ
-      one = set before none (q .fact)
-
-      two : List ℕ
-      two = set one (none + otherCheck) (rank false)
-
-      three : List ℕ
-      three = set two (none + ownCheck) (rank true)
-
-      long-one : length one ≡ length before
-      long-one = length-set before none (q .fact)
-
-      long-two : length two ≡ length before
-      long-two = length-set one (none + otherCheck) (rank false) ∙ long-one
-
-      long-three : length three ≡ length before
-      long-three = length-set two (none + ownCheck) (rank true) ∙ long-two
-
-      steps : StepsRanked all q masks three after
-      steps = subst (λ (T : List ℕ). StepsRanked all q masks T after) written by-steps
-
-      checks : (own : Bool) → getD after (none + checkWord own) 0 ≡ rank own
-      checks true = steps .stays (none + ownCheck) (omega arith) 0 ∙ getD-set-same two (none + ownCheck) (rank true) 0 (omega (arith, asked .room, long-two))
-      checks false =
-          steps .stays (none + otherCheck) (omega arith) 0
-          ∙ getD-set-other two (none + ownCheck) (none + otherCheck) (rank true) 0 (λ e. omega arith)
-          ∙ getD-set-same one (none + otherCheck) (rank false) 0 (omega (arith, asked .room, long-one))
+-- the checks and then the steps
+pub items-ranked : (all : Bool) (q : Asked) (masks before between after : List ℕ) → Written (q .none) (firstStep (q .none)) (checkRank all q) before between
+    → Written (firstStep (q .none)) (length between) (stepRank all q masks) between after → ItemsRanked all q masks before after
+items-ranked all q masks before between after checks steps =
+    record {
+      long = steps .long ∙ checks .long;
+      stays = λ d l. steps .stays d (omega arith) (q .none) ∙ checks .stays d l (q .none);
+      checks = λ f l. steps .stays (q .none + f) (omega arith) 0 ∙ checks .ranked f (omega arith);
+      steps = λ a l. steps .ranked a (omega (arith, checks .long));
+    }

@@ -1,17 +1,17 @@
 -- What tables of words say of an entry of an alternative, for the question that is asked: its rank, and whether it passes as one ahead of
--- the position or behind it. A table of ranks has a word for each sequence and, from word `none` on, those of the items: the fact that it is
--- about, the ranks of the two sorts of check, and a word for each step. Crate `chain` (proofs/Describes) shows that the tables of an accepted
--- image say what `Ranks` says of its library.
+-- the position or behind it. A table of ranks has a word for each sequence and, from word `none` on, those of the items: one for the check of
+-- each fact that there may be, and one for each step. Crate `chain` (proofs/Describes) shows that the tables of an accepted image say what
+-- `Ranks` says of its library.
 use Prim.Native.Nat.{ℕ, _+_, _*_, _≤_, _<_}
 use mathlib.Core.Path.{_≡_}
-use mathlib.Core.Bool.{Bool, true, false, cond, not, _&&_, _||_}
+use mathlib.Core.Bool.{Bool, true, cond, not, _&&_, _||_}
 use mathlib.Core.List.{List}
 use lib.ListN.{length, getD, set, take, drop}
 use lib.Dec.{eqb, ltb}
 use Rattle.column.specs.Sets.{inColumn}
-use Rattle.image.specs.Word.{kind, payload, isKind, isEntry}
+use Rattle.image.specs.Word.{mostFacts, kind, payload, isKind, isEntry}
 use Rattle.library.specs.Library.{Alternative, Item, step, check, Entry, item, call, entryOf, entriesFrom}
-use Rattle.library.specs.Walk.{walkEnd, alternativesAt}
+use Rattle.library.specs.Walk.{HighEntry, walkEnd, alternativesAt}
 use Rattle.settling.specs.Settling.{Settles}
 use Rattle.general.specs.Scan.{every}
 use Rattle.chains.specs.Ranks.{Ranks}
@@ -30,40 +30,29 @@ entryNumber (call d) = d
 
 -- ---- a table of ranks
 
--- The words of the items, counted from word `none`: word 0 has the fact that the table is about, and these are the rank of a check of any
--- other fact, the rank of a check of that fact, and the rank of the first step.
-abbrev pub otherCheck : ℕ
-otherCheck = 1
-
-abbrev pub ownCheck : ℕ
-ownCheck = 2
-
-abbrev pub firstStep : ℕ
-firstStep = 3
-
--- the word of a check, by whether it is one of the fact that the table is about
-abbrev pub checkWord : Bool → ℕ
-checkWord own = cond own ownCheck otherCheck
+-- where the words of the steps begin: after those of the checks, which begin at word `none`
+abbrev pub firstStep : ℕ → ℕ
+firstStep none = none + mostFacts
 
 -- where the rank of the entry stands that a word names
-abbrev pub slotOf : ℕ → List ℕ → ℕ → ℕ
-slotOf none T w = cond (isKind 13 w) (none + checkWord (eqb (payload w) (getD T none 0))) (payload w + cond (isKind 8 w) (none + firstStep) 0)
+abbrev pub slotOf : ℕ → ℕ → ℕ
+slotOf none w = payload w + cond (isKind 8 w) (firstStep none) (cond (isKind 13 w) none 0)
 
 -- the ranks of the sequences in a table
 abbrev pub inRanks : ℕ → List ℕ → Ranks
 inRanks none T d = getD (take none T) d none
 
--- the rank of an item by the words of the items, where `past` is that of a step past the table
+-- the rank of an item by the words from word `none` on, where `past` is that of an item that has no word there
 abbrev pub itemRank : ℕ → List ℕ → Item → ℕ
-itemRank past items (step a) = getD items (firstStep + a) past
-itemRank past items (check f) = getD items (checkWord (eqb f (getD items 0 0))) past
+itemRank past items (check f) = getD (take mostFacts items) f past
+itemRank past items (step a) = getD items (mostFacts + a) past
 
 -- the rank of an entry
 abbrev pub rankIn : ℕ → ℕ → List ℕ → Entry → ℕ
 rankIn none past T (item x) = itemRank past (drop none T) x
 rankIn none past T (call d) = inRanks none T d
 
--- an entry that has a rank; a step past the table touches nothing and runs
+-- an entry that has a rank; an item that has no word touches nothing and runs
 abbrev pub passIn : ℕ → List ℕ → Entry → Bool
 passIn none T e = ltb (rankIn none 0 T e) none
 
@@ -105,13 +94,14 @@ lookIn q ahead behind ranks es =
     cond (eqb (q .mark) 2) (depthIn (q .none) ranks es)
     (cond (eqb (q .mark) 3) (everyIn (q .none) ranks es) (fewestIn (q .none) ahead behind ranks es))
 
--- an entry has a word in a table
+-- a word of the sequences' part, which has a rank in a table if it is an entry
 pub record RankWithin (none : ℕ) (T : List ℕ) (w : ℕ) : Type 0 where
-  pub step : kind w ≡ 8 → none + firstStep + payload w < length T
-  pub check : kind w ≡ 13 → none + ownCheck < length T
+  pub high : HighEntry w
+  pub step : kind w ≡ 8 → firstStep none + payload w < length T
+  pub check : kind w ≡ 13 → (payload w < mostFacts) × (none + payload w < length T)
   pub sequence : kind w ≡ 9 → (payload w < none) × (payload w < length T)
 
--- each entry among the words has one
+-- each of the words is one
 pub record Rankable (none : ℕ) (T part : List ℕ) : Type 0 where
   pub within : (i : ℕ) → i < length part → RankWithin none T (getD part i 0)
 
@@ -133,42 +123,39 @@ stepMark q masks a =
     cond (q .first) (markOf (q .fact) (getD masks (3 * a) 0) (getD masks (3 * a + 1) 0))
     (markOf (q .fact) (getD masks (3 * a + 1) 0) (getD masks (3 * a + 2) 0))
 
--- "On the first side a check counts as a need" of its own fact; otherwise it leaves the fact untouched
-abbrev pub checkMark : Asked → Bool → ℕ
-checkMark q own = cond (q .first && own) 0 2
+-- "On the first side a check counts as a need": a check of fact f touches that fact there; otherwise it leaves the fact asked about untouched
+abbrev pub checkMark : Asked → ℕ → ℕ
+checkMark q f = cond (q .first && eqb f (q .fact)) 0 2
 
--- the rank of an item with a mark: 0 where it is the mark asked for, or any will do, so that "a chain may end on one". A check "has depth 0",
+-- the rank of an item with a mark: 0 where it is the mark asked for, or any will do. So "a chain may end on" a check, and a check "has depth 0",
 -- as a step has
 abbrev pub markRank : Bool → Asked → ℕ → ℕ
 markRank all q mark = cond (all || eqb mark (q .mark)) 0 (q .none)
+
+abbrev pub checkRank : Bool → Asked → ℕ → ℕ
+checkRank all q f = markRank all q (checkMark q f)
+
+abbrev pub stepRank : Bool → Asked → List ℕ → ℕ → ℕ
+stepRank all q masks a = markRank all q (stepMark q masks a)
+
+-- the words from index `from` on, up to index `to`, are by a rank for each number, and those before them stay
+pub record Written (from to : ℕ) (rank : ℕ → ℕ) (before after : List ℕ) : Type 0 where
+  pub long : length after ≡ length before
+  pub stays : (i : ℕ) → i < from → (past : ℕ) → getD after i past ≡ getD before i past
+  pub ranked : (j : ℕ) → from + j < to → getD after (from + j) 0 ≡ rank j
 
 -- the words of the items are their ranks by the question, and those of the sequences stay
 pub record ItemsRanked (all : Bool) (q : Asked) (masks before after : List ℕ) : Type 0 where
   pub long : length after ≡ length before
   pub stays : (d : ℕ) → d < q .none → getD after d (q .none) ≡ getD before d (q .none)
-  pub about : getD after (q .none) 0 ≡ q .fact
-  pub checks : (own : Bool) → getD after (q .none + checkWord own) 0 ≡ markRank all q (checkMark q own)
-  pub steps : (a : ℕ) → q .none + firstStep + a < length before
-      → getD after (q .none + firstStep + a) 0 ≡ markRank all q (stepMark q masks a)
+  pub checks : (f : ℕ) → f < mostFacts → getD after (q .none + f) 0 ≡ checkRank all q f
+  pub steps : (a : ℕ) → firstStep (q .none) + a < length before → getD after (firstStep (q .none) + a) 0 ≡ stepRank all q masks a
 
--- what that asks: a word for each sequence, the three of the checks, and three masks for each step that has a word
+-- what that asks: a word for each sequence and each check, and three masks for each step that has a word
 pub record ItemsRankable (q : Asked) (masks ranks : List ℕ) : Type 0 where
-  pub fact : q .fact < 64
-  pub room : q .none + firstStep ≤ length ranks
-  pub masked : 3 * length ranks ≤ length masks + 3 * (q .none + firstStep)
-
--- the words of the checks alone
-abbrev pub checksWritten : Bool → Asked → List ℕ → List ℕ
-checksWritten all q T =
-    let rank : Bool → ℕ = λ own. markRank all q (checkMark q own) in
-    set (set (set T (q .none) (q .fact)) (q .none + otherCheck) (rank false)) (q .none + ownCheck) (rank true)
-
--- the words of the steps alone
-pub record StepsRanked (all : Bool) (q : Asked) (masks before after : List ℕ) : Type 0 where
-  pub long : length after ≡ length before
-  pub stays : (i : ℕ) → i < q .none + firstStep → (past : ℕ) → getD after i past ≡ getD before i past
-  pub ranked : (a : ℕ) → q .none + firstStep + a < length before
-      → getD after (q .none + firstStep + a) 0 ≡ markRank all q (stepMark q masks a)
+  pub fact : q .fact < mostFacts
+  pub room : firstStep (q .none) ≤ length ranks
+  pub masked : 3 * length ranks ≤ length masks + 3 * firstStep (q .none)
 
 -- ---- the alternatives of a sequence
 

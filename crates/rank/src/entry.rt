@@ -2,7 +2,8 @@
 use column::sets::holds;
 use image::word::KIND_CHECK;
 use image::word::KIND_STEP_ENTRY;
-use image::word::is_kind;
+use image::word::MOST_FACTS;
+use image::word::PAYLOADS;
 use image::word::payload_of;
 use library::tables::MASK_WORDS;
 use library::walk::selected_index;
@@ -13,20 +14,11 @@ use question::asked::UNTOUCHED_MARK;
 ghost use mathlib.Core.Path.{_≡_};
 ghost use mathlib.Core.Bool.{true, cond};
 ghost use Prim.Native.Nat.{ℕ, _+_, _*_, _≤_, _<_};
-ghost use lib.ListN.{length, getD};
-ghost use lib.Dec.{eqb};
+ghost use lib.ListN.{length};
 ghost use Rattle.library.specs.Tables.{maskWords};
-ghost use Rattle.image.specs.Word.{kind, isEntry, mostFacts};
+ghost use Rattle.image.specs.Word.{isEntry, mostFacts};
 ghost use Rattle.library.specs.Library.{entryOf};
-ghost use Rattle.rank.specs.Tables.{ownCheck, firstStep, checkWord, slotOf, rankIn, passIn, traitsIn, RankWithin, markOf, stepMark, checkMark, markRank, ItemsRankable, ItemsRanked, checksWritten, StepsRanked};
-
-// A table of ranks has a word for each sequence. From word `none` on come those of the items: the fact that the table is about, the rank of a
-// check of any other fact, the rank of a check of that fact, and those of the steps. These are counted from word `none`.
-const OTHER_CHECK: u32 = 1;
-
-const OWN_CHECK: u32 = 2;
-
-pub const FIRST_STEP: u32 = 3;
+ghost use Rattle.rank.specs.Tables.{firstStep, slotOf, rankIn, passIn, traitsIn, RankWithin, markOf, stepMark, checkMark, markRank, checkRank, stepRank, Written, ItemsRankable, ItemsRanked};
 
 // An entry's rank, and whether it passes as one ahead of the position and as one behind it.
 pub struct Traits {
@@ -66,11 +58,11 @@ fn step_mark(q: Asked, masks: &[u64], a: usize) -> u32
     mark_of(q.fact, masks[at], masks[at + 1])
 }
 
-// The mark of a check on the question's side, by whether it is one of the fact asked about: "On the first side a check counts as a need".
-fn check_mark(q: Asked, own: bool) -> u32
-    ensures { λ r. ⌜ r ≡ checkMark q own ⌝ }
+// The mark of a check of fact `f` on the question's side.
+fn check_mark(q: Asked, f: u32) -> u32
+    ensures { λ r. ⌜ r ≡ checkMark q f ⌝ }
 {
-    choose(q.first & own, PRESENT_MARK, UNTOUCHED_MARK)
+    choose(q.first & (f == q.fact), PRESENT_MARK, UNTOUCHED_MARK)
 }
 
 // The rank of an item by its mark: 0 where it is the mark asked for, or where any will do.
@@ -80,23 +72,25 @@ fn mark_rank(all: bool, q: Asked, mark: u32) -> u32
     choose(all | (mark == q.mark), 0, q.none)
 }
 
-// Writes the fact asked about and the ranks of the checks into a table.
+// Writes the ranks of the checks into a table: those of all facts that there may be stand from word `none` on.
 fn write_check_ranks(all: bool, q: Asked, ranks: &mut [u32])
-    requires { ⌜ q .none + firstStep ≤ length (now ranks) ⌝ }
-    ensures { λ _. ⌜ now (ranks .exit) ≡ checksWritten all q (now (ranks .entry)) ⌝ }
+    requires { ⌜ firstStep (q .none) ≤ length (now ranks) ⌝ }
+    ensures { λ _. ⌜ Written (q .none) (firstStep (q .none)) (checkRank all q) (now (ranks .entry)) (now (ranks .exit)) ⌝ }
 {
     let base = q.none as usize;
-    ranks[base] = q.fact;
-    ranks[base + OTHER_CHECK as usize] = mark_rank(all, q, check_mark(q, false));
-    ranks[base + OWN_CHECK as usize] = mark_rank(all, q, check_mark(q, true));
+    let mut f = 0;
+    while f < MOST_FACTS {
+        ranks[base + f as usize] = mark_rank(all, q, check_mark(q, f));
+        f += 1;
+    }
 }
 
-// Writes the ranks of the steps into a table.
+// Writes the ranks of the steps into a table: they stand after those of the checks.
 fn write_step_ranks(all: bool, q: Asked, masks: &[u64], ranks: &mut [u32])
     requires { ⌜ ItemsRankable q (now masks) (now ranks) ⌝ }
-    ensures { λ _. ⌜ StepsRanked all q (now (masks .entry)) (now (ranks .entry)) (now (ranks .exit)) ⌝ }
+    ensures { λ _. ⌜ Written (firstStep (q .none)) (length (now (ranks .entry))) (stepRank all q (now (masks .entry))) (now (ranks .entry)) (now (ranks .exit)) ⌝ }
 {
-    let base = q.none as usize + FIRST_STEP as usize;
+    let base = q.none as usize + MOST_FACTS as usize;
     let mut a = 0;
     while base + a < ranks.len() {
         ranks[base + a] = mark_rank(all, q, step_mark(q, masks, a));
@@ -104,7 +98,7 @@ fn write_step_ranks(all: bool, q: Asked, masks: &[u64], ranks: &mut [u32])
     }
 }
 
-// Writes the ranks of the items into a table, which is then about the question's fact.
+// Writes the ranks of the items into a table.
 pub fn write_item_ranks(all: bool, q: Asked, masks: &[u64], ranks: &mut [u32])
     requires { ⌜ ItemsRankable q (now masks) (now ranks) ⌝ }
     ensures { λ _. ⌜ ItemsRanked all q (now (masks .entry)) (now (ranks .entry)) (now (ranks .exit)) ⌝ }
@@ -113,26 +107,18 @@ pub fn write_item_ranks(all: bool, q: Asked, masks: &[u64], ranks: &mut [u32])
     write_step_ranks(all, q, masks, ranks);
 }
 
-// Where the rank of a check of fact `f` stands in a table.
-fn check_slot(none: u32, ranks: &[u32], f: u32) -> usize
-    requires { ⌜ none + ownCheck < length (now ranks) ⌝ }
-    ensures { λ r. ⌜ r ≡ none + checkWord (eqb f (getD (now (ranks .entry)) none 0)) ⌝ }
+// Where the rank of an entry stands in a table: the sequences come first, then the checks, then the steps. There is no branch here, since
+// processors would guess it badly, and the place is the same in all tables, so that it is worked out once where three are read. Of the kinds of
+// entries that of steps is the least and that of checks the greatest.
+fn slot_of(none: u32, w: u32) -> usize
+    requires { ⌜ isEntry w ≡ true ⌝ }
+    ensures { λ r. ⌜ r ≡ slotOf none w ⌝ }
 {
-    let base = none as usize;
-    base + choose(f == ranks[base], OWN_CHECK, OTHER_CHECK) as usize
-}
-
-// Where the rank of an entry stands in a table: the sequences come first, then the checks and the steps. Checks are few, and there is no branch
-// between a step and a sequence, since processors would guess it badly.
-fn slot_of(none: u32, ranks: &[u32], w: u32) -> usize
-    requires { ⌜ (kind w ≡ 13 → none + ownCheck < length (now ranks)) ⌝ }
-    ensures { λ r. ⌜ r ≡ slotOf none (now (ranks .entry)) w ⌝ }
-{
-    if is_kind(KIND_CHECK, w) {
-        return check_slot(none, ranks, payload_of(w));
-    }
-    let first_step = none as usize + FIRST_STEP as usize;
-    payload_of(w) as usize + selected_index(is_kind(KIND_STEP_ENTRY, w), first_step, 0)
+    let kind = w / PAYLOADS;
+    let first_check = none as usize;
+    let first_step = first_check + MOST_FACTS as usize;
+    let check_or_call = selected_index(KIND_CHECK <= kind, first_check, 0);
+    payload_of(w) as usize + selected_index(kind <= KIND_STEP_ENTRY, first_step, check_or_call)
 }
 
 // The rank of an entry.
@@ -140,7 +126,7 @@ pub fn rank_of(none: u32, ranks: &[u32], w: u32) -> u32
     requires { ⌜ RankWithin none (now ranks) w × (isEntry w ≡ true) ⌝ }
     ensures { λ r. ⌜ ((past : ℕ) → r ≡ rankIn none past (now (ranks .entry)) (entryOf w)) ⌝ }
 {
-    ranks[slot_of(none, ranks, w)]
+    ranks[slot_of(none, w)]
 }
 
 // Whether an entry has a rank.

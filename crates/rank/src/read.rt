@@ -5,8 +5,8 @@ use crate::entry::passes;
 use crate::entry::rank_of;
 use crate::entry::traits_of;
 use image::word::KIND_ALTERNATIVE;
-use image::word::is_entry;
 use image::word::is_kind;
+use library::walk::part_entry;
 use library::walk::word_at;
 use question::asked::Asked;
 use question::asked::RUN_MARK;
@@ -52,7 +52,7 @@ pub fn greatest_depth(none: u32, ranks: &[u32], part: &[u32], at: usize) -> Read
     let mut i = at;
     loop {
         let w = word_at(part, i);
-        if !is_entry(w) {
+        if !part_entry(w) {
             return Read {
                 value: depth,
                 ended: i,
@@ -105,7 +105,7 @@ fn found_at(
     ensures { λ r. ⌜ TraitsFound none (now (ahead .entry)) (now (behind .entry)) (now (ranks .entry)) (getD (now (part .entry)) i 0) r ⌝ }
 {
     let w = word_at(part, i);
-    if !is_entry(w) {
+    if !part_entry(w) {
         return Found {
             entry: false,
             traits: Traits {
@@ -202,7 +202,7 @@ fn all_ranked(none: u32, ranks: &[u32], part: &[u32], at: usize) -> Read
     let mut i = at;
     loop {
         let w = word_at(part, i);
-        if !is_entry(w) {
+        if !part_entry(w) {
             return Read { value: 0, ended: i };
         }
         if !passes(none, ranks, w) {
@@ -268,7 +268,7 @@ pub fn lowered_rank(
     loop {
         let w = word_at(part, i);
         i += 1;
-        if !is_entry(w) {
+        if !part_entry(w) {
             if (r <= 1) | !is_kind(KIND_ALTERNATIVE, w) {
                 return r;
             }

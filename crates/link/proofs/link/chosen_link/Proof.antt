@@ -10,6 +10,7 @@ use Prim.Native.Nat.{_+_, _-_, _≤_}
 use lib.ListN.{length, getD}
 use Rattle.image.specs.Word.{isEntry}
 use Rattle.library.proofs.Walking.{tested, folding-inside}
+use Rattle.rank.proofs.Slots.{rankable-high}
 use Rattle.link.proofs.Choices.{seeking-start, last-within, Placing, placing-start, placing-turn}
 use Rattle.link.proofs.Choices.{Choosing, choosing-turn, chosen-found, chosen-out}
 use Rattle.link.proofs.link.chosen_link.Statement.{statement}
@@ -34,7 +35,7 @@ inside c = last-within _ _ _ _ _ (c .before .found .inv) (omega (arith, c .if1 .
 -- an entry of the alternative stands there
 entry : (c : tie.Else2 Inv-loop μ-loop Inv-found μ-found)
     → isEntry (getD (c .before .before .before .before .before .before .before .before .before .before .before .before .args .part .now) (c .before .before .before .loop .i) 0) ≡ true
-entry c = tested isEntry (c .before .before .word-at .ensures) (c .before .is-entry .ensures) (not-false _ (c .if2 .left))
+entry c = tested isEntry (c .before .before .word-at .ensures) (c .before .part-entry .ensures) (not-false _ (c .if2 .left))
 
 alternatives-of-requires : tie.Need-alternatives-of-requires Inv-loop μ-loop Inv-found μ-found
 alternatives-of-requires c κs = search needs
@@ -57,8 +58,8 @@ loop-holds c = placing-start _ _ _ _ _ _ _ (inside (c .before))
 word-at-requires : tie.Need-word-at-requires Inv-loop μ-loop Inv-found μ-found
 word-at-requires c κs = search needs
 
-is-entry-requires : tie.Need-is-entry-requires Inv-loop μ-loop Inv-found μ-found
-is-entry-requires c κs = search needs
+part-entry-requires : tie.Need-part-entry-requires Inv-loop μ-loop Inv-found μ-found
+part-entry-requires c κs = rw (c .word-at .ensures) (rankable-high (c .before .before .before .before .before .before .before .before .before .before .pre .0 .by-ranks) (c .before .loop .i))
 
 traits-of-requires : tie.Need-traits-of-requires Inv-loop μ-loop Inv-found μ-found
 traits-of-requires c κs =
@@ -107,7 +108,7 @@ found-again c =
     let own = out .before .before in
     let test = own .before .before .before in
     choosing-turn _ _ _ _ _ _ _ _ _ (test .before .found .inv) (omega (arith, test .if1 .left)) _ _ (own .before .loop .inv)
-    (tested isEntry (own .word-at .ensures) (out .before .is-entry .ensures) (not-true _ (out .if2 .taken))) _ (c .opener-before .ensures)
+    (tested isEntry (own .word-at .ensures) (out .before .part-entry .ensures) (not-true _ (out .if2 .taken))) _ (c .opener-before .ensures)
 
 returns : tie.Need-returns Inv-loop μ-loop Inv-found μ-found
 returns c = chosen-out _ _ _ _ _ _ _ _ (c .before .before .alternatives-of .ensures) _ _ (c .before .found .inv) (c .if1 .taken)
@@ -137,7 +138,7 @@ chosen-link-spec =
     tail-from-requires
     loop-holds
     word-at-requires
-    is-entry-requires
+    part-entry-requires
     traits-of-requires
     add-next
     sub-t24

@@ -13,6 +13,7 @@ use Rattle.library.specs.Walk.{entryOf}
 use Rattle.library.proofs.Walking.{tested, Folding, folding-start, folding-inside, folding-turn, folding-out}
 use Rattle.rank.specs.Walk.{tailFrom}
 use Rattle.rank.specs.Tables.{passIn}
+use Rattle.rank.proofs.Slots.{rankable-high}
 use Rattle.link.proofs.Choices.{tail-cons}
 use Rattle.link.proofs.link.tail_from.Statement.{statement}
 use Rattle.link.proofs.link.tail_from.Tie as tie
@@ -26,7 +27,7 @@ abbrev μ-loop : tie.MeasureT-loop
 
 -- an entry stands there
 entry : (c : tie.Else1 Inv-loop μ-loop) → isEntry (getD (c .before .before .before .before .before .before .args .part .now) (c .before .before .before .loop .i) 0) ≡ true
-entry c = tested isEntry (c .before .before .word-at .ensures) (c .before .is-entry .ensures) (not-false _ (c .if1 .left))
+entry c = tested isEntry (c .before .before .word-at .ensures) (c .before .part-entry .ensures) (not-false _ (c .if1 .left))
 
 loop-holds : tie.Need-loop-holds Inv-loop μ-loop
 loop-holds c = folding-start (c .before .before .pre .1) refl
@@ -34,14 +35,14 @@ loop-holds c = folding-start (c .before .before .pre .1) refl
 word-at-requires : tie.Need-word-at-requires Inv-loop μ-loop
 word-at-requires c κs = search needs
 
-is-entry-requires : tie.Need-is-entry-requires Inv-loop μ-loop
-is-entry-requires c κs = search needs
+part-entry-requires : tie.Need-part-entry-requires Inv-loop μ-loop
+part-entry-requires c κs = rw (c .word-at .ensures) (rankable-high (c .before .before .before .before .pre .0) (c .before .loop .i))
 
 returns : tie.Need-returns Inv-loop μ-loop
 unfolding tailFrom
 returns c =
     folding-out (c .before .before .before .loop .inv)
-    (tested isEntry (c .before .before .word-at .ensures) (c .before .is-entry .ensures) (not-true _ (c .if1 .taken)))
+    (tested isEntry (c .before .before .word-at .ensures) (c .before .part-entry .ensures) (not-true _ (c .if1 .taken)))
 
 add-i : tie.Need-add-i Inv-loop μ-loop
 add-i c = omega (arith, folding-inside (c .before .before .before .loop .inv) (entry c))
@@ -76,7 +77,7 @@ tail-from-spec =
     μ-loop
     loop-holds
     word-at-requires
-    is-entry-requires
+    part-entry-requires
     returns
     add-i
     passes-requires

@@ -1,9 +1,11 @@
--- `rank::entry::write_check_ranks` meets its contract: three words are written.
+-- `rank::entry::write_check_ranks` meets its contract: the ranks of the checks so far are written.
 -- Assumes nothing.
 use native.Mathlib.Omega.{arith}
-use Prim.Native.Nat.{_+_}
-use lib.ListN.{set, length-set}
-use Rattle.rank.specs.Tables.{otherCheck}
+use mathlib.Core.Path.{ap, _∙_}
+use Prim.Native.Nat.{_-_}
+use Rattle.image.specs.Word.{mostFacts}
+use Rattle.rank.specs.Tables.{firstStep, markRank, checkRank}
+use Rattle.rank.proofs.Slots.{Writing, writing-start, writing-turn, writing-end}
 use borrow.Author.Needs.{needs}
 use Rattle.rank.proofs.entry.write_check_ranks.Statement.{statement}
 use Rattle.rank.proofs.entry.write_check_ranks.Tie as tie
@@ -12,89 +14,76 @@ use Rattle.rank.proofs.entry.write_check_ranks.Lts as lts
 use Rattle.rank.proofs.entry.check_mark.Reads as check-mark-reads
 use Rattle.rank.proofs.entry.mark_rank.Reads as mark-rank-reads
 
-cast-base : tie.Need-cast-base
+abbrev Inv-loop : tie.InvT-loop
+Inv-loop all q ranks₀ base f₀ ranks f = Writing (q .none) (firstStep (q .none)) (checkRank all q) ranks₀ ranks f
+
+abbrev μ-loop : tie.MeasureT-loop
+μ-loop all q ranks₀ base f₀ ranks f = mostFacts - f
+
+cast-base : tie.Need-cast-base Inv-loop μ-loop
 cast-base c = search needs
 
-mul-ranks : tie.Need-mul-ranks
-mul-ranks c = search needs
+loop-holds : tie.Need-loop-holds Inv-loop μ-loop
+loop-holds c = writing-start _ _ _ _ (omega arith)
 
-slice-write-ranks : tie.Need-slice-write-ranks
-slice-write-ranks c = search needs
-
-check-mark-requires : tie.Need-check-mark-requires
+check-mark-requires : tie.Need-check-mark-requires Inv-loop μ-loop
 check-mark-requires c κs = search needs
 
-mark-rank-requires : tie.Need-mark-rank-requires
+mark-rank-requires : tie.Need-mark-rank-requires Inv-loop μ-loop
 mark-rank-requires c κs = search needs
 
-cast-ranks : tie.Need-cast-ranks
+cast-ranks : tie.Need-cast-ranks Inv-loop μ-loop
 cast-ranks c = search needs
 
-add-ranks : tie.Need-add-ranks
+add-ranks : tie.Need-add-ranks Inv-loop μ-loop
 add-ranks c = search needs
 
-mul-ranks-2 : tie.Need-mul-ranks-2
-mul-ranks-2 c = search needs
+mul-ranks : tie.Need-mul-ranks Inv-loop μ-loop
+mul-ranks c = search needs
 
-slice-write-ranks-2 : tie.Need-slice-write-ranks-2
-slice-write-ranks-2 c =
-    let start = c .before .before .before .before in
+slice-write-ranks : tie.Need-slice-write-ranks Inv-loop μ-loop
+slice-write-ranks c = search needs
+
+add-f : tie.Need-add-f Inv-loop μ-loop
+add-f c = search needs
+
+loop-less : tie.Need-loop-less Inv-loop μ-loop
+loop-less c = search needs
+
+loop-again : tie.Need-loop-again Inv-loop μ-loop
+loop-again c =
+    let mark = c .before in
+    let turn = mark .before in
+    let at-loop = turn .before in
+    let start = at-loop .before .before .before in
     let a = start .args in
-    omega (arith, start .pre, length-set (a .ranks .now) (a .q .none) (a .q .fact))
+    writing-turn _ _ _ _ (at-loop .loop .ranks) (at-loop .loop .f) (at-loop .loop .inv) (omega (arith, turn .loop-test .taken)) (start .pre) _
+    (c .mark-rank .ensures ∙ ap (markRank (a .all) (a .q)) (mark .check-mark .ensures))
 
-check-mark-requires-2 : tie.Need-check-mark-requires-2
-check-mark-requires-2 c κs = search needs
-
-mark-rank-requires-2 : tie.Need-mark-rank-requires-2
-mark-rank-requires-2 c κs = search needs
-
-cast-ranks-2 : tie.Need-cast-ranks-2
-cast-ranks-2 c = search needs
-
-add-ranks-2 : tie.Need-add-ranks-2
-add-ranks-2 c = search needs
-
-mul-ranks-3 : tie.Need-mul-ranks-3
-mul-ranks-3 c = search needs
-
-slice-write-ranks-3 : tie.Need-slice-write-ranks-3
-slice-write-ranks-3 c =
-    let rank = c .before .before in
-    let start = rank .before .before .before .before in
-    let a = start .args in
-    omega (
-      arith,
-      start .pre,
-      length-set (a .ranks .now) (a .q .none) (a .q .fact),
-      length-set (set (a .ranks .now) (a .q .none) (a .q .fact)) (a .q .none + otherCheck) (rank .mark-rank .result),
-    )
-
-same-length : tie.Need-same-length
+same-length : tie.Need-same-length Inv-loop μ-loop
 same-length c = search needs
 
-returns : tie.Need-returns
+returns : tie.Need-returns Inv-loop μ-loop
 returns c =
-    let one = c .before .before in
-    simp (c .mark-rank2 .ensures, c .before .check-mark2 .ensures, one .mark-rank .ensures, one .before .check-mark .ensures)
+    let at-loop = c .before in
+    writing-end _ _ _ _ (at-loop .loop .ranks) (at-loop .loop .f) (at-loop .loop .inv) (omega (arith, c .loop-test .left))
 
 pub write-check-ranks-spec : {M : Type 1} → statement M
 write-check-ranks-spec =
     tie.close
     (tie.spec
+    Inv-loop
+    μ-loop
     cast-base
-    mul-ranks
-    slice-write-ranks
+    loop-holds
     check-mark-requires
     mark-rank-requires
     cast-ranks
     add-ranks
-    mul-ranks-2
-    slice-write-ranks-2
-    check-mark-requires-2
-    mark-rank-requires-2
-    cast-ranks-2
-    add-ranks-2
-    mul-ranks-3
-    slice-write-ranks-3
+    mul-ranks
+    slice-write-ranks
+    add-f
+    loop-less
+    loop-again
     same-length
     returns)

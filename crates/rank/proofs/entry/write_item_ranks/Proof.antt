@@ -24,7 +24,7 @@ returns c =
     let checks = steps .before .before .before .before in
     let start = checks .before .before .before .before in
     let a = start .args in
-    items-ranked (a .all) (a .q) (a .masks .now) (a .ranks .now) _ _ (start .pre) (checks .write-check-ranks .ensures) (steps .write-step-ranks .ensures)
+    items-ranked (a .all) (a .q) (a .masks .now) (a .ranks .now) _ _ (checks .write-check-ranks .ensures) (steps .write-step-ranks .ensures)
 
 pub write-item-ranks-spec : {M : Type 1} → statement M
 write-item-ranks-spec =

@@ -5,8 +5,8 @@ use native.Mathlib.Omega.{arith}
 use Prim.Native.Nat.{_+_, _-_}
 use lib.ListN.{length}
 use mathlib.Core.Path.{ap, _∙_}
-use Rattle.rank.specs.Tables.{firstStep, markRank}
-use Rattle.rank.proofs.Slots.{Stepping, stepping-start, stepping-turn, stepping-end}
+use Rattle.rank.specs.Tables.{firstStep, markRank, stepRank}
+use Rattle.rank.proofs.Slots.{Writing, writing-start, writing-turn, writing-end}
 use Rattle.rank.proofs.entry.write_step_ranks.Statement.{statement}
 use Rattle.rank.proofs.entry.write_step_ranks.Tie as tie
 use Rattle.rank.proofs.entry.write_step_ranks.Reads as reads
@@ -15,10 +15,10 @@ use Rattle.rank.proofs.entry.step_mark.Reads as step-mark-reads
 use Rattle.rank.proofs.entry.mark_rank.Reads as mark-rank-reads
 
 abbrev Inv-loop : tie.InvT-loop
-Inv-loop all q masks ranks₀ base a₀ ranks a = Stepping all q masks ranks₀ ranks a
+Inv-loop all q masks ranks₀ base a₀ ranks a = Writing (firstStep (q .none)) (length ranks₀) (stepRank all q masks) ranks₀ ranks a
 
 abbrev μ-loop : tie.MeasureT-loop
-μ-loop all q masks ranks₀ base a₀ ranks a = length ranks₀ - (q .none + firstStep + a)
+μ-loop all q masks ranks₀ base a₀ ranks a = length ranks₀ - (firstStep (q .none) + a)
 
 cast-base : tie.Need-cast-base Inv-loop μ-loop
 cast-base c = search needs
@@ -32,8 +32,7 @@ add-base c = search needs
 loop-holds : tie.Need-loop-holds Inv-loop μ-loop
 loop-holds c =
     let start = c .before .before .before in
-    let a = start .args in
-    stepping-start (a .all) (a .q) (a .masks .now) (a .ranks .now) (start .pre)
+    writing-start _ _ _ _ (start .pre .room)
 
 add-loop : tie.Need-add-loop Inv-loop μ-loop
 add-loop c = omega (arith, c .loop .inv .low, c .before .before .before .before .good)
@@ -42,7 +41,7 @@ step-mark-requires : tie.Need-step-mark-requires Inv-loop μ-loop
 step-mark-requires c κs =
     let at-loop = c .before in
     let start = at-loop .before .before .before .before in
-    (start .pre .fact, omega (arith, c .loop-test .taken, at-loop .loop .inv .long, start .pre .masked))
+    (start .pre .fact, omega (arith, c .loop-test .taken, at-loop .loop .inv .written .long, start .pre .masked))
 
 mark-rank-requires : tie.Need-mark-rank-requires Inv-loop μ-loop
 mark-rank-requires c κs = search needs
@@ -68,8 +67,8 @@ loop-again c =
     let turn = mark .before in
     let at-loop = turn .before in
     let a = at-loop .before .before .before .before .args in
-    stepping-turn (a .all) (a .q) (a .masks .now) (a .ranks .now) (at-loop .loop .ranks) (at-loop .loop .a) (at-loop .loop .inv)
-    (omega (arith, turn .loop-test .taken, at-loop .loop .inv .long)) _
+    writing-turn _ _ _ _ (at-loop .loop .ranks) (at-loop .loop .a) (at-loop .loop .inv)
+    (omega (arith, turn .loop-test .taken, at-loop .loop .inv .written .long)) (omega arith) _
     (c .mark-rank .ensures ∙ ap (markRank (a .all) (a .q)) (mark .step-mark .ensures))
 
 same-length : tie.Need-same-length Inv-loop μ-loop
@@ -78,9 +77,8 @@ same-length c = search needs
 returns : tie.Need-returns Inv-loop μ-loop
 returns c =
     let at-loop = c .before in
-    let a = at-loop .before .before .before .before .args in
-    stepping-end (a .all) (a .q) (a .masks .now) (a .ranks .now) (at-loop .loop .ranks) (at-loop .loop .a) (at-loop .loop .inv)
-    (omega (arith, c .loop-test .left, at-loop .loop .inv .long))
+    writing-end _ _ _ _ (at-loop .loop .ranks) (at-loop .loop .a) (at-loop .loop .inv)
+    (omega (arith, c .loop-test .left, at-loop .loop .inv .written .long))
 
 pub write-step-ranks-spec : {M : Type 1} → statement M
 write-step-ranks-spec =

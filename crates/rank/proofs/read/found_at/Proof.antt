@@ -9,22 +9,23 @@ use Rattle.image.specs.Word.{isEntry}
 use Rattle.library.specs.Walk.{entryOf}
 use Rattle.library.proofs.Walking.{tested, entry-inside}
 use Rattle.rank.specs.Tables.{traitsIn}
+use Rattle.rank.proofs.Slots.{rankable-high}
 use Rattle.rank.proofs.read.found_at.Statement.{statement}
 use Rattle.rank.proofs.read.found_at.Tie as tie
 
 -- an entry stands there
 entry : (c : tie.Else1) → let a = c .before .before .before .before .before .before .before .args in isEntry (getD (a .part .now) (a .i) 0) ≡ true
-entry c = tested isEntry (c .before .before .word-at .ensures) (c .before .is-entry .ensures) (not-false _ (c .if1 .left))
+entry c = tested isEntry (c .before .before .word-at .ensures) (c .before .part-entry .ensures) (not-false _ (c .if1 .left))
 
 word-at-requires : tie.Need-word-at-requires
 word-at-requires c κs = search needs
 
-is-entry-requires : tie.Need-is-entry-requires
-is-entry-requires c κs = search needs
+part-entry-requires : tie.Need-part-entry-requires
+part-entry-requires c κs = rw (c .word-at .ensures) (rankable-high (c .before .before .before .before .before .pre .0 .by-ranks) (c .before .before .before .before .before .args .i))
 
 returns : tie.Need-returns
 returns c =
-    let none = tested isEntry (c .before .before .word-at .ensures) (c .before .is-entry .ensures) (not-true _ (c .if1 .taken)) in
+    let none = tested isEntry (c .before .before .word-at .ensures) (c .before .part-entry .ensures) (not-true _ (c .if1 .taken)) in
     record { entry = sym none; traits = λ e. absurd (false≢true (sym none ∙ e)) }
 
 traits-of-requires : tie.Need-traits-of-requires
@@ -50,7 +51,7 @@ found-at-spec =
     tie.close
     (tie.spec
     word-at-requires
-    is-entry-requires
+    part-entry-requires
     returns
     traits-of-requires
     returns-2)

@@ -14,6 +14,7 @@ use Rattle.library.specs.Walk.{entryOf}
 use Rattle.library.proofs.Walking.{tested, folding-inside, folding-out, Leaving, leaving-start, leaving-turn, leaving-dead, leaving-rest, leaving-out}
 use Rattle.rank.specs.Walk.{depthFrom}
 use Rattle.rank.specs.Tables.{rankIn, depthIn, lacksIn}
+use Rattle.rank.proofs.Slots.{rankable-high}
 use Rattle.rank.proofs.Looks.{depth-cons}
 use Rattle.rank.proofs.read.greatest_depth.Statement.{statement}
 use Rattle.rank.proofs.read.greatest_depth.Tie as tie
@@ -27,7 +28,7 @@ abbrev μ-loop : tie.MeasureT-loop
 
 -- an entry stands there
 entry : (c : tie.Else1 Inv-loop μ-loop) → isEntry (getD (c .before .before .before .before .before .before .args .part .now) (c .before .before .before .loop .i) 0) ≡ true
-entry c = tested isEntry (c .before .before .word-at .ensures) (c .before .is-entry .ensures) (not-false _ (c .if1 .left))
+entry c = tested isEntry (c .before .before .word-at .ensures) (c .before .part-entry .ensures) (not-false _ (c .if1 .left))
 
 -- it is one of the words
 inside : (c : tie.Else1 Inv-loop μ-loop) → c .before .before .before .loop .i < length (c .before .before .before .before .before .before .args .part .now)
@@ -49,14 +50,14 @@ loop-holds c = leaving-start (c .before .before .pre .1) refl
 word-at-requires : tie.Need-word-at-requires Inv-loop μ-loop
 word-at-requires c κs = search needs
 
-is-entry-requires : tie.Need-is-entry-requires Inv-loop μ-loop
-is-entry-requires c κs = search needs
+part-entry-requires : tie.Need-part-entry-requires Inv-loop μ-loop
+part-entry-requires c κs = rw (c .word-at .ensures) (rankable-high (c .before .before .before .before .pre .0) (c .before .loop .i))
 
 returns : tie.Need-returns Inv-loop μ-loop
 unfolding depthFrom
 returns c =
     let here = c .before .before .before .loop .inv in
-    let e = tested isEntry (c .before .before .word-at .ensures) (c .before .is-entry .ensures) (not-true _ (c .if1 .taken)) in
+    let e = tested isEntry (c .before .before .word-at .ensures) (c .before .part-entry .ensures) (not-true _ (c .if1 .taken)) in
     record { value = folding-out (here .folding) e; ended = leaving-out here e }
 
 rank-of-requires : tie.Need-rank-of-requires Inv-loop μ-loop
@@ -97,7 +98,7 @@ greatest-depth-spec =
     μ-loop
     loop-holds
     word-at-requires
-    is-entry-requires
+    part-entry-requires
     returns
     rank-of-requires
     returns-2

@@ -14,6 +14,7 @@ use Rattle.library.specs.Library.{alternativesFrom}
 use Rattle.library.proofs.Walking.{tested, Walking, walking-start, walking-opener-inside, walking-turn, walking-skip, walking-entry-inside}
 use Rattle.rank.specs.Walk.{loweredFrom}
 use Rattle.rank.specs.Tables.{lookIn, deadIn}
+use Rattle.rank.proofs.Slots.{rankable-high}
 use Rattle.rank.proofs.Looks.{lowered-cons, lowered-done}
 use Rattle.rank.proofs.read.lowered_rank.Statement.{statement}
 use Rattle.rank.proofs.read.lowered_rank.Tie as tie
@@ -35,7 +36,7 @@ opener c =
 -- an entry that a walk has left stands there
 entry : (c : tie.Else1 Inv-loop μ-loop)
     → isEntry (getD (c .before .before .before .before .before .before .before .before .args .part .now) (c .before .before .before .loop .i) 0) ≡ true
-entry c = tested isEntry (c .before .before .word-at .ensures) (c .before .is-entry .ensures) (not-false _ (c .if1 .left))
+entry c = tested isEntry (c .before .before .word-at .ensures) (c .before .part-entry .ensures) (not-false _ (c .if1 .left))
 
 loop-holds : tie.Need-loop-holds Inv-loop μ-loop
 loop-holds c = walking-start (c .before .before .before .before .pre .1) refl
@@ -46,8 +47,8 @@ word-at-requires c κs = search needs
 add-i : tie.Need-add-i Inv-loop μ-loop
 add-i c = let at-loop = c .before in omega (arith, at-loop .loop .inv .within, at-loop .before .before .before .before .before .good)
 
-is-entry-requires : tie.Need-is-entry-requires Inv-loop μ-loop
-is-entry-requires c κs = search needs
+part-entry-requires : tie.Need-part-entry-requires Inv-loop μ-loop
+part-entry-requires c κs = rw (c .word-at .ensures) (rankable-high (c .before .before .before .before .before .before .pre .0 .by-ranks) (c .before .loop .i))
 
 is-kind-requires : tie.Need-is-kind-requires Inv-loop μ-loop
 is-kind-requires c κs = search needs
@@ -59,7 +60,7 @@ returns c =
     let at-loop = word .before in
     let a = at-loop .before .before .before .before .before .args in
     let r = at-loop .loop .r in
-    lowered-done (lookIn (a .q) (a .ahead .now) (a .behind .now) (a .ranks .now)) r (at-loop .loop .inv) (tested isEntry (word .word-at .ensures) (test .before .is-entry .ensures) (not-true _ (test .if1 .taken)))
+    lowered-done (lookIn (a .q) (a .ahead .now) (a .behind .now) (a .ranks .now)) r (at-loop .loop .inv) (tested isEntry (word .word-at .ensures) (test .before .part-entry .ensures) (not-true _ (test .if1 .taken)))
     (tested (λ w. leb r 1 || not (isKind 7 w)) (word .word-at .ensures) (ap (λ (k : Bool). leb r 1 || not k) (c .before .is-kind .ensures)) (c .if2 .taken))
 
 read-alternative-requires : tie.Need-read-alternative-requires Inv-loop μ-loop
@@ -100,7 +101,7 @@ lowered-rank-spec =
     loop-holds
     word-at-requires
     add-i
-    is-entry-requires
+    part-entry-requires
     is-kind-requires
     returns
     read-alternative-requires
