@@ -425,7 +425,7 @@ const char *fault_text(enum fault fault)
         "a link's second word is of a wrong kind, or names no entry",
         "a link's alternative cannot stay untouched",
         "beside a link's entry another touches the fact, or has no run",
-        "a link's entry is no step or check with the touch, or no sequence",
+        "a link's entry does not give the touch, or is no sequence",
         "a link is not the newest choice"};
     return text[fault];
 }
