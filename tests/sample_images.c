@@ -106,6 +106,29 @@ static void write_calls(void)
 }
 
 /*
+ * checks. Facts: 0 armed, 1 locked, which one step sets. Sequences that check
+ * one of them or both where they do not set them, and that call those.
+ */
+#define ARM_AND_LOCK DO(0)
+#define REST DO(1)
+
+static void write_checks(void)
+{
+    BUILD(HEAD(2, 2, 8),
+          STEP(0), SETS(0), SETS(1),
+          STEP(1),
+          SEQUENCE(0), TAKES(ARM_AND_LOCK), TAKES(CHECK(0)),
+          SEQUENCE(1), TAKES(ARM_AND_LOCK), TAKES(CHECK(0), CHECK(1)),
+          SEQUENCE(2), TAKES(CHECK(0), CALL(0)),
+          SEQUENCE(3), TAKES(CHECK(1), REST),
+          SEQUENCE(4), TAKES(CALL(3)), TAKES(REST),
+          SEQUENCE(5), TAKES(CALL(6), ARM_AND_LOCK),
+          SEQUENCE(6), TAKES(CHECK(0)), TAKES(REST),
+          SEQUENCE(7), TAKES(CALL(0), CALL(6)));
+    write_image("checks");
+}
+
+/*
  * many. Sequences 0 to 15 set both facts, sequence 16 sets fact 0, or by an
  * empty alternative they do not. Sequence 17 calls 0 to 16, sequence 18 calls 0
  * to 14.
@@ -181,6 +204,7 @@ int main(int count, char **arguments)
     write_setup();
     write_poll();
     write_calls();
+    write_checks();
     write_many();
     letters_image();
     twelve_image();
