@@ -9,9 +9,10 @@
 static uint64_t refusal(uint64_t n) { return n << 32; }
 
 /* What is possible: on the last side sets, clears and untouched, on the first
- * side needs, sets and untouched. */
+ * side needs, sets and untouched, and of the last item that sets, clears, needs
+ * or checks the fact that it clears it, and that there is none. */
 struct row {
-    uint64_t run, empty, last[3], first[3];
+    uint64_t run, empty, last[3], first[3], standing[2];
 };
 
 static struct {
@@ -55,20 +56,36 @@ static struct row step_row(uint32_t a)
 {
     uint64_t n = lib.needs[a], s = lib.sets[a], c = lib.clears[a];
     struct row r = {lib.all, 0, {s, c, lib.all & ~(s | c)},
-                    {n, s & ~n, lib.all & ~(n | s)}};
+                    {n, s & ~n, lib.all & ~(n | s)},
+                    {c, lib.all & ~(n | s | c)}};
     return r;
+}
+
+static struct row check_row(uint32_t f)
+{
+    uint64_t n = UINT64_C(1) << f;
+    struct row r = {lib.all, lib.all, {0, 0, lib.all}, {n, 0, lib.all & ~n},
+                    {0, lib.all & ~n}};
+    return r;
+}
+
+static struct row entry_row(uint32_t w)
+{
+    uint32_t p = payload_of(w);
+    return kind_of(w) == KIND_STEP_ENTRY ? step_row(p)
+           : kind_of(w) == KIND_CHECK    ? check_row(p)
+                                         : lib.table[p];
 }
 
 /* The row of a sequence by its alternatives and the table as it stands. */
 static struct row look(const uint32_t *image, size_t i)
 {
-    struct row sum = {0, 0, {0, 0, 0}, {0, 0, 0}};
+    struct row sum = {0, 0, {0, 0, 0}, {0, 0, 0}, {0, 0}};
     while (kind_of(image[i]) == KIND_ALTERNATIVE) {
-        struct row x = {lib.all, lib.all, {0, 0, lib.all}, {0, 0, lib.all}};
+        struct row x = {lib.all, lib.all, {0, 0, lib.all}, {0, 0, lib.all},
+                        {0, lib.all}};
         for (i++; is_entry(image[i]); i++) {
-            uint32_t p = payload_of(image[i]);
-            struct row y = kind_of(image[i]) == KIND_STEP_ENTRY ? step_row(p)
-                                                               : lib.table[p];
+            struct row y = entry_row(image[i]);
             x.run &= y.run;
             x.empty &= y.empty;
             x.last[0] = (x.last[0] & y.last[2]) | y.last[0];
@@ -77,6 +94,8 @@ static struct row look(const uint32_t *image, size_t i)
             x.first[0] |= x.first[2] & y.first[0];
             x.first[1] |= x.first[2] & y.first[1];
             x.first[2] &= y.first[2];
+            x.standing[0] = (x.standing[0] & y.standing[1]) | y.standing[0];
+            x.standing[1] &= y.standing[1];
         }
         if (x.run == 0)
             continue;
@@ -88,6 +107,8 @@ static struct row look(const uint32_t *image, size_t i)
         sum.first[0] |= x.first[0];
         sum.first[1] |= x.first[1];
         sum.first[2] |= x.first[2];
+        sum.standing[0] |= x.standing[0];
+        sum.standing[1] |= x.standing[1];
     }
     return sum;
 }
@@ -129,6 +150,7 @@ uint64_t plain_cards(const uint32_t *image, size_t length, uint64_t *area,
         card[4] = r->last[1];
         card[5] = r->run & ~(r->last[1] | r->last[2]);
         card[6] = r->run & ~(r->last[0] | r->last[2]);
+        card[7] = r->run & ~(r->standing[0] | r->standing[1]);
     }
     return lib.sequences;
 }
@@ -145,14 +167,24 @@ struct traits {
     int stays, runs;
 };
 
+/* The mark of a step or a check: 0 and 1 for the touches, 2 for none. */
+static uint32_t mark_of(uint32_t w)
+{
+    uint32_t p = payload_of(w);
+    uint64_t one, other;
+    if (kind_of(w) == KIND_CHECK)
+        return ask.first && p == ask.fact ? 0 : 2;
+    one = ask.first ? lib.needs[p] : lib.sets[p];
+    other = ask.first ? lib.sets[p] : lib.clears[p];
+    return one >> ask.fact & 1 ? 0 : other >> ask.fact & 1 ? 1 : 2;
+}
+
 static struct traits traits(uint32_t w)
 {
     struct traits t;
     uint32_t p = payload_of(w), mark;
-    if (kind_of(w) == KIND_STEP_ENTRY) {
-        uint64_t one = ask.first ? lib.needs[p] : lib.sets[p];
-        uint64_t other = ask.first ? lib.sets[p] : lib.clears[p];
-        mark = one >> ask.fact & 1 ? 0 : other >> ask.fact & 1 ? 1 : 2;
+    if (kind_of(w) != KIND_SEQUENCE_ENTRY) {
+        mark = mark_of(w);
         t.rank = mark == ask.mark ? 0 : ask.none;
         t.stays = mark == 2;
         t.runs = 1;

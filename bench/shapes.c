@@ -69,11 +69,26 @@ static uint64_t some(uint32_t count, uint32_t from, uint32_t to)
     return c;
 }
 
+/* One time in 16 a check of one of the facts, which is put as an entry. */
+static int puts_check(uint32_t facts)
+{
+    if (below(16) != 0)
+        return 0;
+    put(KIND_CHECK, below(facts));
+    return 1;
+}
+
+static void put_step_or_check(uint32_t steps, uint32_t facts)
+{
+    if (!puts_check(facts))
+        put(KIND_STEP_ENTRY, below(steps));
+}
+
 /*
  * An image like an everyday one: of its words a quarter are steps of about
  * four words, the rest sequences of some four alternatives, most of them of two
- * to six entries, mostly steps; a sequence calls those of lower numbers, and
- * now and then any one.
+ * to six entries, mostly steps, one in 16 a check; a sequence calls those of
+ * lower numbers, and now and then any one.
  */
 static void everyday(struct shape *shape, const char *name, uint32_t words)
 {
@@ -88,11 +103,13 @@ static void everyday(struct shape *shape, const char *name, uint32_t words)
         stop = out->length + (words - 1 - out->length) / (sequences - c);
         put(KIND_SEQUENCE, c);
         put(KIND_ALTERNATIVE, 0);
-        put(KIND_STEP_ENTRY, below(steps));
+        put_step_or_check(steps, facts);
         while (out->length + 8 < stop) {
             put(KIND_ALTERNATIVE, 0);
             entries = 2 + below(5);
             for (i = 0; i < entries; i++) {
+                if (puts_check(facts))
+                    continue;
                 if (c > 0 && below(4) == 0)
                     put(KIND_SEQUENCE_ENTRY,
                         below(8) == 0 ? below(sequences) : below(c));
@@ -102,7 +119,7 @@ static void everyday(struct shape *shape, const char *name, uint32_t words)
         }
         put(KIND_ALTERNATIVE, 0);
         while (out->length < stop)
-            put(KIND_STEP_ENTRY, below(steps));
+            put_step_or_check(steps, facts);
     }
     end();
 }
@@ -128,6 +145,8 @@ static void random_words(struct shape *shape)
         while (out->length + 1 < stop) {
             put(KIND_ALTERNATIVE, 0);
             while (out->length < stop && below(5) != 0) {
+                if (puts_check(64))
+                    continue;
                 if (below(2) == 0)
                     put(KIND_SEQUENCE_ENTRY, below(256));
                 else

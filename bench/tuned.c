@@ -3,12 +3,12 @@
  *
  * Check: the words are read by the grammar, one test a word; only an image that
  * fails goes through the rules one by one. Cards: each alternative becomes a
- * short list of rows, in which neighbouring steps are joined once and for all;
- * an alternative without calls is worked out once. Sequences are visited in the
- * finishing order of a depth-first walk and against it by turns, and only where
- * one that they call has changed. Chain: everything is about one fact, so that
- * counting what each alternative still lacks gives the answer in one walk, by
- * levels.
+ * short list of rows, in which neighbouring steps and checks are joined once
+ * and for all; an alternative without calls is worked out once. Sequences are
+ * visited in the finishing order of a depth-first walk and against it by turns,
+ * and only where one that they call has changed. Chain: everything is about one
+ * fact, so that counting what each alternative still lacks gives the answer in
+ * one walk, by levels.
  */
 #include "bench.h"
 #include <string.h>
@@ -82,6 +82,8 @@ static int well_formed(const uint32_t *image, size_t length, uint32_t facts,
     const four seven = all_four(0x70000000u), nine = all_four(0x90000000u);
     const four eight_end = all_four(0x80000000u + steps);
     const four nine_end = all_four(0x90000000u + sequences);
+    const four thirteen = all_four(0xd0000000u);
+    const four thirteen_end = all_four(0xd0000000u + facts);
     if (i == 0)
         return 0;
     for (c = 0, inside = 0; i + 1 < length; i++) {
@@ -89,7 +91,8 @@ static int well_formed(const uint32_t *image, size_t length, uint32_t facts,
         while (inside && i + 4 < length) {
             four v, right;
             memcpy(&v, image + i, sizeof v);
-            right = (v < eight_end) | ((v >= nine) & (v < nine_end)) | (v == seven);
+            right = (v < eight_end) | ((v >= nine) & (v < nine_end)) |
+                    ((v >= thirteen) & (v < thirteen_end)) | (v == seven);
             if (both_halves(right) != -1)
                 break;
             i += 4;
@@ -103,7 +106,8 @@ static int well_formed(const uint32_t *image, size_t length, uint32_t facts,
                 return 0;
             inside = 1;
         } else if (!inside ||
-                   !((w - 0x80000000u < steps) | (w - 0x90000000u < sequences))) {
+                   !((w - 0x80000000u < steps) | (w - 0x90000000u < sequences) |
+                     (w - 0xd0000000u < facts))) {
             break;
         }
     }
@@ -136,50 +140,72 @@ uint64_t tuned_check(const uint32_t *image, size_t length)
     return payload_of(head);
 }
 
-/* Two columns side by side. */
+/* The kinds of a sequence's words, in an image that is accepted. */
+static int is_any_entry(uint32_t w) { return w - 0x80000000u < 0x70000000u; }
+static int is_step(uint32_t w) { return w - 0x80000000u < 0x10000000u; }
+static int is_call(uint32_t w) { return w - 0x90000000u < 0x10000000u; }
+static int is_check(uint32_t w) { return w - 0xd0000000u < 0x10000000u; }
+
+/* Two columns side by side, and one of them twice. */
 typedef uint64_t pair __attribute__((vector_size(16)));
 
+static pair twice_first(pair x) { return __builtin_shuffle(x, (pair){0, 0}); }
+static pair twice_second(pair x) { return __builtin_shuffle(x, (pair){1, 1}); }
+
 /*
- * What is possible, in pairs: last is sets and clears, first is needs and sets,
- * and the two untouched columns each twice.
+ * What is possible, in pairs, which make 64 bytes: last is sets and clears,
+ * first is needs and sets, and untouched is that on the last side and on the
+ * first. Standing is of the last item that sets, clears, needs or checks the
+ * fact: it clears it, and there is none.
  */
 struct row {
-    pair last, last_untouched, first, first_untouched;
+    pair last, first, untouched, standing;
 };
 
 enum { RUN = 1, EMPTY = 2 };
 enum { STEP_ROWS = MOST_SEQUENCES, JOINED_ROWS = STEP_ROWS + MOST_STEPS };
 
-/* Rows of sequences, of steps, and of neighbouring steps joined. */
+/* Rows of sequences, of steps, and of neighbouring steps and checks joined. */
 static struct row rows[JOINED_ROWS + MOST_WORDS / 2];
 static uint8_t flags[JOINED_ROWS + MOST_WORDS / 2];
 
 static struct row joined(struct row x, const struct row *y)
 {
-    x.last = (x.last & y->last_untouched) | y->last;
-    x.last_untouched &= y->last_untouched;
-    x.first |= x.first_untouched & y->first;
-    x.first_untouched &= y->first_untouched;
+    x.last = (x.last & twice_first(y->untouched)) | y->last;
+    x.first |= twice_second(x.untouched) & y->first;
+    x.untouched &= y->untouched;
+    x.standing = (x.standing & twice_second(y->standing)) |
+                 (pair){y->standing[0], 0};
+    return x;
+}
+
+/* A row and after it a check of fact f. */
+static struct row checked(struct row x, uint32_t f)
+{
+    uint64_t bit = UINT64_C(1) << f;
+    x.first |= twice_second(x.untouched) & (pair){bit, 0};
+    x.untouched &= (pair){~UINT64_C(0), ~bit};
+    x.standing &= (pair){~bit, ~bit};
     return x;
 }
 
 static struct row united(struct row x, struct row y)
 {
     x.last |= y.last;
-    x.last_untouched |= y.last_untouched;
     x.first |= y.first;
-    x.first_untouched |= y.first_untouched;
+    x.untouched |= y.untouched;
+    x.standing |= y.standing;
     return x;
 }
 
 static int same(struct row x, struct row y)
 {
-    pair d = (x.last ^ y.last) | (x.last_untouched ^ y.last_untouched) |
-             (x.first ^ y.first) | (x.first_untouched ^ y.first_untouched);
+    pair d = (x.last ^ y.last) | (x.first ^ y.first) |
+             (x.untouched ^ y.untouched) | (x.standing ^ y.standing);
     return (d[0] | d[1]) == 0;
 }
 
-/* What the alternatives without calls give, and the lists of those with calls. */
+/* What the alternatives without calls give, and the lists of the others. */
 static struct row base[MOST_SEQUENCES];
 static uint8_t base_flags[MOST_SEQUENCES];
 static uint32_t first_list[MOST_SEQUENCES + 1];
@@ -198,12 +224,11 @@ static size_t read_steps(const uint32_t *image, uint64_t all, uint32_t steps)
         mask[0] = mask[1] = mask[2] = 0;
         for (i++; (w = image[i]) - 0x20000000u < 0x30000000u; i++)
             mask[kind_of(w) - 2] |= UINT64_C(1) << (w & 63);
-        u = all & ~(mask[1] | mask[2]);
-        r->last = (pair){mask[1], mask[2]};
-        r->last_untouched = (pair){u, u};
         u = all & ~(mask[0] | mask[1]);
+        r->last = (pair){mask[1], mask[2]};
         r->first = (pair){mask[0], mask[1] & ~mask[0]};
-        r->first_untouched = (pair){u, u};
+        r->untouched = (pair){all & ~(mask[1] | mask[2]), u};
+        r->standing = (pair){mask[2], u & ~mask[2]};
     }
     return i;
 }
@@ -212,7 +237,7 @@ static void read_sequences(const uint32_t *image, size_t i, uint64_t all,
                            uint32_t sequences)
 {
     const struct row none = {{0, 0}, {0, 0}, {0, 0}, {0, 0}};
-    const struct row start = {{0, 0}, {all, all}, {0, 0}, {all, all}};
+    const struct row start = {{0, 0}, {0, 0}, {all, all}, {0, all}};
     uint32_t c, n = 0, lists = 0, spare = JOINED_ROWS;
     memset(calls, 0, sizeof calls[0] * sequences);
     memset(callers, 0, sizeof callers[0] * sequences);
@@ -223,38 +248,47 @@ static void read_sequences(const uint32_t *image, size_t i, uint64_t all,
         for (i++; image[i] == 0x70000000u;) {
             uint32_t from = n, w;
             struct row x = start;
-            for (i++; is_entry(w = image[i]);) {
-                if (w < 0x90000000u) {
-                    uint32_t step = STEP_ROWS + payload_of(w);
-                    x = rows[step];
-                    if (image[i + 1] - 0x80000000u < 0x10000000u) {
-                        for (i++; (w = image[i]) - 0x80000000u < 0x10000000u; i++)
-                            x = joined(x, &rows[STEP_ROWS + payload_of(w)]);
-                        if (n == from && !is_entry(w)) {
-                            n = from;
-                            goto constant;
-                        }
-                        step = spare++;
-                        rows[step] = x;
-                        flags[step] = RUN;
-                    } else {
-                        i++;
-                        if (n == from && !is_entry(image[i]))
-                            goto constant;
-                    }
-                    list_rows[n++] = (uint16_t)step;
-                } else {
+            uint8_t has = RUN | EMPTY;
+            for (i++; is_any_entry(w = image[i]);) {
+                if (is_call(w)) {
                     uint32_t d = payload_of(w);
                     calls[c][d >> 6] |= UINT64_C(1) << (d & 63);
                     callers[d][c >> 6] |= UINT64_C(1) << (c & 63);
                     list_rows[n++] = (uint16_t)d;
                     i++;
+                } else {
+                    uint32_t step = STEP_ROWS + payload_of(w);
+                    size_t begin = i++;
+                    if (is_step(w)) {
+                        x = rows[step];
+                        has = RUN;
+                    } else {
+                        x = checked(start, payload_of(w));
+                        has = RUN | EMPTY;
+                    }
+                    for (;; i++) {
+                        if (is_step(w = image[i])) {
+                            x = joined(x, &rows[STEP_ROWS + payload_of(w)]);
+                            has = RUN;
+                        } else if (is_check(w)) {
+                            x = checked(x, payload_of(w));
+                        } else {
+                            break;
+                        }
+                    }
+                    if (n == from && !is_call(w))
+                        goto constant;
+                    if (i - begin > 1 || (has & EMPTY)) {
+                        step = spare++;
+                        rows[step] = x;
+                        flags[step] = has;
+                    }
+                    list_rows[n++] = (uint16_t)step;
                 }
             }
             if (n == from) {
-                found |= EMPTY;
             constant:
-                found |= RUN;
+                found |= has;
                 sum = united(sum, x);
             } else {
                 list_end[++lists] = (uint16_t)n;
@@ -325,7 +359,7 @@ static int visit(uint32_t c, struct row start)
 
 static void settle(uint32_t sequences, uint64_t all)
 {
-    const struct row start = {{0, 0}, {all, all}, {0, 0}, {all, all}};
+    const struct row start = {{0, 0}, {0, 0}, {all, all}, {0, all}};
     uint8_t order[MOST_SEQUENCES];
     uint64_t dirty[4];
     uint32_t i, c, k;
@@ -373,12 +407,13 @@ uint64_t tuned_cards(const uint32_t *image, size_t length, uint64_t *area,
         uint64_t *card = area + CARD * c;
         card[0] = flags[c] |
                   (uint64_t)__builtin_popcountll(r.last[0] | r.last[1]) << 8;
-        card[1] = run & ~(r.first[1] | r.first_untouched[0]);
+        card[1] = run & ~(r.first[1] | r.untouched[1]);
         card[2] = r.first[0];
         card[3] = r.last[0];
         card[4] = r.last[1];
-        card[5] = run & ~(r.last[1] | r.last_untouched[0]);
-        card[6] = run & ~(r.last[0] | r.last_untouched[0]);
+        card[5] = run & ~(r.last[1] | r.untouched[0]);
+        card[6] = run & ~(r.last[0] | r.untouched[0]);
+        card[7] = run & ~(r.standing[0] | r.standing[1]);
     }
     return sequences;
 }
@@ -391,7 +426,8 @@ struct alternative {
 static struct alternative alternatives[MOST_WORDS];
 static uint16_t first_alternative[MOST_SEQUENCES + 1];
 
-/* The calls of each sequence: the alternative they stand in, and the next one. */
+/* The calls of each sequence: the alternative that one stands in, and the
+ * next. */
 struct call {
     uint16_t alternative, next;
 };
@@ -399,6 +435,9 @@ struct call {
 static struct call all_calls[MOST_WORDS + 1];
 static uint16_t calls_of[MOST_SEQUENCES];
 static uint8_t marks[MOST_STEPS];
+
+/* The word of a check that touches the fact, or 0 where none does. */
+static uint32_t touching_check;
 
 /* Marks of the steps: 0 and 1 for the touches, 2 for none. */
 static size_t read_marks(const uint32_t *image, uint32_t steps, uint32_t one,
@@ -419,6 +458,20 @@ static size_t read_marks(const uint32_t *image, uint32_t steps, uint32_t one,
     return i;
 }
 
+/* The mark of a step or a check. */
+static uint32_t mark_of(uint32_t w)
+{
+    return w < 0x90000000u ? marks[payload_of(w)] : w == touching_check ? 0 : 2;
+}
+
+/* Whether an entry cannot stay untouched. */
+static int must_touch(uint32_t w, const uint16_t *depth)
+{
+    if (w < 0x90000000u)
+        return marks[payload_of(w)] != 2;
+    return w < 0xa0000000u ? depth[payload_of(w)] == 0 : w == touching_check;
+}
+
 static uint32_t read_calls(const uint32_t *image, size_t i, uint32_t sequences)
 {
     uint32_t c, m = 0, n = 0;
@@ -430,10 +483,12 @@ static uint32_t read_calls(const uint32_t *image, size_t i, uint32_t sequences)
             uint32_t w, count = 0, touched = 0;
             alt->owner = (uint16_t)c;
             alt->from = (uint16_t)(i + 1);
-            for (i++; is_entry(w = image[i]); i++) {
+            for (i++; is_any_entry(w = image[i]); i++) {
                 uint32_t p = payload_of(w);
                 if (w < 0x90000000u) {
                     touched |= marks[p] != 2;
+                } else if (w >= 0xa0000000u) {
+                    touched |= w == touching_check;
                 } else {
                     all_calls[++n].alternative = (uint16_t)m;
                     all_calls[n].next = calls_of[p];
@@ -498,7 +553,7 @@ static void find_depths(uint32_t count, uint16_t *depth)
     }
 }
 
-/* The entries at which the touch may stand, of an alternative that has a run. */
+/* The entries at which the touch may stand, of an alternative with a run. */
 struct window {
     uint32_t from, end;
 };
@@ -508,21 +563,17 @@ static struct window window(const uint32_t *image,
                             const uint16_t *depth)
 {
     struct window win = {alt->from, alt->end};
-    uint32_t i, w;
+    uint32_t i;
     if (first) {
         for (i = alt->from; i < alt->end; i++) {
-            w = image[i];
-            if (w < 0x90000000u ? marks[payload_of(w)] != 2
-                                : depth[payload_of(w)] == 0) {
+            if (must_touch(image[i], depth)) {
                 win.end = i + 1;
                 break;
             }
         }
     } else {
         for (i = alt->end; i > alt->from; i--) {
-            w = image[i - 1];
-            if (w < 0x90000000u ? marks[payload_of(w)] != 2
-                                : depth[payload_of(w)] == 0) {
+            if (must_touch(image[i - 1], depth)) {
                 win.from = i - 1;
                 break;
             }
@@ -551,8 +602,8 @@ static void find_links(const uint32_t *image, uint32_t count, int first,
         win = window(image, alt, first, depth);
         for (i = win.from; i < win.end; i++) {
             uint32_t w = image[i], p = payload_of(w);
-            if (w < 0x90000000u) {
-                if (marks[p] == mark) {
+            if (!is_call(w)) {
+                if (mark_of(w) == mark) {
                     links[alt->owner] = 1;
                     queue[to++] = (uint8_t)alt->owner;
                     break;
@@ -587,7 +638,7 @@ static uint32_t quiet_alternative(const uint32_t *image, const uint16_t *depth,
     for (m = first_alternative[c + 1] - 1u;; m--) {
         int ok = alternatives[m].lacks_quiet == 0;
         for (i = alternatives[m].from; ok && i < alternatives[m].end; i++)
-            if (image[i] >= 0x90000000u)
+            if (is_call(image[i]))
                 ok = depth[payload_of(image[i])] < depth[c];
         if (ok)
             return m - first_alternative[c];
@@ -608,9 +659,9 @@ static void write_links(const uint32_t *image, int first, uint32_t mark,
                 continue;
             win = window(image, alt, first, depth);
             for (i = win.from; i < win.end; i++) {
-                uint32_t w = image[i], p = payload_of(w);
-                if (k == 1 ? w < 0x90000000u && marks[p] == mark
-                           : w >= 0x90000000u && links[p] == k - 1)
+                uint32_t w = image[i];
+                if (k == 1 ? !is_call(w) && mark_of(w) == mark
+                           : is_call(w) && links[payload_of(w)] == k - 1)
                     break;
             }
             if (i < win.end)
@@ -644,6 +695,7 @@ uint64_t tuned_chain(const uint32_t *image, size_t length, uint64_t sequence,
     at = read_marks(image, steps_of(image[0]),
                     (first ? 0x20000000u : 0x30000000u) | f,
                     (first ? 0x30000000u : 0x40000000u) | f);
+    touching_check = first ? 0xd0000000u | f : 0;
     count = read_calls(image, at, sequences);
     find_depths(count, depth);
     if (question % 3 == 2) {

@@ -22,6 +22,9 @@
  * often it is called, and after 16 such lines the asking stops with "and so
  * on".
  *
+ * Where an alternative leaves the fact untouched and checks it, the line says
+ * so: it is taken only where the fact stands.
+ *
  * A file that cannot be read, and an image that is refused, get a line on
  * standard error and exit status 1.
  */
@@ -32,12 +35,13 @@
 
 /* The words of a card after its flags, in their order. */
 static const char *const names[DULIMOVEN_CARD_WORDS] = {
-    "",          "always needed", "may need",      "may set",
-    "may clear", "always set",    "always cleared"};
+    "",          "always needed", "may need",       "may set",
+    "may clear", "always set",    "always cleared", "always stands"};
 
 /*
- * The "always" columns, each with the "may" column beside it and the two
- * questions whose chains break its rule, in the order in which they are asked.
+ * The "always" columns that have questions, each with the "may" column beside
+ * it and the two questions whose chains break its rule, in the order in which
+ * they are asked.
  */
 enum { COLUMNS = 3 };
 static const struct column {
@@ -65,9 +69,6 @@ static const struct {
                  {"needs", " first", "needs"},
                  {"sets", " first", "sets"},
                  {"neither needs nor sets", "", "never needs or sets"}};
-
-/* The kinds of the words that a library's sequences are made of. */
-enum { SEQUENCE = 6, ALTERNATIVE = 7, STEP_ENTRY = 8, SEQUENCE_ENTRY = 9 };
 
 /* The library and its cards. */
 static uint32_t image[DULIMOVEN_MOST_IMAGE_WORDS];
@@ -118,7 +119,8 @@ static uint32_t kind_of(uint32_t word)
     return word >> 28;
 }
 
-/* The number of the step or sequence that a word opens or an entry names. */
+/* The number of what a word opens, or of what an entry names: a step, a
+ * sequence, or the fact of a check. */
 static uint32_t number_of(uint32_t word)
 {
     return word & 0xfffffffu;
@@ -126,7 +128,9 @@ static uint32_t number_of(uint32_t word)
 
 static int is_entry(uint32_t word)
 {
-    return kind_of(word) == STEP_ENTRY || kind_of(word) == SEQUENCE_ENTRY;
+    return kind_of(word) == DULIMOVEN_KIND_STEP_ENTRY ||
+           kind_of(word) == DULIMOVEN_KIND_SEQUENCE_ENTRY ||
+           kind_of(word) == DULIMOVEN_KIND_CHECK;
 }
 
 /* Entries in a row. */
@@ -140,11 +144,11 @@ static struct entries entries_of(const uint32_t *link)
     struct entries entries;
     const uint32_t *word = image;
     uint32_t alternatives = dulimoven_link_alternative(link) + 1;
-    while (kind_of(*word) != SEQUENCE ||
+    while (kind_of(*word) != DULIMOVEN_KIND_SEQUENCE ||
            number_of(*word) != dulimoven_link_sequence(link))
         word++;
     for (; alternatives > 0; word++)
-        if (kind_of(*word) == ALTERNATIVE)
+        if (kind_of(*word) == DULIMOVEN_KIND_ALTERNATIVE)
             alternatives--;
     entries.begin = entries.end = word;
     while (is_entry(*entries.end))
@@ -174,7 +178,7 @@ static int can_touch(const struct reason *reason, uint32_t entry)
 {
     const uint64_t *card;
     uint64_t touched;
-    if (kind_of(entry) != SEQUENCE_ENTRY)
+    if (kind_of(entry) != DULIMOVEN_KIND_SEQUENCE_ENTRY)
         return 0;
     card = cards + DULIMOVEN_CARD_WORDS * number_of(entry);
     touched = card[DULIMOVEN_MAY_SET] | card[DULIMOVEN_MAY_CLEAR];
@@ -258,13 +262,36 @@ static void find_reason(struct reason *reason, uint32_t sequence,
             add_link(reason, link);
 }
 
+/* Whether the alternative that a link takes checks the reason's fact. */
+static int checks_fact(const struct reason *reason, const uint32_t *link)
+{
+    struct entries entries = entries_of(link);
+    for (; entries.begin < entries.end; entries.begin++)
+        if (kind_of(*entries.begin) == DULIMOVEN_KIND_CHECK &&
+            number_of(*entries.begin) == reason->fact)
+            return 1;
+    return 0;
+}
+
+/* Whether two reasons with the same links check their facts in the same. */
+static int same_checks(const struct reason *one, const struct reason *other)
+{
+    size_t i;
+    for (i = 0; i < one->count; i++)
+        if (checks_fact(one, one->links[i]) !=
+            checks_fact(other, other->links[i]))
+            return 0;
+    return 1;
+}
+
 /* Whether two reasons are the same. Where one is cut, that cannot be told. */
 static int same_reason(const struct reason *one, const struct reason *other)
 {
     return !one->cut && !other->cut && one->question == other->question &&
            one->count == other->count &&
            memcmp(one->links, other->links,
-                  one->count * sizeof one->links[0]) == 0;
+                  one->count * sizeof one->links[0]) == 0 &&
+           same_checks(one, other);
 }
 
 /* Prints the facts of a column. */
@@ -287,22 +314,26 @@ static int print_called(const struct reason *reason, struct entries entries)
         if (!can_touch(reason, *entries.begin) || seen[called])
             continue;
         seen[called] = 1;
-        printf(count == 0 ? ", which calls sequence %u" : ", %u", called);
+        printf(count == 0 ? "calls sequence %u" : ", %u", called);
         count++;
     }
     return count;
 }
 
-/* What a link of kind 12 says: what the alternative calls, or why it ends. */
+/* What a link of kind 12 says: whether the alternative checks the fact, and
+ * what it calls, or why it ends. */
 static void print_untouched(const struct reason *reason, const uint32_t *link,
                             const char *it)
 {
     struct entries entries = entries_of(link);
     int question = untouched_beside(reason->question);
+    printf(", which ");
+    if (checks_fact(reason, link))
+        printf("checks %s and ", it);
     if (entries.begin == entries.end)
-        printf(", which is empty");
+        printf("is empty");
     else if (print_called(reason, entries) == 0)
-        printf(", which %s %s", outcomes[question].end, it);
+        printf("%s %s", outcomes[question].end, it);
 }
 
 /* What a link of kind 11 says: the entry that gives the touch. */
@@ -312,8 +343,10 @@ static void print_touch(const struct reason *reason, const uint32_t *link,
     uint32_t position = dulimoven_link_position(link);
     uint32_t entry = entries_of(link).begin[position];
     printf(", where position %u", position);
-    if (kind_of(entry) == SEQUENCE_ENTRY)
+    if (kind_of(entry) == DULIMOVEN_KIND_SEQUENCE_ENTRY)
         printf(" calls sequence %u", number_of(entry));
+    else if (kind_of(entry) == DULIMOVEN_KIND_CHECK)
+        printf(" checks %s", it);
     else
         printf(", step %u, %s %s", number_of(entry),
                outcomes[reason->question].end, it);

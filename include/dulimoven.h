@@ -38,11 +38,11 @@ extern "C" {
  * The numbers from here to the refusals are plain numbers and no enumerators,
  * since they are multiplied and added with one another.
  */
-#define DULIMOVEN_FORMAT 1
-#define DULIMOVEN_VERSION (DULIMOVEN_FORMAT * 1000 + 3)
+#define DULIMOVEN_FORMAT 2
+#define DULIMOVEN_VERSION (DULIMOVEN_FORMAT * 1000 + 0)
 
 /* How many words of 64 bits a card has, and how many of 32 bits a link. */
-#define DULIMOVEN_CARD_WORDS 7
+#define DULIMOVEN_CARD_WORDS 8
 #define DULIMOVEN_LINK_WORDS 2
 
 /* Bounds: the most words of an image, facts, steps and sequences. */
@@ -67,6 +67,31 @@ extern "C" {
 #define DULIMOVEN_STACK_CHAIN 65536
 
 /*
+ * The kinds of an image's words. Kinds 10 to 12 are those of a chain's words
+ * (enum dulimoven_link_word).
+ */
+enum dulimoven_kind {
+    /* the first word: how many facts, steps and sequences there are */
+    DULIMOVEN_KIND_HEAD = 1,
+    /* the step needs, sets or clears the fact of that number */
+    DULIMOVEN_KIND_NEEDS = 2,
+    DULIMOVEN_KIND_SETS = 3,
+    DULIMOVEN_KIND_CLEARS = 4,
+    /* open a step, a sequence, and an alternative of the sequence */
+    DULIMOVEN_KIND_STEP = 5,
+    DULIMOVEN_KIND_SEQUENCE = 6,
+    DULIMOVEN_KIND_ALTERNATIVE = 7,
+    /* entries of an alternative: a step, and a sequence */
+    DULIMOVEN_KIND_STEP_ENTRY = 8,
+    DULIMOVEN_KIND_SEQUENCE_ENTRY = 9,
+    /* an entry: checks that the fact of that number stands. It is no step and
+     * changes nothing, and a run executes only if its checks are met. */
+    DULIMOVEN_KIND_CHECK = 13,
+    /* the last word */
+    DULIMOVEN_KIND_SUM = 15
+};
+
+/*
  * The refusals. Of those that apply a call answers the first in this order: 1,
  * 2 and 3; of 4, 5, 6 and 13 the one at the earliest word, and in one word the
  * lowest; then 7, and 8 to 12. From 8 to 12 the position is 0.
@@ -88,7 +113,7 @@ enum dulimoven_refusal {
     DULIMOVEN_FACT_ORDER = 6,
     /* fewer steps or sequences than the head counts; the last word's place */
     DULIMOVEN_MISSING = 7,
-    /* the card area has fewer than 7 words of 64 bits for each sequence */
+    /* the card area has fewer than 8 words of 64 bits for each sequence */
     DULIMOVEN_CARD_AREA = 8,
     /* the sequence asked about is not in the library */
     DULIMOVEN_SEQUENCE = 9,
@@ -129,8 +154,9 @@ uint64_t dulimoven_check(const uint32_t *image, size_t image_len);
 
 /*
  * The words of a card, in their order. In all but the flags bit f is fact f. A
- * fact is needed where a run first touches it by a need, set or cleared where
- * the run's last touch sets or clears it. Without a run all words are 0.
+ * fact is needed where a run first touches it by a need, and a check of it is
+ * one; it is set or cleared where the run's last touch sets or clears it.
+ * Without a run all words are 0.
  */
 enum dulimoven_card_word {
     /* dulimoven_has_run, dulimoven_has_empty_run, dulimoven_changeable */
@@ -146,14 +172,19 @@ enum dulimoven_card_word {
     /* a run exists, and every run sets it */
     DULIMOVEN_ALWAYS_SET = 5,
     /* a run exists, and every run clears it */
-    DULIMOVEN_ALWAYS_CLEARED = 6
+    DULIMOVEN_ALWAYS_CLEARED = 6,
+    /* a run exists, and in every run the last step or check that sets, clears,
+     * needs or checks it is there and does not clear it. So the fact stands
+     * wherever a run of the sequence has executed to its end. A step that needs
+     * and clears it counts as clearing. */
+    DULIMOVEN_ALWAYS_STANDS = 7
 };
 
 /* The parts of a card's flags. */
 enum dulimoven_flag {
     /* bit 0: a run exists */
     DULIMOVEN_FLAG_RUN = 0x1,
-    /* bit 1: an empty run exists */
+    /* bit 1: an empty run exists: one without steps. It may have checks. */
     DULIMOVEN_FLAG_EMPTY_RUN = 0x2,
     /* bits 8 to 14: how many facts are in "may set" or in "may clear" */
     DULIMOVEN_FLAG_COUNT_SHIFT = 8,
@@ -169,13 +200,13 @@ enum dulimoven_flag {
  *            pointer to them. They may not overlap the image, and no other
  *            thread may read or write them before the call returns. An empty
  *            area, area_len 0, may have a null pointer.
- * area_len   how many words area has; 7 for each sequence are enough.
+ * area_len   how many words area has; 8 for each sequence are enough.
  *
  * Answers C, the number of sequences, at most 256. The card of sequence c
- * stands in the 7 words from area[7 * c] on then, and the words after the last
+ * stands in the 8 words from area[8 * c] on then, and the words after the last
  * card are as they were. Otherwise the call answers one of refusals 1 to 7 and
  * 13, as dulimoven_check does for the image, or
- *   8  DULIMOVEN_CARD_AREA   area_len is below 7 * C; position 0
+ *   8  DULIMOVEN_CARD_AREA   area_len is below 8 * C; position 0
  * and every word of the area is as it was.
  */
 uint64_t dulimoven_cards(const uint32_t *image, size_t image_len,
@@ -185,13 +216,14 @@ uint64_t dulimoven_cards(const uint32_t *image, size_t image_len,
  * The questions of dulimoven_chain. 0 to 2 are of the last side: a step touches
  * a fact if it sets or clears it, and the last touch decides. 3 to 5 are of the
  * first side: a step touches a fact if it needs or sets it, and the first touch
- * decides; a step that needs and sets a fact needs it.
+ * decides; a step that needs and sets a fact needs it. There a check of the
+ * fact counts as a need; on the last side a check touches nothing.
  *
  * A fact is in "may set", "may clear" or "may need" exactly where question 0, 1
  * or 3 has a chain. Of a sequence that has a run, a fact is missing from an
  * "always" column exactly where one of the column's two questions has a chain:
  * 4 and 5 for "always needed", 1 and 2 for "always set", 0 and 2 for "always
- * cleared".
+ * cleared". "Always stands" has no questions.
  */
 enum dulimoven_question {
     /* some run's last touch sets the fact */
@@ -218,7 +250,8 @@ enum dulimoven_link_word {
     DULIMOVEN_LINK_CHOICE = 10,
     /* the second word; its payload is the position, counted from 0 within the
      * alternative, of the entry that gives the touch: a sequence, which the
-     * next link is about, or in the last link a step */
+     * next link is about, or in the last link a step, or for question 3 a
+     * check */
     DULIMOVEN_LINK_POSITION = 11,
     /* the second word, payload 0: the alternative has a run that leaves the
      * fact untouched */
@@ -318,7 +351,7 @@ static inline int dulimoven_has_run(const uint64_t *card)
     return (card[DULIMOVEN_FLAGS] & DULIMOVEN_FLAG_RUN) != 0;
 }
 
-/* Whether it has an empty run. */
+/* Whether it has an empty run, one without steps. */
 static inline int dulimoven_has_empty_run(const uint64_t *card)
 {
     return (card[DULIMOVEN_FLAGS] & DULIMOVEN_FLAG_EMPTY_RUN) != 0;

@@ -4,6 +4,7 @@
  * call the image as it was. C11 and C++17. Prints a line for each word that
  * differs, then a count; the exit status is 0 where nothing differs.
  */
+#include "checks.h"
 #include "dead.h"
 #include "harness.h"
 #include "pulses.h"
@@ -11,7 +12,10 @@
 
 /*
  * The card area under test, with guard words on both sides, and what it has to
- * be after the call. A long area has 3 words more than any library needs.
+ * be after the call. A long area has 3 words more than any library needs. The
+ * last word of each expected card follows from the last item that sets, clears,
+ * needs or checks the fact, in every run: 1 where it is there and does not
+ * clear it.
  */
 enum {
     CARD = DULIMOVEN_CARD_WORDS,
@@ -76,20 +80,22 @@ static void expect_l(void)
 }
 
 /*
- * L: "card area 20 words gets 8, 21 suffices". Every length from 0 to three
- * words more than suffice: a shorter area stays as it was, a longer one keeps
- * its last words.
+ * L, "in L's sample the areas become one word too few and just enough": its
+ * three cards have 24 words, so 23 words get 8 and 24 suffice. Every length
+ * from 0 to 28: a shorter area stays as it was, a longer one keeps its last
+ * words.
  */
 static void areas_of_l(void)
 {
-    size_t enough = L_SEQUENCES * CARD;
+    size_t enough = 24;
     size_t length;
     build(library_l, L_SUM);
+    hold("three cards of eight words", L_SEQUENCES * CARD == enough);
     for (length = 0; length < enough; length++) {
         lend();
         cards("L, an area that is too short", length, REFUSED(8, 0));
     }
-    for (; length <= enough + 3; length++) {
+    for (; length <= enough + 4; length++) {
         lend();
         expect_l();
         cards("L, an area that suffices", length, L_SEQUENCES);
@@ -171,42 +177,57 @@ static void set_and_cleared(void)
 
 static void columns(void)
 {
-    /* runs: set. May and always set; one fact can change. */
+    /* runs: set. May and always set; one fact can change, and stands. */
     BUILD(HEAD(1, 3, 1), STEPS, SEQUENCE(0), ALTERNATIVE, SET);
     lend();
-    EXPECT(0, 0x101, 0, 0, 1, 0, 1, 0);
+    EXPECT(0, 0x101, 0, 0, 1, 0, 1, 0, 1);
     cards("<set>", CARD, 1);
 
-    /* the empty alternative that a hand-written card overlooked: not always */
+    /* the empty alternative that a hand-written card overlooked: not always,
+       and its run has no item */
     BUILD(HEAD(1, 3, 1), STEPS, SEQUENCE(0), ALTERNATIVE, SET, ALTERNATIVE);
     lend();
-    EXPECT(0, 0x103, 0, 0, 1, 0, 0, 0);
+    EXPECT(0, 0x103, 0, 0, 1, 0, 0, 0, 0);
     cards("<set>, <>", CARD, 1);
 
     /* a run with steps that never touches the fact's value: flags bit 1 is 0,
-       and yet it is not always set */
+       and yet it is not always set. It always stands, set or needed. */
     BUILD(HEAD(1, 3, 1), STEPS,
           SEQUENCE(0), ALTERNATIVE, SET, ALTERNATIVE, NEED);
     lend();
-    EXPECT(0, 0x101, 0, 1, 1, 0, 0, 0);
+    EXPECT(0, 0x101, 0, 1, 1, 0, 0, 0, 1);
     cards("<set>, <need>", CARD, 1);
 
-    /* the last touch decides on the one side, the first on the other */
+    /* the last touch decides on the one side, the first on the other; the last
+       item that names the fact is a clear, and a need */
     BUILD(HEAD(1, 3, 2), STEPS,
           SEQUENCE(0), ALTERNATIVE, NEED, SET, CLEAR,
           SEQUENCE(1), ALTERNATIVE, SET, NEED);
     lend();
-    EXPECT(0, 0x101, 1, 1, 0, 1, 0, 1);
-    EXPECT(1, 0x101, 0, 0, 1, 0, 1, 0);
+    EXPECT(0, 0x101, 1, 1, 0, 1, 0, 1, 0);
+    EXPECT(1, 0x101, 0, 0, 1, 0, 1, 0, 1);
     cards("<need, set, clear>; <set, need>", 2 * CARD, 2);
+
+    /* needed first, cleared last, and the need is the last item that names the
+       fact, though no run executes */
+    BUILD(HEAD(1, 3, 1), STEPS, SEQUENCE(0), ALTERNATIVE, CLEAR, NEED);
+    lend();
+    EXPECT(0, 0x101, 1, 1, 0, 1, 0, 1, 1);
+    cards("<clear, need>", CARD, 1);
+
+    /* the empty run alone */
+    BUILD(HEAD(1, 0, 1), SEQUENCE(0), ALTERNATIVE, CALL(0), ALTERNATIVE);
+    lend();
+    EXPECT(0, 3, 0, 0, 0, 0, 0, 0, 0);
+    cards("<itself>, <>", CARD, 1);
 
     /* sequence 1 is endless: its caller's first alternative gives no run */
     BUILD(HEAD(1, 3, 2), STEPS,
           SEQUENCE(0), ALTERNATIVE, SET, CALL(1), ALTERNATIVE, CLEAR,
           SEQUENCE(1), ALTERNATIVE, CALL(1));
     lend();
-    EXPECT(0, 0x101, 0, 0, 0, 1, 0, 1);
-    EXPECT(1, 0, 0, 0, 0, 0, 0, 0);
+    EXPECT(0, 0x101, 0, 0, 0, 1, 0, 1, 0);
+    EXPECT(1, 0, 0, 0, 0, 0, 0, 0, 0);
     cards("<set, endless>, <clear>", 2 * CARD, 2);
 
     /* a sequence without alternative has no run */
@@ -214,18 +235,18 @@ static void columns(void)
           SEQUENCE(0),
           SEQUENCE(1), ALTERNATIVE, SET, CALL(0));
     lend();
-    EXPECT(0, 0, 0, 0, 0, 0, 0, 0);
-    EXPECT(1, 0, 0, 0, 0, 0, 0, 0);
+    EXPECT(0, 0, 0, 0, 0, 0, 0, 0, 0);
+    EXPECT(1, 0, 0, 0, 0, 0, 0, 0, 0);
     cards("no alternative, and its caller", 2 * CARD, 2);
 
-    /* fact 63 is bit 63 */
+    /* fact 63 is bit 63; the facts that are set stand, fact 0 does not */
     BUILD(HEAD(64, 1, 1),
           STEP(0), NEEDS(63), SETS(62), SETS(63), CLEARS(0),
           SEQUENCE(0), ALTERNATIVE, DO(0));
     lend();
     EXPECT(0, 0x301, UINT64_C(0x8000000000000000),
            UINT64_C(0x8000000000000000), UINT64_C(0xc000000000000000), 1,
-           UINT64_C(0xc000000000000000), 1);
+           UINT64_C(0xc000000000000000), 1, UINT64_C(0xc000000000000000));
     cards("facts 62 and 63", CARD, 1);
 
     /* the same step, and it clears a fact that it sets */
@@ -242,24 +263,25 @@ static void dead(void)
     uint32_t left;
 
     /* only <clear> gives sequence 0 a run, only <> one to 3, and only <3, 0>
-       one to 4, sequence 0's clear after nothing; 1 and 2 have none */
+       one to 4, sequence 0's clear after nothing; 1 and 2 have none. A clear is
+       last, or no item names the fact. */
     BUILD_DEAD(dead_places);
     lend();
-    EXPECT(0, 0x101, 0, 0, 0, 1, 0, 1);
-    EXPECT(1, 0, 0, 0, 0, 0, 0, 0);
-    EXPECT(2, 0, 0, 0, 0, 0, 0, 0);
-    EXPECT(3, 3, 0, 0, 0, 0, 0, 0);
-    EXPECT(4, 0x101, 0, 0, 0, 1, 0, 1);
+    EXPECT(0, 0x101, 0, 0, 0, 1, 0, 1, 0);
+    EXPECT(1, 0, 0, 0, 0, 0, 0, 0, 0);
+    EXPECT(2, 0, 0, 0, 0, 0, 0, 0, 0);
+    EXPECT(3, 3, 0, 0, 0, 0, 0, 0, 0);
+    EXPECT(4, 0x101, 0, 0, 0, 1, 0, 1, 0);
     cards("dead places", 5 * CARD, 5);
 
     /* sequence 3 has the runs <set> and <>; 0 and 2 have them by <3>, and 1 by
-       <0>. The only step sets. */
+       <0>. The only step sets, and <> has no item. */
     BUILD_DEAD(found_later);
     lend();
-    EXPECT(0, 0x103, 0, 0, 1, 0, 0, 0);
-    EXPECT(1, 0x103, 0, 0, 1, 0, 0, 0);
-    EXPECT(2, 0x103, 0, 0, 1, 0, 0, 0);
-    EXPECT(3, 0x103, 0, 0, 1, 0, 0, 0);
+    EXPECT(0, 0x103, 0, 0, 1, 0, 0, 0, 0);
+    EXPECT(1, 0x103, 0, 0, 1, 0, 0, 0, 0);
+    EXPECT(2, 0x103, 0, 0, 1, 0, 0, 0, 0);
+    EXPECT(3, 0x103, 0, 0, 1, 0, 0, 0, 0);
     cards("found later", 4 * CARD, 4);
 
     /* sequences 0 and 2 have the run <clear> alone, 1 has none */
@@ -269,14 +291,32 @@ static void dead(void)
                  (unsigned)left);
         build_left(left);
         lend();
-        EXPECT(0, 0x101, 0, 0, 0, 1, 0, 1);
-        EXPECT(1, 0, 0, 0, 0, 0, 0, 0);
-        EXPECT(2, 0x101, 0, 0, 0, 1, 0, 1);
+        EXPECT(0, 0x101, 0, 0, 0, 1, 0, 1, 0);
+        EXPECT(1, 0, 0, 0, 0, 0, 0, 0, 0);
+        EXPECT(2, 0x101, 0, 0, 0, 1, 0, 1, 0);
         cards(name, 3 * CARD, 3);
     }
 }
 
-/* All 64 facts set by 64 steps: the count is 64, in bits 8 to 14. */
+/* The libraries of checks.h. */
+static void with_checks(void)
+{
+    size_t i, c;
+    for (i = 0; i < COUNT(checks); i++) {
+        const struct checks *library = &checks[i];
+        build_checks(library);
+        lend();
+        cards(library->name, library->sequences * CARD - 1, REFUSED(8, 0));
+        for (c = 0; c < library->sequences; c++)
+            expect(c, library->cards[c]);
+        cards(library->name, library->sequences * CARD, library->sequences);
+    }
+}
+
+/*
+ * All 64 facts set by 64 steps: the count is 64, in bits 8 to 14. None always
+ * stands, since each run names one alone.
+ */
 static void all_facts(void)
 {
     uint32_t f;
@@ -289,7 +329,7 @@ static void all_facts(void)
         PUT(ALTERNATIVE, DO(f));
     put_sum();
     lend();
-    EXPECT(0, 0x4001, 0, 0, UINT64_C(0xffffffffffffffff), 0, 0, 0);
+    EXPECT(0, 0x4001, 0, 0, UINT64_C(0xffffffffffffffff), 0, 0, 0, 0);
     cards("64 facts, each set by one alternative", CARD, 1);
     hold("a run", dulimoven_has_run(card_area + GUARD) == 1);
     hold("no empty run", dulimoven_has_empty_run(card_area + GUARD) == 0);
@@ -314,7 +354,7 @@ static void deep(const char *name, int up)
     lend();
     cards(name, MOST_C * CARD - 1, REFUSED(8, 0));
     for (c = 0; c < MOST_C; c++)
-        EXPECT(c, 0x101, 0, 0, 1, 0, 1, 0);
+        EXPECT(c, 0x101, 0, 0, 1, 0, 1, 0, 1);
     cards(name, LONG_AREA, MOST_C);
 }
 
@@ -324,12 +364,16 @@ static void names(void)
          DULIMOVEN_FLAGS == 0 && DULIMOVEN_ALWAYS_NEEDED == 1 &&
              DULIMOVEN_MAY_NEED == 2 && DULIMOVEN_MAY_SET == 3 &&
              DULIMOVEN_MAY_CLEAR == 4 && DULIMOVEN_ALWAYS_SET == 5 &&
-             DULIMOVEN_ALWAYS_CLEARED == 6 && DULIMOVEN_CARD_WORDS == 7);
+             DULIMOVEN_ALWAYS_CLEARED == 6 && DULIMOVEN_ALWAYS_STANDS == 7 &&
+             DULIMOVEN_CARD_WORDS == 8);
     hold("sequence 0 of L has an empty run",
          dulimoven_has_empty_run(cards_of_l[0]) == 1);
     hold("sequence 1 of L can change two facts",
          dulimoven_changeable(cards_of_l[1]) == 2);
     hold("sequence 2 of L has no run", dulimoven_has_run(cards_of_l[2]) == 0);
+    hold("a run of checks alone is an empty one",
+         dulimoven_has_empty_run(single_cards[0]) == 1 &&
+             dulimoven_has_empty_run(single_cards[7]) == 0);
 }
 
 int main(void)
@@ -340,6 +384,7 @@ int main(void)
     set_and_cleared();
     columns();
     dead();
+    with_checks();
     all_facts();
     deep("each calls the next", 1);
     deep("each calls the one before", 0);

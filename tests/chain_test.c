@@ -6,8 +6,10 @@
  * differs, then a count; the exit status is 0 where nothing differs.
  *
  * Below, "set", "clear" and "need" are steps that do this to fact 0, "other" is
- * a step that does neither, and <..> is an alternative with its entries.
+ * a step that does neither, "check" checks that it stands, and <..> is an
+ * alternative with its entries.
  */
+#include "checks.h"
 #include "dead.h"
 #include "harness.h"
 #include "pulses.h"
@@ -180,6 +182,40 @@ static void samples(void)
     unwritten("fact 63 of 65", 0, 0, 63, REFUSED(3, 0));
 }
 
+/* A question that has a chain, of one link or two. */
+struct answer {
+    uint64_t sequence, question, fact, links;
+    uint32_t given[4];
+};
+
+/*
+ * Every question about every fact of the first so many sequences of the library
+ * under test: the chains given, and "none" for every other question.
+ */
+static void every_question(const char *library, uint64_t sequences,
+                           uint64_t facts, const struct answer *chains,
+                           size_t count)
+{
+    uint64_t c, q, f;
+    for (c = 0; c < sequences; c++)
+        for (q = 0; q < 6; q++)
+            for (f = 0; f < facts; f++) {
+                char name[80];
+                size_t i = 0;
+                snprintf(name, sizeof name, "%s: %u, question %u, fact %u",
+                         library, (unsigned)c, (unsigned)q, (unsigned)f);
+                while (i < count &&
+                       (chains[i].sequence != c || chains[i].question != q ||
+                        chains[i].fact != f))
+                    i++;
+                if (i < count)
+                    shown(name, c, q, f, chains[i].given,
+                          2 * (size_t)chains[i].links);
+                else
+                    none(name, c, q, f);
+            }
+}
+
 /*
  * All 54 answers of L. Sequence 0 is <set 0>, <>; sequence 1 is <sequence 0,
  * step 1>, and step 1 needs fact 0 and sets fact 1; sequence 2 is endless.
@@ -198,10 +234,7 @@ static void samples(void)
  */
 static void every_question_of_l(void)
 {
-    static const struct {
-        uint64_t sequence, question, fact, links;
-        uint32_t given[4];
-    } chains[] = {
+    static const struct answer chains[] = {
         {0, 0, 0, 1, {CHOICE(0, 0), AT(0), 0, 0}},
         {0, 2, 0, 1, {CHOICE(0, 1), UNTOUCHED, 0, 0}},
         {0, 4, 0, 1, {CHOICE(0, 0), AT(0), 0, 0}},
@@ -219,28 +252,8 @@ static void every_question_of_l(void)
         {1, 2, 2, 1, {CHOICE(1, 0), UNTOUCHED, 0, 0}},
         {1, 5, 2, 1, {CHOICE(1, 0), UNTOUCHED, 0, 0}},
     };
-    uint64_t sequence, question, fact;
     build(library_l, L_SUM);
-    for (sequence = 0; sequence < 3; sequence++) {
-        for (question = 0; question < 6; question++) {
-            for (fact = 0; fact < 3; fact++) {
-                char name[64];
-                size_t i = 0;
-                snprintf(name, sizeof name, "L: %u, question %u, fact %u",
-                         (unsigned)sequence, (unsigned)question,
-                         (unsigned)fact);
-                while (i < COUNT(chains) && (chains[i].sequence != sequence ||
-                                             chains[i].question != question ||
-                                             chains[i].fact != fact))
-                    i++;
-                if (i < COUNT(chains))
-                    shown(name, sequence, question, fact, chains[i].given,
-                          2 * (size_t)chains[i].links);
-                else
-                    none(name, sequence, question, fact);
-            }
-        }
-    }
+    every_question("L", 3, 3, chains, COUNT(chains));
 }
 
 /* 9 before 10 before 11 before 12, whatever stands in the upper bits. */
@@ -821,10 +834,242 @@ static void dead(void)
 }
 
 /*
- * As many sequences as there can be, each calling the next (`up`) or the one
- * before, the one at the end a step that needs and sets fact 0.
+ * Every question of the libraries of checks.h. "On the first side a check
+ * counts as a need, and a chain may end on one"; on the last side it stays
+ * untouched, and it has depth 0.
  */
-static void build_deep(int up)
+static void with_checks(void)
+{
+    /* one alternative each, so 0 at each link; the fact is 0. 0 <check>, 1
+       <set, check>, 2 <clear, check>, 3 <check, clear>, 4 <check, set>, 5
+       <needs and clears>, 6 <need>, 7 <check, other>, 8 <other>. A set or a
+       clear is the last touch, whatever checks after it; the first touch is a
+       check, a need or a set, past a clear. */
+    static const struct answer single[] = {
+        {0, 2, 0, 1, {CHOICE(0, 0), UNTOUCHED, 0, 0}},
+        {0, 3, 0, 1, {CHOICE(0, 0), AT(0), 0, 0}},
+        {1, 0, 0, 1, {CHOICE(1, 0), AT(0), 0, 0}},
+        {1, 4, 0, 1, {CHOICE(1, 0), AT(0), 0, 0}},
+        {2, 1, 0, 1, {CHOICE(2, 0), AT(0), 0, 0}},
+        {2, 3, 0, 1, {CHOICE(2, 0), AT(1), 0, 0}},
+        {3, 1, 0, 1, {CHOICE(3, 0), AT(1), 0, 0}},
+        {3, 3, 0, 1, {CHOICE(3, 0), AT(0), 0, 0}},
+        {4, 0, 0, 1, {CHOICE(4, 0), AT(1), 0, 0}},
+        {4, 3, 0, 1, {CHOICE(4, 0), AT(0), 0, 0}},
+        {5, 1, 0, 1, {CHOICE(5, 0), AT(0), 0, 0}},
+        {5, 3, 0, 1, {CHOICE(5, 0), AT(0), 0, 0}},
+        {6, 2, 0, 1, {CHOICE(6, 0), UNTOUCHED, 0, 0}},
+        {6, 3, 0, 1, {CHOICE(6, 0), AT(0), 0, 0}},
+        {7, 2, 0, 1, {CHOICE(7, 0), UNTOUCHED, 0, 0}},
+        {7, 3, 0, 1, {CHOICE(7, 0), AT(0), 0, 0}},
+        {8, 2, 0, 1, {CHOICE(8, 0), UNTOUCHED, 0, 0}},
+        {8, 5, 0, 1, {CHOICE(8, 0), UNTOUCHED, 0, 0}},
+    };
+
+    /* Sequence 0 is <set 0>, <check 0>: fact 0 is set by alternative 0; by 1 it
+       is needed, and untouched on the last side. Fact 1 is untouched in both,
+       whose step and check have depth 0 alike: the newest, 1.
+       1 is <0, step 1>, and step 1 needs 0 and sets 1. Fact 0 is first set or
+       needed in sequence 0, which cannot stay untouched, so never by step 1; it
+       is last set in sequence 0, or untouched by its check. Fact 1 is set by
+       step 1 at position 1, first and last.
+       2 is <0>, <check 1>. Fact 0 as in sequence 0, by alternative 0; untouched
+       by alternative 1, of depth 1, and on the last side <0> has depth 2. Fact
+       1 is needed by the check in alternative 1, which leaves <0> untouched on
+       the first side; on the last side alternative 1, of depth 1.
+       3 is <itself, check 0>, <check 0, check 0>. The first touch of fact 0 is
+       in alternative 1 at position 0, or one link further by alternative 0.
+       4 is <>, <check 1, itself>: fact 1 is needed by the check in 1, and both
+       are untouched in 0, of depth 1, where alternative 1 has depth 2. */
+    static const struct answer nested[] = {
+        {0, 0, 0, 1, {CHOICE(0, 0), AT(0), 0, 0}},
+        {0, 2, 0, 1, {CHOICE(0, 1), UNTOUCHED, 0, 0}},
+        {0, 3, 0, 1, {CHOICE(0, 1), AT(0), 0, 0}},
+        {0, 4, 0, 1, {CHOICE(0, 0), AT(0), 0, 0}},
+        {0, 2, 1, 1, {CHOICE(0, 1), UNTOUCHED, 0, 0}},
+        {0, 5, 1, 1, {CHOICE(0, 1), UNTOUCHED, 0, 0}},
+        {1, 0, 0, 2, {CHOICE(1, 0), AT(0), CHOICE(0, 0), AT(0)}},
+        {1, 2, 0, 1, {CHOICE(1, 0), UNTOUCHED, 0, 0}},
+        {1, 3, 0, 2, {CHOICE(1, 0), AT(0), CHOICE(0, 1), AT(0)}},
+        {1, 4, 0, 2, {CHOICE(1, 0), AT(0), CHOICE(0, 0), AT(0)}},
+        {1, 0, 1, 1, {CHOICE(1, 0), AT(1), 0, 0}},
+        {1, 4, 1, 1, {CHOICE(1, 0), AT(1), 0, 0}},
+        {2, 0, 0, 2, {CHOICE(2, 0), AT(0), CHOICE(0, 0), AT(0)}},
+        {2, 2, 0, 1, {CHOICE(2, 1), UNTOUCHED, 0, 0}},
+        {2, 3, 0, 2, {CHOICE(2, 0), AT(0), CHOICE(0, 1), AT(0)}},
+        {2, 4, 0, 2, {CHOICE(2, 0), AT(0), CHOICE(0, 0), AT(0)}},
+        {2, 5, 0, 1, {CHOICE(2, 1), UNTOUCHED, 0, 0}},
+        {2, 2, 1, 1, {CHOICE(2, 1), UNTOUCHED, 0, 0}},
+        {2, 3, 1, 1, {CHOICE(2, 1), AT(0), 0, 0}},
+        {2, 5, 1, 1, {CHOICE(2, 0), UNTOUCHED, 0, 0}},
+        {3, 2, 0, 1, {CHOICE(3, 1), UNTOUCHED, 0, 0}},
+        {3, 3, 0, 1, {CHOICE(3, 1), AT(0), 0, 0}},
+        {3, 2, 1, 1, {CHOICE(3, 1), UNTOUCHED, 0, 0}},
+        {3, 5, 1, 1, {CHOICE(3, 1), UNTOUCHED, 0, 0}},
+        {4, 2, 0, 1, {CHOICE(4, 0), UNTOUCHED, 0, 0}},
+        {4, 5, 0, 1, {CHOICE(4, 0), UNTOUCHED, 0, 0}},
+        {4, 2, 1, 1, {CHOICE(4, 0), UNTOUCHED, 0, 0}},
+        {4, 3, 1, 1, {CHOICE(4, 1), AT(0), 0, 0}},
+        {4, 5, 1, 1, {CHOICE(4, 0), UNTOUCHED, 0, 0}},
+    };
+
+    /* Sequence 0 is <request, unit, release>, <check 1>. Request sets fact 0,
+       unit needs it and sets 1, release needs and clears it, measure needs 0
+       and 1 and sets 2. Fact 0: cleared last by release, set first by request;
+       alternative 1 leaves it. Fact 1: set by unit, or needed by the check,
+       which leaves it on the last side. Nothing touches fact 2, so alternative
+       1, the newest.
+       Sequence 1 is <request, unit, release> alone.
+       2 is <0, request, measure, release>. Fact 0: cleared last by release at
+       3; first set by request at 1, since sequence 0 can leave it, in one link.
+       Fact 1: sequence 0 cannot leave it on the first side, so it is needed by
+       the check there or set by unit, and measure is never first; on the last
+       side it can, and is the only one that sets. Fact 2 is set by measure.
+       3 is the same with sequence 1, which sets fact 1 and never leaves it or
+       fact 0 on the last side; request sets fact 0 first there, in two links.
+     */
+    static const struct answer skip[] = {
+        {0, 1, 0, 1, {CHOICE(0, 0), AT(2), 0, 0}},
+        {0, 2, 0, 1, {CHOICE(0, 1), UNTOUCHED, 0, 0}},
+        {0, 4, 0, 1, {CHOICE(0, 0), AT(0), 0, 0}},
+        {0, 5, 0, 1, {CHOICE(0, 1), UNTOUCHED, 0, 0}},
+        {0, 0, 1, 1, {CHOICE(0, 0), AT(1), 0, 0}},
+        {0, 2, 1, 1, {CHOICE(0, 1), UNTOUCHED, 0, 0}},
+        {0, 3, 1, 1, {CHOICE(0, 1), AT(0), 0, 0}},
+        {0, 4, 1, 1, {CHOICE(0, 0), AT(1), 0, 0}},
+        {0, 2, 2, 1, {CHOICE(0, 1), UNTOUCHED, 0, 0}},
+        {0, 5, 2, 1, {CHOICE(0, 1), UNTOUCHED, 0, 0}},
+        {1, 1, 0, 1, {CHOICE(1, 0), AT(2), 0, 0}},
+        {1, 4, 0, 1, {CHOICE(1, 0), AT(0), 0, 0}},
+        {1, 0, 1, 1, {CHOICE(1, 0), AT(1), 0, 0}},
+        {1, 4, 1, 1, {CHOICE(1, 0), AT(1), 0, 0}},
+        {1, 2, 2, 1, {CHOICE(1, 0), UNTOUCHED, 0, 0}},
+        {1, 5, 2, 1, {CHOICE(1, 0), UNTOUCHED, 0, 0}},
+        {2, 1, 0, 1, {CHOICE(2, 0), AT(3), 0, 0}},
+        {2, 4, 0, 1, {CHOICE(2, 0), AT(1), 0, 0}},
+        {2, 0, 1, 2, {CHOICE(2, 0), AT(0), CHOICE(0, 0), AT(1)}},
+        {2, 2, 1, 1, {CHOICE(2, 0), UNTOUCHED, 0, 0}},
+        {2, 3, 1, 2, {CHOICE(2, 0), AT(0), CHOICE(0, 1), AT(0)}},
+        {2, 4, 1, 2, {CHOICE(2, 0), AT(0), CHOICE(0, 0), AT(1)}},
+        {2, 0, 2, 1, {CHOICE(2, 0), AT(2), 0, 0}},
+        {2, 4, 2, 1, {CHOICE(2, 0), AT(2), 0, 0}},
+        {3, 1, 0, 1, {CHOICE(3, 0), AT(3), 0, 0}},
+        {3, 4, 0, 2, {CHOICE(3, 0), AT(0), CHOICE(1, 0), AT(0)}},
+        {3, 0, 1, 2, {CHOICE(3, 0), AT(0), CHOICE(1, 0), AT(1)}},
+        {3, 4, 1, 2, {CHOICE(3, 0), AT(0), CHOICE(1, 0), AT(1)}},
+        {3, 0, 2, 1, {CHOICE(3, 0), AT(2), 0, 0}},
+        {3, 4, 2, 1, {CHOICE(3, 0), AT(2), 0, 0}},
+    };
+
+    build_checks(&checks[SINGLE]);
+    every_question("one alternative each", 9, 1, single, COUNT(single));
+    build_checks(&checks[NESTED]);
+    every_question("checks in sequences", 5, 2, nested, COUNT(nested));
+    build_checks(&checks[SKIPPED]);
+    every_question("skip", 4, 3, skip, COUNT(skip));
+    build_checks(&checks[AROUND]);
+    every_question("checks around a call of itself", 1, 2, NULL, 0);
+
+    /* where the last alternative of sequence 0 is empty, it leaves fact 1 on
+       the first side too, and measure at 2 can be first */
+    BUILD(SETUP);
+    SHOWN("setup, 2, question 3, fact 1", 2, 3, 1, CHOICE(2, 0), AT(2));
+    SHOWN("setup, 0, question 5, fact 1", 0, 5, 1, CHOICE(0, 1), UNTOUCHED);
+    none("setup, 0, question 3, fact 1", 0, 3, 1);
+}
+
+/*
+ * 64 facts: sequence 0 is <check 63>, <set 63>, sequence 1 <check 0, check 63>.
+ * Facts 1 to 62 are untouched.
+ */
+static void highest_check(void)
+{
+    build_checks(&checks[WIDEST]);
+    none("64 facts, 0, question 1", 0, 1, 63);
+    SHOWN("64 facts, 0, question 0", 0, 0, 63, CHOICE(0, 1), AT(0));
+    SHOWN("64 facts, 0, question 2", 0, 2, 63, CHOICE(0, 0), UNTOUCHED);
+    SHOWN("64 facts, 0, question 3", 0, 3, 63, CHOICE(0, 0), AT(0));
+    SHOWN("64 facts, 0, question 4", 0, 4, 63, CHOICE(0, 1), AT(0));
+    none("64 facts, 0, question 5", 0, 5, 63);
+    SHOWN("64 facts, 0, question 2, fact 62", 0, 2, 62, CHOICE(0, 1),
+          UNTOUCHED);
+    SHOWN("64 facts, 0, question 5, fact 62", 0, 5, 62, CHOICE(0, 1),
+          UNTOUCHED);
+    SHOWN("64 facts, 1, question 3", 1, 3, 63, CHOICE(1, 0), AT(1));
+    SHOWN("64 facts, 1, question 3, fact 0", 1, 3, 0, CHOICE(1, 0), AT(0));
+    none("64 facts, 1, question 3, fact 62", 1, 3, 62);
+    SHOWN("64 facts, 1, question 2", 1, 2, 63, CHOICE(1, 0), UNTOUCHED);
+    none("64 facts, 1, question 5", 1, 5, 63);
+    none("64 facts, 1, question 5, fact 0", 1, 5, 0);
+    SHOWN("64 facts, 1, question 5, fact 62", 1, 5, 62, CHOICE(1, 0),
+          UNTOUCHED);
+}
+
+/*
+ * Checks and the choice of links. Step 0 sets fact 0, step 1 clears it, step 2
+ * needs it, step 3 neither; fact 1 is another, and "other check" checks it.
+ */
+static void choices_with_checks(void)
+{
+    /* first needed: alternatives 1 and 2 have one link, by the need at 1 and by
+       the check at 1, so 2; 3 has two, and in 0 the set comes first. Untouched
+       on the first side: only 4. On the last side 1, 2 and 4 have depth 1, and
+       3 has depth 2. Of the other fact both checks are first; 4 is newer. */
+    BUILD(HEAD(2, 4, 2), FOUR_STEPS,
+          SEQUENCE(0), ALTERNATIVE, SET, CHECK(0),
+              ALTERNATIVE, OTHER, NEED, ALTERNATIVE, CHECK(1), CHECK(0), NEED,
+              ALTERNATIVE, CALL(1), ALTERNATIVE, CHECK(1), OTHER,
+          SEQUENCE(1), ALTERNATIVE, CHECK(0));
+    SHOWN("a check or a need, question 3", 0, 3, 0, CHOICE(0, 2), AT(1));
+    SHOWN("a check or a need, question 5", 0, 5, 0, CHOICE(0, 4), UNTOUCHED);
+    SHOWN("a check or a need, question 2", 0, 2, 0, CHOICE(0, 4), UNTOUCHED);
+    SHOWN("a check or a need, question 4", 0, 4, 0, CHOICE(0, 0), AT(0));
+    none("a check or a need, question 1", 0, 1, 0);
+    SHOWN("a check or a need, question 3, fact 1", 0, 3, 1, CHOICE(0, 4),
+          AT(0));
+
+    /* a check of the fact rules out what comes after it on the first side, and
+       nothing on the last side: <other check, set>, <check, set>; <set, other>,
+       <set, check> */
+    BUILD(HEAD(2, 4, 1), FOUR_STEPS,
+          SEQUENCE(0), ALTERNATIVE, CHECK(1), SET, ALTERNATIVE, CHECK(0), SET);
+    SHOWN("past a check, question 4", 0, 4, 0, CHOICE(0, 0), AT(1));
+    SHOWN("past a check, question 0", 0, 0, 0, CHOICE(0, 1), AT(1));
+    BUILD(HEAD(2, 4, 1), FOUR_STEPS,
+          SEQUENCE(0), ALTERNATIVE, SET, OTHER, ALTERNATIVE, SET, CHECK(0));
+    SHOWN("before a check, question 0", 0, 0, 0, CHOICE(0, 1), AT(0));
+    SHOWN("before a check, question 4", 0, 4, 0, CHOICE(0, 1), AT(0));
+
+    /* depth 0: <other check> and <other> have depth 1, <1> has depth 2; of <1>
+       and <check>, the check is untouched on the last side alone */
+    BUILD(HEAD(2, 4, 3), FOUR_STEPS,
+          SEQUENCE(0), ALTERNATIVE, CHECK(1), ALTERNATIVE, OTHER,
+              ALTERNATIVE, CALL(1),
+          SEQUENCE(1), ALTERNATIVE, OTHER, ALTERNATIVE, CHECK(1),
+          SEQUENCE(2), ALTERNATIVE, CALL(1), ALTERNATIVE, CHECK(0));
+    SHOWN("depths, 0, question 2", 0, 2, 0, CHOICE(0, 1), UNTOUCHED);
+    SHOWN("depths, 0, question 5", 0, 5, 0, CHOICE(0, 1), UNTOUCHED);
+    SHOWN("depths, 1, question 2", 1, 2, 0, CHOICE(1, 1), UNTOUCHED);
+    SHOWN("depths, 1, question 5", 1, 5, 0, CHOICE(1, 1), UNTOUCHED);
+    SHOWN("depths, 2, question 2", 2, 2, 0, CHOICE(2, 1), UNTOUCHED);
+    SHOWN("depths, 2, question 5", 2, 5, 0, CHOICE(2, 0), UNTOUCHED);
+
+    /* an alternative with an endless sequence gives no chain, though it has a
+       check; the one before it does */
+    BUILD(HEAD(2, 4, 2), FOUR_STEPS,
+          SEQUENCE(0), ALTERNATIVE, OTHER, CHECK(0),
+              ALTERNATIVE, CHECK(0), CALL(1),
+          SEQUENCE(1), ALTERNATIVE, CHECK(0), CALL(1));
+    SHOWN("a check and an endless sequence", 0, 3, 0, CHOICE(0, 0), AT(1));
+    all_none("a check and itself", 1);
+}
+
+/*
+ * As many sequences as there can be, each calling the next (`up`) or the one
+ * before, the one at the end with the entry given. Step 0 needs and sets fact
+ * 0.
+ */
+static void build_deep(int up, uint32_t entry)
 {
     uint32_t c;
     uint32_t end = up ? MOST_C - 1 : 0;
@@ -832,7 +1077,7 @@ static void build_deep(int up)
     PUT(HEAD(2, 1, MOST_C), STEP(0), NEEDS(0), SETS(0));
     for (c = 0; c < MOST_C; c++)
         PUT(SEQUENCE(c), ALTERNATIVE,
-            c == end ? DO(0) : CALL(up ? c + 1 : c - 1));
+            c == end ? entry : CALL(up ? c + 1 : c - 1));
     put_sum();
 }
 
@@ -846,7 +1091,7 @@ static void deep(const char *name, int up)
     uint32_t end = up ? MOST_C - 1 : 0;
     uint32_t far = MOST_C - 1 - end;
     uint32_t c;
-    build_deep(up);
+    build_deep(up, DO(0));
     for (c = 0; c < MOST_C; c++) {
         links[2 * c] = CHOICE(up ? c : MOST_C - 1 - c, 0);
         links[2 * c + 1] = AT(0);
@@ -861,6 +1106,12 @@ static void deep(const char *name, int up)
     SHOWN(name, 0, 2, 1, CHOICE(0, 0), UNTOUCHED);
     SHOWN(name, MOST_C - 1, 5, 1, CHOICE(MOST_C - 1, 0), UNTOUCHED);
     unwritten(name, MOST_C, 0, 0, REFUSED(9, 0));
+    /* the same chain ends on a check, which only needs */
+    build_deep(up, CHECK(0));
+    shown(name, far, 3, 0, links, 2 * MOST_C);
+    none(name, far, 0, 0);
+    none(name, far, 5, 0);
+    SHOWN(name, 0, 2, 0, CHOICE(0, 0), UNTOUCHED);
 }
 
 /* Images of 8,192 words: the greatest alternative and position of a link. */
@@ -896,7 +1147,7 @@ static void names(void)
     static const uint32_t first[2] = {0xa01ff9ff, 0xb0001ff8};
     static const uint32_t second[2] = {0xa0000100, 0xc0000000};
     static const uint64_t card[DULIMOVEN_CARD_WORDS] = {
-        0x4003, 0, 0, UINT64_C(0x8000000000000001), 0, 0, 0};
+        0x4003, 0, 0, UINT64_C(0x8000000000000001), 0, 0, 0, 0};
     hold("the questions",
          DULIMOVEN_LAST_SET == 0 && DULIMOVEN_LAST_CLEARED == 1 &&
              DULIMOVEN_LAST_UNTOUCHED == 2 && DULIMOVEN_FIRST_NEEDED == 3 &&
@@ -911,7 +1162,7 @@ static void names(void)
     hold("the bounds",
          DULIMOVEN_MOST_IMAGE_WORDS == 8192 && DULIMOVEN_MOST_FACTS == 64 &&
              DULIMOVEN_MOST_STEPS == 1024 && DULIMOVEN_MOST_SEQUENCES == 256 &&
-             DULIMOVEN_MOST_CARD_WORDS == 7 * 256 &&
+             DULIMOVEN_MOST_CARD_WORDS == 8 * 256 &&
              DULIMOVEN_MOST_CHAIN_WORDS == 2 * 256);
     /* 0x1ff9ff is 8185 * 2^8 + 255 */
     hold("sequence 255", dulimoven_link_sequence(first) == 255);
@@ -954,6 +1205,9 @@ int main(void)
     untouched();
     newest();
     dead();
+    with_checks();
+    highest_check();
+    choices_with_checks();
     deep("each calls the next", 1);
     deep("each calls the one before", 0);
     longest();

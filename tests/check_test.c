@@ -8,6 +8,7 @@
  * from. A refusal is said with its number and position; words count from 0, the
  * head.
  */
+#include "checks.h"
 #include "harness.h"
 #include "pulses.h"
 #include "samples.h"
@@ -156,6 +157,27 @@ static void accepted_sequences(void)
             ALTERNATIVE, DO(0));
 }
 
+/* Checks that do. */
+static void accepted_checks(void)
+{
+    size_t i;
+    for (i = 0; i < COUNT(checks); i++) {
+        build_checks(&checks[i]);
+        accepts(checks[i].name);
+    }
+    ACCEPTS("a check alone, without a step", HEAD(1, 0, 1), SEQUENCE(0),
+            ALTERNATIVE, CHECK(0));
+    ACCEPTS("a check twice, and in the next alternative and sequence",
+            HEAD(1, 0, 2), SEQUENCE(0), ALTERNATIVE, CHECK(0), CHECK(0),
+            ALTERNATIVE, CHECK(0), SEQUENCE(1), ALTERNATIVE, CHECK(0));
+    ACCEPTS("checks in falling order: no rule of steps", HEAD(3, 0, 1),
+            SEQUENCE(0), ALTERNATIVE, CHECK(2), CHECK(1), CHECK(0));
+    ACCEPTS("fact 2 of 3, with A = 0 and C = 1", HEAD(3, 0, 1), SEQUENCE(0),
+            ALTERNATIVE, CHECK(2));
+    ACCEPTS("the highest fact", HEAD(MOST_F, 0, 1), SEQUENCE(0), ALTERNATIVE,
+            CHECK(MOST_F - 1));
+}
+
 /* 1: "The image has fewer than 2 or more than 8,192 words, position 0." */
 static void length(void)
 {
@@ -175,7 +197,8 @@ static void length(void)
         {"a sequence's opener alone", SEQUENCE(0)},
         {"an alternative alone", ALTERNATIVE},
         {"an entry that names a step alone", DO(0)},
-        {"an entry that names a sequence alone", CALL(0)}};
+        {"an entry that names a sequence alone", CALL(0)},
+        {"a check alone", CHECK(0)}};
     size_t i;
     compare("no word, a null pointer", dulimoven_check(NULL, 0), REFUSED(1, 0));
     start();
@@ -214,6 +237,15 @@ static void longest(void)
     refuses(4, FULL - 2, "kind 0 right before the sum word");
     build_long_ending(FULL, CALL(1));
     refuses(5, FULL - 2, "1 is not below C = 1, right before the sum word");
+    build_long_ending(FULL, CHECK(0));
+    accepts("a check right before the sum word");
+    build_long_ending(FULL, CHECK(1));
+    refuses(5, FULL - 2, "1 is not below F = 1, right before the sum word");
+    start();
+    PUT(HEAD(1, 0, 1), SEQUENCE(0), ALTERNATIVE);
+    fill(CHECK(0), FULL - 1);
+    put_sum();
+    accepts("8,188 checks");
 
     build_long(FULL + 1);
     hold("8,193 words are built", words == 8193);
@@ -466,11 +498,11 @@ static void kind_of_head(void)
 
 /*
  * 4: "A word between them has a kind that may not stand there, its position."
- * Kinds 10 to 12 are words of a chain's links.
+ * Kinds 10 to 12 are words of a chain's links, and kind 14 is none yet.
  */
 static void kind_nowhere(void)
 {
-    static const uint32_t nowhere[] = {0, 1, 10, 11, 12, 13, 14, 15};
+    static const uint32_t nowhere[] = {0, 1, 10, 11, 12, 14, 15};
     size_t i;
     uint32_t payload;
     for (i = 0; i < COUNT(nowhere); i++) {
@@ -486,6 +518,12 @@ static void kind_nowhere(void)
             ALTERNATIVE, WORD(KIND_SUM, 0));
     REFUSES(4, 2, "kind 0 after a step's opener", HEAD(1, 1, 0), STEP(0),
             WORD(0, 0));
+    REFUSES(4, 3, "kind 14 among alternatives", HEAD(2, 0, 1), SEQUENCE(0),
+            ALTERNATIVE, WORD(14, 0));
+    REFUSES(4, 4, "kind 14 after a check", HEAD(2, 0, 1), SEQUENCE(0),
+            ALTERNATIVE, CHECK(0), WORD(14, 0));
+    REFUSES(4, 2, "kind 14 after a step's opener", HEAD(1, 1, 0), STEP(0),
+            WORD(14, 0));
     start();
     put_all(library_l, L_SUM - 1);
     PUT(WORD(0, 0), CALL(2));
@@ -579,6 +617,30 @@ static void kind_of_entry(void)
             HEAD(1, 0, 1), SEQUENCE(0), DO(0));
 }
 
+/* A check is an entry, and stands where an entry stands. */
+static void kind_of_check(void)
+{
+    REFUSES(4, 1, "a check after the head", HEAD(2, 0, 1), CHECK(0),
+            SEQUENCE(0));
+    REFUSES(4, 1, "a check after the head, no sequence", HEAD(1, 0, 0),
+            CHECK(0));
+    REFUSES(4, 2, "a check after a step's opener", HEAD(2, 1, 0), STEP(0),
+            CHECK(0));
+    REFUSES(4, 3, "a check after a fact word", HEAD(2, 1, 0), STEP(0),
+            NEEDS(0), CHECK(0));
+    REFUSES(4, 2, "a check after a sequence's opener", HEAD(2, 0, 1),
+            SEQUENCE(0), CHECK(0));
+    REFUSES(4, 5, "a check after an opener: alternatives before do not count",
+            HEAD(2, 0, 2), SEQUENCE(0), ALTERNATIVE, CHECK(0), SEQUENCE(1),
+            CHECK(0));
+    REFUSES(4, 2, "a check after an opener, not below F: 4 before 5",
+            HEAD(2, 0, 1), SEQUENCE(0), CHECK(2));
+    REFUSES(4, 5, "a need after a check", HEAD(2, 1, 1), STEP(0), SEQUENCE(0),
+            ALTERNATIVE, CHECK(0), NEEDS(0));
+    REFUSES(4, 5, "a step after a check", HEAD(2, 1, 1), STEP(0), SEQUENCE(0),
+            ALTERNATIVE, CHECK(0), STEP(1));
+}
+
 /*
  * "In 4 to 6 the earliest word decides"; 13 "joins 4 to 6", and pulses.h has
  * its rows.
@@ -661,6 +723,79 @@ static void payload_of_entry(void)
     *word_at(14) = CALL(3);
     sum_again();
     refuses(5, 14, "L with sequence 1 naming sequence 3: not below C = 3");
+}
+
+/* Of a check "its payload is below F under 5". */
+static void payload_of_check(void)
+{
+    REFUSES(5, 3, "a check of fact 2 with F = 2", HEAD(2, 0, 1), SEQUENCE(0),
+            ALTERNATIVE, CHECK(2));
+    REFUSES(5, 4, "a check with the highest payload bit", HEAD(2, 0, 1),
+            SEQUENCE(0), ALTERNATIVE, CHECK(0), CHECK(0x8000000));
+    REFUSES(5, 3, "fact F, F being the greatest", HEAD(MOST_F, 0, 1),
+            SEQUENCE(0), ALTERNATIVE, CHECK(MOST_F));
+    REFUSES(5, 3, "fact 64, whose low six bits are 0", HEAD(1, 0, 1),
+            SEQUENCE(0), ALTERNATIVE, CHECK(64));
+    REFUSES(5, 3, "fact 2^28 - 1", HEAD(MOST_F, 0, 1), SEQUENCE(0),
+            ALTERNATIVE, CHECK(PAYLOAD_MASK));
+    REFUSES(5, 5, "fact 1 with F = 1: that there is step 1 is no help",
+            HEAD(1, 2, 1), STEP(0), STEP(1), SEQUENCE(0), ALTERNATIVE,
+            CHECK(1));
+    REFUSES(5, 4, "fact 1 with F = 1: that there is sequence 1 is no help",
+            HEAD(1, 0, 2), SEQUENCE(0), SEQUENCE(1), ALTERNATIVE, CHECK(1));
+    REFUSES(5, 3, "a check of fact 1, then a wrong kind: the earliest",
+            HEAD(1, 0, 1), SEQUENCE(0), ALTERNATIVE, CHECK(1), WORD(14, 0));
+}
+
+/*
+ * Four words in a row, which may be tested together: a step, a call, an
+ * alternative and a step, of which the one at `place` is a check. `lead`
+ * steps stand before them, from word LEAD on, and four words follow.
+ */
+enum { FOUR = 4, LEAD = 4, LONGEST_LEAD = 7 };
+
+static void put_four(uint32_t lead, uint32_t place)
+{
+    static const uint32_t four[FOUR] = {DO(0), CALL(0), ALTERNATIVE, DO(0)};
+    uint32_t i;
+    start();
+    PUT(HEAD(2, 1, 1), STEP(0), SEQUENCE(0), ALTERNATIVE);
+    for (i = 0; i < lead; i++)
+        put(DO(0));
+    for (i = 0; i < FOUR; i++)
+        put(i == place ? CHECK(1) : four[i]);
+    put_all(four, FOUR);
+    put_sum();
+}
+
+/* One of the four words is another, which is refused so. */
+static void one_of_four(uint32_t lead, uint32_t place, uint32_t number,
+                        uint32_t word, const char *name)
+{
+    uint32_t at;
+    for (at = 0; at < FOUR; at++) {
+        put_four(lead, place);
+        *word_at(LEAD + lead + at) = word;
+        sum_again();
+        refuses(number, LEAD + lead + at, name);
+    }
+}
+
+/* With F = 2 fact 1 can be checked. */
+static void four_words(void)
+{
+    uint32_t lead, place;
+    for (lead = 0; lead <= LONGEST_LEAD; lead++)
+        for (place = 0; place < FOUR; place++) {
+            put_four(lead, place);
+            accepts("four words, one a check");
+            one_of_four(lead, place, 5, CHECK(2), "one a check of F");
+            one_of_four(lead, place, 5, CHECK(PAYLOAD_MASK),
+                        "one a check of 2^28 - 1");
+            one_of_four(lead, place, 4, WORD(14, 0), "one of kind 14");
+            one_of_four(lead, place, 4, WORD(12, PAYLOAD_MASK),
+                        "one of kind 12, right below the checks");
+        }
 }
 
 /* "a fact is not below F, or a kind 7 payload is not 0". */
@@ -866,6 +1001,7 @@ int main(void)
     samples();
     accepted_steps();
     accepted_sequences();
+    accepted_checks();
     length();
     longest();
     most_steps();
@@ -882,9 +1018,12 @@ int main(void)
     kind_of_opener();
     kind_of_alternative();
     kind_of_entry();
+    kind_of_check();
     earliest();
     payload_of_opener();
     payload_of_entry();
+    payload_of_check();
+    four_words();
     payload_of_fact_and_alternative();
     fact_order();
     set_and_cleared();

@@ -1,6 +1,6 @@
 /*
  * Compares the library with the second engine over libraries made from a seed
- * (tests/second), of fifteen kinds.
+ * (tests/second), of sixteen kinds.
  *
  * The card words are compared with those of the second engine, which works by
  * the algorithms printed in source document 001. The chain call is asked every
@@ -15,13 +15,13 @@
  * What it would catch: a card word that the algorithms do not give, or a word
  * changed past the cards; "none" where a run has the outcome, or a chain where
  * none has; a link about another sequence, or with an alternative or a position
- * that does not exist; one whose entry is not a step with the touch or the
- * sequence of the next link, or beside whose entry another touches the fact
- * that must not, or has no run; an untouched link whose alternative cannot stay
- * untouched; more links than the fewest; a choice that is not the newest; words
- * changed past a chain or on "none"; a library refused, or a damaged one judged
- * otherwise; a pulse that is not refused, or at another word, or with a word of
- * an area changed; a call that does not end.
+ * that does not exist; one whose entry is not a step or a check with the touch
+ * or the sequence of the next link, or beside whose entry another touches the
+ * fact that must not, or has no run; an untouched link whose alternative cannot
+ * stay untouched; more links than the fewest; a choice that is not the newest;
+ * words changed past a chain or on "none"; a library refused, or a damaged one
+ * judged otherwise; a pulse that is not refused, or at another word, or with a
+ * word of an area changed; a call that does not end.
  *
  * Tried: the engine was broken on a copy, compiled without its proofs and
  * linked with this test. Each break was reported, first by the words after it.
@@ -34,9 +34,9 @@
  *   row, a card too many is written (`c <= n`): word 1 of a card past
  *     the last
  *   link, a link with one link more after it is taken (`t.rank <= k + 1`): a
- *     link's entry is no step with the touch, or no sequence
+ *     link's entry does not give the touch, or is no sequence
  *   link, a newer alternative with more links is taken (`k <= t.rank`): a
- *     link's entry is no step with the touch, or no sequence
+ *     link's entry does not give the touch, or is no sequence
  *   link, a link is taken though a later entry touches (`tail <= next` left
  *     out), or though one ahead of the position does (`ok = ok`): beside a
  *     link's entry another touches the fact, or has no run
@@ -48,9 +48,9 @@
  *     `chosen_link` and, by itself, in `chosen_alternative`: a link is not the
  *     newest choice
  *   library, the alternatives are counted from 1; those of later sequences are
- *     taken in; on the way back an empty alternative is passed over, an entry is
- *     taken for an opener, or the first word is (five breaks): a link is about
- *     another sequence, or about no alternative
+ *     taken in; on the way back an empty alternative is passed over, an entry
+ *     is taken for an opener, or the first word is (five breaks): a link is
+ *     about another sequence, or about no alternative
  *   library, the second opener is kept in place of the last: beside a link's
  *     entry another touches the fact, or has no run
  *   rank, an entry behind the position is held to what is asked of one ahead
@@ -117,7 +117,8 @@ static const struct trial {
 } trials[SEEDED_KINDS] = {
     {40000, 1, 1}, {16000, 1, 1}, {16000, 1, 1}, {16000, 1, 1}, {2000, 1, 1},
     {2000, 1, 1},  {12000, 1, 1}, {1000, 1, 1},  {16000, 1, 1}, {2000, 1, 1},
-    {20000, 1, 1}, {40, 1, 16},   {40, 1, 8},    {40, 1, 8},    {12, 21, 16}};
+    {20000, 1, 1}, {40, 1, 16},   {40, 1, 8},    {40, 1, 8},    {12, 21, 16},
+    {16000, 1, 1}};
 
 static const uint64_t first_seed = UINT64_C(0x2545f4914f6cdd1d);
 
@@ -311,9 +312,9 @@ static int in_column(uint32_t sequence, int column, uint32_t fact)
  */
 static int rounds_agree(uint32_t c, uint32_t fact)
 {
-    int has[DULIMOVEN_FIRST_UNTOUCHED + 1], run = judge_has_run(c);
+    int has[JUDGE_QUESTIONS], run = judge_has_run(c);
     uint32_t q;
-    for (q = 0; q <= DULIMOVEN_FIRST_UNTOUCHED; q++)
+    for (q = 0; q < JUDGE_QUESTIONS; q++)
         has[q] = judge_possible(c, q);
     return in_column(c, DULIMOVEN_MAY_NEED, fact) == has[3] &&
            in_column(c, DULIMOVEN_MAY_SET, fact) == has[0] &&
@@ -323,7 +324,10 @@ static int rounds_agree(uint32_t c, uint32_t fact)
            in_column(c, DULIMOVEN_ALWAYS_SET, fact) ==
                (run && !has[1] && !has[2]) &&
            in_column(c, DULIMOVEN_ALWAYS_CLEARED, fact) ==
-               (run && !has[0] && !has[2]);
+               (run && !has[0] && !has[2]) &&
+           in_column(c, DULIMOVEN_ALWAYS_STANDS, fact) ==
+               (run && !has[JUDGE_STANDING_CLEARED] &&
+                !has[JUDGE_STANDING_UNTOUCHED]);
 }
 
 static void ask(uint32_t sequence, uint32_t question, uint32_t fact)

@@ -17,6 +17,7 @@
 #define _DEFAULT_SOURCE 1
 #include "harness.h"
 #include "samples.h"
+#include "setup.h"
 
 #include <stdlib.h>
 #include <sys/mman.h>
@@ -40,7 +41,7 @@ static void holds(const char *what, int right)
  * Arrays of `bytes` bytes, which are whole pages: one to lend up to its end,
  * one to lend from its start.
  */
-enum { IMAGE_BYTES = 36864, CARD_BYTES = 16384, CHAIN_BYTES = 4096 };
+enum { IMAGE_BYTES = 36864, CARD_BYTES = 20480, CHAIN_BYTES = 4096 };
 static unsigned char *image_pages[2];
 static unsigned char *card_pages[2];
 static unsigned char *chain_pages[2];
@@ -262,6 +263,12 @@ static void agree(uint64_t sequence, uint64_t fact, uint32_t sequences)
           column[DULIMOVEN_ALWAYS_SET] == (run && !has[1] && !has[2]));
     holds("always cleared",
           column[DULIMOVEN_ALWAYS_CLEARED] == (run && !has[0] && !has[2]));
+    /* a fact that each run sets last stands after each; one that always stands
+       is needed, set or checked in each run, so that none leaves it on the
+       first side */
+    holds("always stands",
+          column[DULIMOVEN_ALWAYS_STANDS] >= column[DULIMOVEN_ALWAYS_SET] &&
+              column[DULIMOVEN_ALWAYS_STANDS] <= (run && !has[5]));
     holds("a run has an outcome on each side",
           (has[0] || has[1] || has[2]) == run &&
               (has[3] || has[4] || has[5]) == run);
@@ -319,6 +326,9 @@ static const uint32_t poll[] = {
     SEQUENCE(3), ALTERNATIVE, DO(3), CALL(0), ALTERNATIVE, CALL(3), CALL(3),
         ALTERNATIVE};
 
+/* The library of examples/skip.image: an alternative with a check. */
+static const uint32_t skip[] = {SKIP};
+
 /*
  * The library of examples/pulse.image: the same, and step 3 clears the fact
  * that it sets.
@@ -368,7 +378,7 @@ static void nibbles(const char *name, const uint32_t *library, size_t count)
             }
         }
     }
-    /* a fact below F, an entry below A or C, a step's or a sequence's kind */
+    /* a fact below F, an entry below A, C or F, an entry's kind */
     holds("no damaged image is accepted", accepted > 0);
 }
 
@@ -388,6 +398,13 @@ static uint32_t below(uint32_t bound)
     return (uint32_t)(random_bits() % bound);
 }
 
+/* One of the kinds that stand between head and sum word. */
+static uint32_t likely_kind(void)
+{
+    uint32_t kind = KIND_NEEDS + below(9);
+    return kind <= KIND_SEQUENCE_ENTRY ? kind : (uint32_t)KIND_CHECK;
+}
+
 /* Random words: as they come, with a head and a sum word, of likely kinds. */
 static void noise(void)
 {
@@ -404,7 +421,7 @@ static void noise(void)
             if (form == 2)
                 word = WORD(kind_of(word), payload_of(word) & 3);
             else if (form == 3)
-                word = WORD(KIND_NEEDS + below(8), below(3));
+                word = WORD(likely_kind(), below(3));
             put(word);
         }
         if (words < length && form == 0)
@@ -432,6 +449,16 @@ static void random_step(uint32_t number, uint32_t facts)
         }
 }
 
+/* A random entry: one in four a check, and of the others half are steps. */
+static uint32_t random_entry(uint32_t facts, uint32_t steps, uint32_t sequences)
+{
+    if (below(4) == 0)
+        return CHECK(below(facts));
+    if (steps > 0 && below(2) == 0)
+        return DO(below(steps));
+    return CALL(below(sequences));
+}
+
 /*
  * Random libraries, which are accepted, and each with one nibble changed and
  * the sum word made right again.
@@ -452,12 +479,8 @@ static void libraries(void)
             put(SEQUENCE(i));
             for (alternatives = below(4); alternatives > 0; alternatives--) {
                 put(ALTERNATIVE);
-                for (entries = below(4); entries > 0; entries--) {
-                    if (a > 0 && below(2) == 0)
-                        put(DO(below(a)));
-                    else
-                        put(CALL(below(c)));
-                }
+                for (entries = below(4); entries > 0; entries--)
+                    put(random_entry(f, a, c));
             }
         }
         put_sum();
@@ -479,6 +502,7 @@ int main(void)
     }
     nibbles("L", library_l, L_SUM);
     nibbles("poll.image", poll, COUNT(poll));
+    nibbles("skip.image", skip, COUNT(skip));
     pulse();
     noise();
     libraries();

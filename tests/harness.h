@@ -24,8 +24,8 @@ enum {
 
 /*
  * The words of a library after its HEAD: STEP(0), NEEDS(0), SETS(1) is a step
- * and SEQUENCE(0), ALTERNATIVE, DO(0), CALL(1) a sequence with one alternative,
- * step 0 and then sequence 1.
+ * and SEQUENCE(0), ALTERNATIVE, DO(0), CALL(1), CHECK(2) a sequence with one
+ * alternative: step 0, then sequence 1, then a check of fact 2.
  */
 #define STEP(number) WORD(KIND_STEP, number)
 #define NEEDS(fact) WORD(KIND_NEEDS, fact)
@@ -35,6 +35,7 @@ enum {
 #define ALTERNATIVE WORD(KIND_ALTERNATIVE, 0)
 #define DO(step) WORD(KIND_STEP_ENTRY, step)
 #define CALL(sequence) WORD(KIND_SEQUENCE_ENTRY, sequence)
+#define CHECK(fact) WORD(KIND_CHECK, fact)
 
 /* The words of a link: CHOICE and then AT or UNTOUCHED. */
 #define CHOICE(sequence, alternative) \

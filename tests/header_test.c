@@ -9,21 +9,36 @@
 
 #include <assert.h>
 
-/* 256 sequences at most, 7 words a card and 2 words a link (document 01) */
-static_assert(DULIMOVEN_MOST_SEQUENCES * DULIMOVEN_CARD_WORDS == 1792, "");
-static_assert(DULIMOVEN_MOST_CARD_WORDS == 1792, "");
+/* 256 sequences at most, 2 words a link (document 01) and 8 words a card
+   (document 02, request 4): 256 * 8 is 2048 */
+static_assert(DULIMOVEN_MOST_SEQUENCES * DULIMOVEN_CARD_WORDS == 2048, "");
+static_assert(DULIMOVEN_MOST_CARD_WORDS == 2048, "");
 static_assert(DULIMOVEN_MOST_SEQUENCES * DULIMOVEN_LINK_WORDS == 512, "");
 static_assert(DULIMOVEN_MOST_CHAIN_WORDS == 512, "");
 
-/* "may set" of sequence 1: after the 7 words of sequence 0 the fourth word */
-static_assert(DULIMOVEN_CARD_WORDS + DULIMOVEN_MAY_SET == 10, "");
+/* "may set" of sequence 1: after the 8 words of sequence 0 the fourth word, and
+   "always stands" is the last word of its card */
+static_assert(DULIMOVEN_CARD_WORDS + DULIMOVEN_MAY_SET == 11, "");
+static_assert(DULIMOVEN_ALWAYS_STANDS + 1 == DULIMOVEN_CARD_WORDS, "");
+
+/* the kinds of documents 01 and 02; 10 to 12 are a chain's, 14 is none yet */
+static_assert(DULIMOVEN_KIND_HEAD == 1 && DULIMOVEN_KIND_NEEDS == 2 &&
+                  DULIMOVEN_KIND_SETS == 3 && DULIMOVEN_KIND_CLEARS == 4,
+              "");
+static_assert(DULIMOVEN_KIND_STEP == 5 && DULIMOVEN_KIND_SEQUENCE == 6 &&
+                  DULIMOVEN_KIND_ALTERNATIVE == 7,
+              "");
+static_assert(DULIMOVEN_KIND_STEP_ENTRY == 8 &&
+                  DULIMOVEN_KIND_SEQUENCE_ENTRY == 9 &&
+                  DULIMOVEN_KIND_CHECK == 13 && DULIMOVEN_KIND_SUM == 15,
+              "");
 
 /* the second word of the last link that there can be: 511 */
 static_assert(DULIMOVEN_MOST_CHAIN_WORDS - DULIMOVEN_LINK_WORDS + 1 == 511, "");
 
-/* format 1, and since then refusal 13, ties to the newest alternative, and dead
-   alternatives that are left early; a preprocessor can tell */
+/* format 2, which has kind 13 and a card's eighth word, and no change since
+   then; a preprocessor can tell */
 static_assert(DULIMOVEN_VERSION / 1000 == DULIMOVEN_FORMAT, "");
-#if DULIMOVEN_FORMAT != 1 || DULIMOVEN_VERSION != 1003
-#error "the format is 1, the version 1003"
+#if DULIMOVEN_FORMAT != 2 || DULIMOVEN_VERSION != 2000
+#error "the format is 2, the version 2000"
 #endif

@@ -1,9 +1,9 @@
 /*
- * The words of document 01 for tests: kinds, the fields of the head and of a
- * link, the sum word, and an image that is written word by word. What builds
- * images and what reads them takes the format from here, and nothing from the
- * library: a new head or a new sum changes this file, beside the samples that
- * document 01 prints (samples.h). C11 and C++17.
+ * The words of documents 01 and 02 for tests: kinds, the fields of the head and
+ * of a link, the sum word, and an image that is written word by word. What
+ * builds images and what reads them takes the format from here, and nothing
+ * from the library: a new head or a new sum changes this file, beside the
+ * samples that document 01 prints (samples.h). C11 and C++17.
  */
 #ifndef DULIMOVEN_TESTS_IMAGE_H
 #define DULIMOVEN_TESTS_IMAGE_H
@@ -37,6 +37,7 @@ enum {
     KIND_CHOICE = 10,
     KIND_POSITION = 11,
     KIND_UNTOUCHED = 12,
+    KIND_CHECK = 13,
     KIND_SUM = 15
 };
 
@@ -70,7 +71,7 @@ static inline int is_fact(uint32_t word)
 static inline int is_entry(uint32_t word)
 {
     return kind_of(word) == KIND_STEP_ENTRY ||
-           kind_of(word) == KIND_SEQUENCE_ENTRY;
+           kind_of(word) == KIND_SEQUENCE_ENTRY || kind_of(word) == KIND_CHECK;
 }
 
 /* The low `bits` bits of a word from bit `from` on. */

@@ -1,25 +1,39 @@
 /*
  * The three calls on worked libraries. What is possible for each sequence, over
- * all of its runs, was worked out by hand from document 01: the files of
- * tests/outcomes, one for each slip that document 01 names and more. The card
- * of a sequence must be the one that follows from these outcomes, and a
+ * all of its runs, was worked out by hand from documents 01 and 02: the files
+ * of tests/outcomes, one for each slip that document 01 names and more. The
+ * card of a sequence must be the one that follows from these outcomes, and a
  * question must be answered "none" exactly where they lack the fact. C11 and
  * C++17. Prints a line for each word and each answer that differs, then a
  * count; the exit status is 0 where nothing differs.
  *
- * Tried: on a copy, bit 0 of each of the eight words that are expected of a
- * sequence was changed, one at a time, for the 198 sequences outside long.h.
- * All 1,584 changes were reported, 1,271 by a card, 1,188 by a question. 263
- * showed in questions and no card: as first set of sequence 2 of the ring of
- * four in calls, since the fact may stay untouched there too. 50 showed only in
- * that no runs have such outcomes.
+ * A row says of the runs of a sequence, which its comment lists, what can come
+ * of them on the last side, on the first side, and of the last item that names
+ * the fact: that it sets, clears, needs or checks it. The words of the steps
+ * say which items do. A step that clears the fact clears it, though it needs it
+ * too; one that needs or sets it and does not clear it, and a check of it,
+ * leave it standing; a run without such an item does not name it. So after
+ * <set, need>, <clear, need> and <need> it stands, after <need, clear> and
+ * <set, clear> it is cleared, and after <> and <other> it is not named. The
+ * union over all runs is the row.
+ *
+ * Tried: on a copy, bit 0 of each of the eleven words that are expected of a
+ * sequence was changed, one at a time, for the 241 sequences outside long.h. Of
+ * the 2,651 changes 2,602 were reported, 1,881 by a card, 1,446 by a question.
+ * 290 showed in questions and no card: as first set of sequence 2 of the ring
+ * of four in calls, since the fact may stay untouched there too. 431 showed
+ * only in that no runs have such outcomes. The 49 that were not reported are
+ * all in the last three words, of which a card has only whether "cleared" and
+ * "not named" are both impossible.
  */
 #include "harness.h"
 #include "samples.h"
 
 /*
  * What can come of the runs of a sequence. In the first two all facts are in or
- * none. The other six stand in the order of the questions.
+ * none. The next six stand in the order of the questions. The last three are of
+ * the last item that names the fact: it leaves it standing, it clears it, there
+ * is none.
  */
 enum {
     RUN,
@@ -30,6 +44,9 @@ enum {
     FIRST_NEEDED,
     FIRST_SET,
     FIRST_UNTOUCHED,
+    STANDING,
+    CLEARED,
+    UNNAMED,
     OUTCOMES
 };
 enum { QUESTIONS = 6 };
@@ -87,38 +104,26 @@ static uint64_t all_facts(void)
  */
 #define LAST(set, cleared, untouched) set, cleared, untouched
 #define FIRST(needed, set, untouched) needed, set, untouched
+#define STANDS(standing, cleared, unnamed) standing, cleared, unnamed
 
-static void comes_to(uint64_t run, uint64_t empty, uint64_t last_set,
-                     uint64_t last_cleared, uint64_t last_untouched,
-                     uint64_t first_needed, uint64_t first_set,
-                     uint64_t first_untouched)
+static void comes_to(const uint64_t *outcomes)
 {
-    const uint64_t o[OUTCOMES] = {run,          empty,        last_set,
-                                  last_cleared, last_untouched, first_needed,
-                                  first_set,    first_untouched};
     if (dues < MOST_C)
-        memcpy(due[dues++], o, sizeof o);
+        memcpy(due[dues++], outcomes, sizeof due[0]);
 }
+
+#define COMES_TO(...)                                      \
+    do {                                                   \
+        const uint64_t outcomes[OUTCOMES] = {__VA_ARGS__}; \
+        comes_to(outcomes);                                \
+    } while (0)
+
+#define RUNS(...) COMES_TO(all_facts(), 0, __VA_ARGS__)
+#define RUNS_AND_EMPTY(...) COMES_TO(all_facts(), all_facts(), __VA_ARGS__)
 
 static void no_run(void)
 {
-    comes_to(0, 0, LAST(0, 0, 0), FIRST(0, 0, 0));
-}
-
-static void runs(uint64_t last_set, uint64_t last_cleared,
-                 uint64_t last_untouched, uint64_t first_needed,
-                 uint64_t first_set, uint64_t first_untouched)
-{
-    comes_to(all_facts(), 0, last_set, last_cleared, last_untouched,
-             first_needed, first_set, first_untouched);
-}
-
-static void runs_and_empty(uint64_t last_set, uint64_t last_cleared,
-                           uint64_t last_untouched, uint64_t first_needed,
-                           uint64_t first_set, uint64_t first_untouched)
-{
-    comes_to(all_facts(), all_facts(), last_set, last_cleared, last_untouched,
-             first_needed, first_set, first_untouched);
+    COMES_TO(0, 0, LAST(0, 0, 0), FIRST(0, 0, 0), STANDS(0, 0, 0));
 }
 
 static uint64_t ones(uint64_t column)
@@ -130,7 +135,8 @@ static uint64_t ones(uint64_t column)
 }
 
 /*
- * The card of a sequence with the outcomes `o`. Document 01, "The card":
+ * The card of a sequence with the outcomes `o`. Document 01, "The card", and
+ * document 02, request 4:
  *
  * "1. Flags: bit 0, a run exists; bit 1, an empty run exists; bits 8 to 14, the
  * number of facts that are in "may set" or in "may clear"."
@@ -142,7 +148,10 @@ static uint64_t ones(uint64_t column)
  * "6. Always set: a run exists, and every run's last touch sets it." So no
  * run's last touch clears it, and none leaves it untouched on that side.
  * "7. Always cleared: likewise." So none sets it last or leaves it untouched.
- * "Without a run all seven words are 0": `o` has no fact in any word then.
+ * "an eighth word, "always stands": a run exists, and in every run the last
+ * item that sets, clears, needs or checks the fact is there and does not clear
+ * it." So in none it clears it, and none is without such an item.
+ * Without a run all words are 0: `o` has no fact in any word then.
  */
 static void card_of(const uint64_t *o, uint64_t *card)
 {
@@ -154,11 +163,36 @@ static void card_of(const uint64_t *o, uint64_t *card)
     card[4] = o[LAST_CLEARED];
     card[5] = o[RUN] & ~o[LAST_CLEARED] & ~o[LAST_UNTOUCHED];
     card[6] = o[RUN] & ~o[LAST_SET] & ~o[LAST_UNTOUCHED];
+    card[7] = o[RUN] & ~o[CLEARED] & ~o[UNNAMED];
+}
+
+/* Whether a word has no fact but those of another. */
+static int within(uint64_t word, uint64_t other)
+{
+    return (word & ~other) == 0;
 }
 
 /*
- * Whether these can be outcomes at all: a run has one of the three of a side,
- * and an empty run leaves every fact untouched. So none has a fact from F up.
+ * Whether the last three of the outcomes go with the others. What a run sets
+ * last stands after it. Where the last item clears a fact, that is the last
+ * touch; a run that does not name a fact leaves it on both sides; one after
+ * which a fact stands needs or sets it, so that it does not leave it on the
+ * first side.
+ */
+static int named_right(const uint64_t *o)
+{
+    return (o[STANDING] | o[CLEARED] | o[UNNAMED]) == o[RUN] &&
+           within(o[LAST_SET], o[STANDING]) &&
+           within(o[CLEARED], o[LAST_CLEARED]) &&
+           within(o[UNNAMED], o[LAST_UNTOUCHED] & o[FIRST_UNTOUCHED]) &&
+           within(o[STANDING], o[FIRST_NEEDED] | o[FIRST_SET]);
+}
+
+/*
+ * Whether these can be outcomes at all: a run has one of the three of a side.
+ * An empty run, which may have checks, leaves every fact untouched on the last
+ * side, and on the first side needs it or leaves it. So none has a fact from F
+ * up.
  */
 static int possible(const uint64_t *o)
 {
@@ -166,8 +200,9 @@ static int possible(const uint64_t *o)
            (o[EMPTY_RUN] == 0 || o[EMPTY_RUN] == o[RUN]) &&
            (o[LAST_SET] | o[LAST_CLEARED] | o[LAST_UNTOUCHED]) == o[RUN] &&
            (o[FIRST_NEEDED] | o[FIRST_SET] | o[FIRST_UNTOUCHED]) == o[RUN] &&
-           (o[EMPTY_RUN] & ~o[LAST_UNTOUCHED]) == 0 &&
-           (o[EMPTY_RUN] & ~o[FIRST_UNTOUCHED]) == 0;
+           within(o[EMPTY_RUN], o[LAST_UNTOUCHED]) &&
+           within(o[EMPTY_RUN], o[FIRST_NEEDED] | o[FIRST_UNTOUCHED]) &&
+           within(o[EMPTY_RUN], o[STANDING] | o[UNNAMED]) && named_right(o);
 }
 
 /* The card area, with guard words on both sides. */
@@ -298,6 +333,7 @@ static void judge(void)
 
 /* The libraries. After the words of a sequence stands what it comes to. */
 #include "outcomes/calls.h"
+#include "outcomes/checks.h"
 #include "outcomes/endless.h"
 #include "outcomes/facts.h"
 #include "outcomes/long.h"
@@ -313,6 +349,7 @@ int main(void)
     steps();
     calls();
     facts();
+    checks();
     calls_in_a_row();
     neighbours();
     rings();

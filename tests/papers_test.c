@@ -1,8 +1,9 @@
 /*
- * The worked examples of source documents 000 and 001, each with its place in
- * the paper: the sets that the text prints are columns of a card, by the card
- * call and by the second engine. Where the text says why a fact is missing from
- * an "always" column, a chain names that method.
+ * The worked examples of source documents 000 and 001, and of 003 the one with
+ * an empty method that has a condition, each with its place in the paper: the
+ * sets that the text prints are columns of a card, by the card call and by the
+ * second engine. Where the text says why a fact is missing from an "always"
+ * column, a chain names that method.
  *
  * The figures are not in the text. Actions and methods that it leaves open are
  * chosen here to fit all that it says of them.
@@ -10,7 +11,10 @@
  * In the papers' terms a step is an action (prec, add, del), a sequence a
  * compound task, an alternative a method. prec and poss-prec are "always
  * needed" and "may need", poss-eff+ and poss-eff- "may set" and "may clear",
- * eff+ and eff- "always set" and "always cleared", all of the relaxed kind.
+ * eff+ and eff- "always set" and "always cleared", all of the relaxed kind. No
+ * paper has "always stands"; it is document 02's, worked out from the last
+ * action of each refinement that has the fact in prec, add or del: the fact is
+ * in where each refinement has one, and never in its del.
  *
  * C11 and C++17. Prints a line for what does not hold, then a count; the exit
  * status is 0 where all holds.
@@ -61,7 +65,10 @@ static void action(uint64_t prec, uint64_t add, uint64_t del)
 /* The next compound task, of c1, c2 .. */
 static void compound(void) { image_put(&image, KIND_SEQUENCE, compounds++); }
 
-/* A method of it, by its tasks: "a1 c2" is action a1 and then task c2. */
+/*
+ * A method of it, by its tasks: "a1 c2" is action a1 and then task c2, "f1" a
+ * check of fact f1.
+ */
 static void method(const char *tasks)
 {
     image_put(&image, KIND_ALTERNATIVE, 0);
@@ -70,6 +77,8 @@ static void method(const char *tasks)
             image_put(&image, KIND_STEP_ENTRY, (uint32_t)(tasks[1] - '1'));
         if (*tasks == 'c')
             image_put(&image, KIND_SEQUENCE_ENTRY, (uint32_t)(tasks[1] - '1'));
+        if (*tasks == 'f')
+            image_put(&image, KIND_CHECK, (uint32_t)(tasks[1] - '0'));
     }
 }
 
@@ -90,10 +99,10 @@ static void fill(const char *name)
     }
 }
 
-/* A card as it is to be, with the words in the order of document 01. */
+/* A card as it is to be, with the words in the order of documents 01 and 02. */
 struct card {
     uint64_t flags, always_needed, may_need, may_set, may_clear, always_set,
-        always_cleared;
+        always_cleared, always_stands;
 };
 
 /* A run exists, none is empty, and so many facts can change. */
@@ -125,6 +134,8 @@ static void engine_card_is(const char *name, const char *engine,
     word_is(name, engine, 6, card[DULIMOVEN_ALWAYS_SET], expected->always_set);
     word_is(name, engine, 7, card[DULIMOVEN_ALWAYS_CLEARED],
             expected->always_cleared);
+    word_is(name, engine, 8, card[DULIMOVEN_ALWAYS_STANDS],
+            expected->always_stands);
 }
 
 /* The card of compound task number c, counted from 1. */
@@ -160,11 +171,12 @@ static void untouched_by(const char *name, uint32_t c, uint32_t question,
  * also needed to execute c."
  *
  * So f is in eff+ and prec, and with them in poss-eff+ and poss-prec; nothing
- * deletes it. One fact can change.
+ * deletes it, so it stands. One fact can change.
  */
 static void needed_and_added(void)
 {
-    struct card c = {flags(1), FACT(1), FACT(1), FACT(1), none, FACT(1), none};
+    struct card c = {flags(1), FACT(1), FACT(1), FACT(1),
+                     none,     FACT(1), none,    FACT(1)};
     domain(2, 1, 1);
     action(FACT(1), FACT(1), none);
     compound();
@@ -182,12 +194,14 @@ static void needed_and_added(void)
  *
  * f2 is in poss-eff+ with that. f1 is deleted, and never added: it is in eff-
  * and poss-eff-. It is needed, and no action before adds it: by Definition 6 of
- * 001 it is in prec, and in poss-prec. Two facts can change.
+ * 001 it is in prec, and in poss-prec. Two facts can change. The second action
+ * is the last that has f1, in prec, or f2: both are in "always stands", which
+ * says nothing here, since nothing executes.
  */
 static void never_executable(void)
 {
     struct card c = {flags(2), FACT(1), FACT(1), FACT(2),
-                     FACT(1),  FACT(2), FACT(1)};
+                     FACT(1),  FACT(2), FACT(1), FACT(1) | FACT(2)};
     domain(3, 2, 1);
     action(none, none, FACT(1));
     action(FACT(1), FACT(2), none);
@@ -224,15 +238,17 @@ static void never_executable(void)
  * not add: poss-prec(c2) = {f1, f2, f5}. a5 and a6 add nothing that m1 or m2
  * deletes, and delete nothing: poss-eff-(c2) = poss-eff-(c1), and eff- is empty
  * for both, since m1 and m2 delete no fact in common. So 7 facts can change.
+ * After m1 stand f2, f3 and f4, after m2 f3, f6 and f7: f3 after both. <a6> has
+ * f4 alone, which is not in <a3, a4, a5>: of c2 none always stands.
  */
 static void figures_1_and_2(void)
 {
     uint64_t plus = FACT(3) | FACT(4) | FACT(6) | FACT(7);
     uint64_t minus = FACT(1) | FACT(2) | FACT(5);
     struct card c1 = {flags(7), FACT(2), FACT(1) | FACT(2), plus,
-                      minus,    FACT(3), none};
+                      minus,    FACT(3), none,              FACT(3)};
     struct card c2 = {flags(7), none, FACT(1) | FACT(2) | FACT(5), plus,
-                      minus,    none, none};
+                      minus,    none, none,                        none};
     domain(8, 6, 2);
     action(FACT(1), FACT(3), FACT(1));
     action(FACT(2), FACT(4), none);
@@ -273,12 +289,13 @@ static void figures_1_and_2(void)
  *
  * The domain below fits that: c is compound task 6 with m1 = <c3, c4> and
  * m2 = tn5; a1 to a6 are the actions of tn1 to tn6. a3 and a5 delete what is
- * cut off. No action has a precondition.
+ * cut off. No action has a precondition, so that what always stands is eff+.
  */
 static void figure_3(void)
 {
     uint64_t plus = FACT(1) | FACT(2) | FACT(3);
-    struct card c = {flags(3), none, none, plus, FACT(2), FACT(3), none};
+    struct card c = {flags(3), none,    none, plus,
+                     FACT(2),  FACT(3), none, FACT(3)};
     domain(4, 6, 6);
     action(none, FACT(1), none);
     action(none, FACT(2) | FACT(3), none);
@@ -315,11 +332,13 @@ static void figure_3(void)
  *
  * The two methods are <a1> and <a2>: f1 holds after a1, which does not add it,
  * since a1 needs it; a2 adds it. So f1 is in poss-eff+ and poss-prec, and by a2
- * not in prec.
+ * not in prec. That it "holds after the execution of both" is what "always
+ * stands" says.
  */
 static void figure_10a(void)
 {
-    struct card c1 = {flags(1), none, FACT(1), FACT(1), none, none, none};
+    struct card c1 = {flags(1), none, FACT(1), FACT(1),
+                      none,     none, none,    FACT(1)};
     domain(2, 2, 1);
     action(FACT(1), none, none);
     action(none, FACT(1), none);
@@ -338,11 +357,13 @@ static void figure_10a(void)
  * f1 in eff+(m3)."
  *
  * m3 = <a1, a3> is the one method of a task here, and a3 is its second action:
- * f1 is in eff+ and prec, and with them in poss-eff+ and poss-prec.
+ * f1 is in eff+ and prec, and with them in poss-eff+ and poss-prec. Nothing
+ * deletes it, so it stands.
  */
 static void figure_10b(void)
 {
-    struct card m3 = {flags(1), FACT(1), FACT(1), FACT(1), none, FACT(1), none};
+    struct card m3 = {flags(1), FACT(1), FACT(1), FACT(1),
+                      none,     FACT(1), none,    FACT(1)};
     domain(2, 2, 1);
     action(FACT(1), none, none);
     action(none, FACT(1), none);
@@ -350,6 +371,50 @@ static void figure_10b(void)
     method("a1 a2");
     fill("001, Figure 10b");
     card_is("001, Figure 10b, m3", 1, m3);
+}
+
+/*
+ * 003, Equations 1 to 3: Get-To(V, L) -> drive(V, L0, L), and
+ * Get-To(V, L) -> Get-To(V, L0), drive(V, L0, L). "What if the vehicle is
+ * already in the desired location? Then one can create an empty method
+ * decomposing task Get-To into nothing and checking the location:
+ * Get-To(V, L) -> e [before(at(V, L), Get-To(V, L))]".
+ *
+ * One vehicle and two places, f1 at(V, L1) and f2 at(V, L2): a1 drives from L1
+ * to L2, which needs f1, adds f2 and deletes f1, and a2 drives back. c1 is
+ * Get-To(V, L2), c2 is Get-To(V, L1).
+ *
+ * A refinement of c1 is the check of f2, or ends with a1. So f2 is in poss-eff+
+ * and f1 in poss-eff-, and by the check neither in eff+ or eff-; f2 is there
+ * after either, and always stands. poss-prec has f2 by the check, and f1 by
+ * <a1>; <a1> adds f2 before any action needs it, and the check leaves f1: prec
+ * is empty. The check has no step, so the refinement counts as empty. Of c2 the
+ * same holds with f1 and f2 exchanged.
+ */
+static void get_to(void)
+{
+    uint64_t both = FACT(1) | FACT(2);
+    uint64_t empty = flags(2) | DULIMOVEN_FLAG_EMPTY_RUN;
+    struct card c1 = {empty, none, both, FACT(2), FACT(1), none, none, FACT(2)};
+    struct card c2 = {empty, none, both, FACT(1), FACT(2), none, none, FACT(1)};
+    domain(3, 2, 2);
+    action(FACT(1), FACT(2), FACT(1));
+    action(FACT(2), FACT(1), FACT(2));
+    compound();
+    method("a1");
+    method("c2 a1");
+    method("f2");
+    compound();
+    method("a2");
+    method("c1 a2");
+    method("f1");
+    fill("003, Equations 1 to 3");
+    card_is("003, Get-To(V, L2)", 1, c1);
+    card_is("003, Get-To(V, L1)", 2, c2);
+    /* not guaranteed: "What if the vehicle is already in the desired location?"
+     */
+    untouched_by("003, Get-To(V, L2)", 1, DULIMOVEN_LAST_UNTOUCHED, 2, 2);
+    untouched_by("003, Get-To(V, L1)", 2, DULIMOVEN_LAST_UNTOUCHED, 1, 2);
 }
 
 int main(void)
@@ -360,6 +425,7 @@ int main(void)
     figure_3();
     figure_10a();
     figure_10b();
+    get_to();
     printf("papers_test: %u checks, %u failed\n", ran, failed);
     return failed == 0 ? 0 : 1;
 }

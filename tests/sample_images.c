@@ -7,6 +7,7 @@
  */
 #include "harness.h"
 #include "samples.h"
+#include "setup.h"
 
 static const char *folder;
 
@@ -28,36 +29,15 @@ static void write_image(const char *name)
     hold(path, fclose(file) == 0);
 }
 
-/* An alternative with its entries. Entries that are steps have names below. */
-#define TAKES(...) ALTERNATIVE, __VA_ARGS__
-
-/*
- * setup and refused. Facts: 0 the bus is granted, 1 delays are in picoseconds,
- * 2 a measurement is stored. Sequence 0 is a setup with an empty alternative,
- * sequence 1 one without; 2 and 3 measure after either. In refused, release
- * clears a fact that is not below F.
- */
-#define REQUEST DO(0)
-#define UNIT DO(1)
-#define RELEASE DO(2)
-#define MEASURE DO(3)
-#define SETUP_WORDS(released)                                    \
-    HEAD(3, 4, 4),                                               \
-        STEP(0), SETS(0),                                        \
-        STEP(1), NEEDS(0), SETS(1),                              \
-        STEP(2), NEEDS(0), CLEARS(released),                     \
-        STEP(3), NEEDS(0), NEEDS(1), SETS(2),                    \
-        SEQUENCE(0), TAKES(REQUEST, UNIT, RELEASE), ALTERNATIVE, \
-        SEQUENCE(1), TAKES(REQUEST, UNIT, RELEASE),              \
-        SEQUENCE(2), TAKES(CALL(0), REQUEST, MEASURE, RELEASE),  \
-        SEQUENCE(3), TAKES(CALL(1), REQUEST, MEASURE, RELEASE)
-
+/* setup, refused and skip: setup.h. */
 static void write_setup(void)
 {
-    BUILD(SETUP_WORDS(0));
+    BUILD(SETUP);
     write_image("setup");
-    BUILD(SETUP_WORDS(3));
+    BUILD(REFUSED_SETUP);
     write_image("refused");
+    BUILD(SKIP);
+    write_image("skip");
 }
 
 /*
@@ -123,6 +103,29 @@ static void write_calls(void)
           SEQUENCE(12), TAKES(CALL(11)),
           SEQUENCE(13), TAKES(WAIT), TAKES(LOCK), TAKES(ARM));
     write_image("calls");
+}
+
+/*
+ * checks. Facts: 0 armed, 1 locked, which one step sets. Sequences that check
+ * one of them or both where they do not set them, and that call those.
+ */
+#define ARM_AND_LOCK DO(0)
+#define REST DO(1)
+
+static void write_checks(void)
+{
+    BUILD(HEAD(2, 2, 8),
+          STEP(0), SETS(0), SETS(1),
+          STEP(1),
+          SEQUENCE(0), TAKES(ARM_AND_LOCK), TAKES(CHECK(0)),
+          SEQUENCE(1), TAKES(ARM_AND_LOCK), TAKES(CHECK(0), CHECK(1)),
+          SEQUENCE(2), TAKES(CHECK(0), CALL(0)),
+          SEQUENCE(3), TAKES(CHECK(1), REST),
+          SEQUENCE(4), TAKES(CALL(3)), TAKES(REST),
+          SEQUENCE(5), TAKES(CALL(6), ARM_AND_LOCK),
+          SEQUENCE(6), TAKES(CHECK(0)), TAKES(REST),
+          SEQUENCE(7), TAKES(CALL(0), CALL(6)));
+    write_image("checks");
 }
 
 /*
@@ -201,6 +204,7 @@ int main(int count, char **arguments)
     write_setup();
     write_poll();
     write_calls();
+    write_checks();
     write_many();
     letters_image();
     twelve_image();

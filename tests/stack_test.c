@@ -19,7 +19,7 @@
 #include <stdlib.h>
 
 /* What is measured: a call, for a chain with its question. */
-enum call { CHECK, CARDS, CHAIN, CALLS };
+enum call { CHECK_CALL, CARDS_CALL, CHAIN_CALL, CALLS };
 static enum call measured;
 static uint64_t question;
 
@@ -37,9 +37,9 @@ static void make_call(void)
     static uint64_t cards[DULIMOVEN_MOST_CARD_WORDS];
     static uint32_t chain[DULIMOVEN_MOST_CHAIN_WORDS];
     const uint32_t *image = area + GUARD;
-    if (measured == CHECK)
+    if (measured == CHECK_CALL)
         dulimoven_check(image, words);
-    else if (measured == CARDS)
+    else if (measured == CARDS_CALL)
         dulimoven_cards(image, words, cards, COUNT(cards));
     else
         dulimoven_chain(image, words, 0, question, 0, chain, COUNT(chain));
@@ -91,11 +91,11 @@ static void measure_in_thread(void)
 /* All calls on the image under test. */
 static void measure_calls(void)
 {
-    measured = CHECK;
+    measured = CHECK_CALL;
     measure_in_thread();
-    measured = CARDS;
+    measured = CARDS_CALL;
     measure_in_thread();
-    measured = CHAIN;
+    measured = CHAIN_CALL;
     for (question = 0; question <= DULIMOVEN_FIRST_UNTOUCHED; question++)
         measure_in_thread();
 }
@@ -125,7 +125,8 @@ static void small(void)
 /*
  * The largest library: each step needs a fact, sets the next and clears the one
  * after that, and each sequence has an alternative with the sequence `ahead` of
- * it and one with ten steps; the last goes on as far as there is room.
+ * it and one with nine steps and a check; the last goes on as far as there is
+ * room.
  */
 static void large(uint32_t ahead)
 {
@@ -144,8 +145,9 @@ static void large(uint32_t ahead)
         put(DO(c));
         put(CALL((c + ahead) % MOST_C));
         put(ALTERNATIVE);
-        for (i = 0; i < 10; i++)
+        for (i = 0; i < 9; i++)
             put(DO((10 * c + i) % MOST_A));
+        put(CHECK(c % MOST_F));
     }
     while (words < FULL - 1)
         put(DO(words % MOST_A));

@@ -10,7 +10,7 @@ static void endless(void)
     PUT(SEQUENCE(0), ALTERNATIVE, DO(0), CALL(1), ALTERNATIVE, DO(1));
     /* alternative 0 waits for sequence 1, which has no run. So the one run is
        <step 1>: last cleared. A clear is no touch on the first side. */
-    runs(LAST(0, 1, 0), FIRST(0, 0, 1));
+    RUNS(LAST(0, 1, 0), FIRST(0, 0, 1), STANDS(0, 1, 0));
     PUT(SEQUENCE(1), ALTERNATIVE, CALL(1));
     /* the only alternative calls the sequence itself, so no finite list comes
        of it */
@@ -24,17 +24,17 @@ static void endless(void)
     no_run();
     PUT(SEQUENCE(1), ALTERNATIVE, CALL(0), DO(0), ALTERNATIVE);
     /* only the empty run is left: nothing is touched */
-    runs_and_empty(LAST(0, 0, 1), FIRST(0, 0, 1));
+    RUNS_AND_EMPTY(LAST(0, 0, 1), FIRST(0, 0, 1), STANDS(0, 0, 1));
     PUT(SEQUENCE(2), ALTERNATIVE, DO(0), CALL(0), ALTERNATIVE, DO(2));
     /* only <step 2> is left. A need is no touch on the last side. */
-    runs(LAST(0, 0, 1), FIRST(1, 0, 0));
+    RUNS(LAST(0, 0, 1), FIRST(1, 0, 0), STANDS(1, 0, 0));
     PUT(SEQUENCE(3), ALTERNATIVE, DO(0), CALL(0), DO(1), ALTERNATIVE, DO(0));
     /* only <step 0> is left: set, and not cleared by the step behind the
        endless one */
-    runs(LAST(1, 0, 0), FIRST(0, 1, 0));
+    RUNS(LAST(1, 0, 0), FIRST(0, 1, 0), STANDS(1, 0, 0));
     PUT(SEQUENCE(4), ALTERNATIVE, CALL(0), ALTERNATIVE, DO(1));
     /* only <step 1> is left */
-    runs(LAST(0, 1, 0), FIRST(0, 0, 1));
+    RUNS(LAST(0, 1, 0), FIRST(0, 0, 1), STANDS(0, 1, 0));
     PUT(SEQUENCE(5), ALTERNATIVE, DO(0), CALL(0), DO(0));
     /* its one alternative has no run */
     no_run();
@@ -51,11 +51,11 @@ static void endless(void)
     PUT(SEQUENCE(2), ALTERNATIVE, DO(0), CALL(1), ALTERNATIVE, DO(1));
     /* <step 0, sequence 1> gives nothing, so <step 1> alone: last cleared,
        first untouched */
-    runs(LAST(0, 1, 0), FIRST(0, 0, 1));
+    RUNS(LAST(0, 1, 0), FIRST(0, 0, 1), STANDS(0, 1, 0));
     PUT(SEQUENCE(3), ALTERNATIVE, CALL(0), DO(0), ALTERNATIVE, DO(2), CALL(1),
         ALTERNATIVE);
     /* two alternatives give nothing, the third the empty run */
-    runs_and_empty(LAST(0, 0, 1), FIRST(0, 0, 1));
+    RUNS_AND_EMPTY(LAST(0, 0, 1), FIRST(0, 0, 1), STANDS(0, 0, 1));
     PUT(SEQUENCE(4), ALTERNATIVE, CALL(5));
     /* a run of 4 would be a run of 5, that a run of 6, and that begins with a
        run of 4: no run */
@@ -68,7 +68,7 @@ static void endless(void)
     no_run();
     PUT(SEQUENCE(7), ALTERNATIVE, DO(1), CALL(5), ALTERNATIVE, DO(0));
     /* only <step 0> is left */
-    runs(LAST(1, 0, 0), FIRST(0, 1, 0));
+    RUNS(LAST(1, 0, 0), FIRST(0, 1, 0), STANDS(1, 0, 0));
     judge();
 
     LIBRARY("a sequence without alternatives has no run",
@@ -78,24 +78,24 @@ static void endless(void)
     no_run();
     PUT(SEQUENCE(1), ALTERNATIVE, DO(0), CALL(0), ALTERNATIVE, DO(1));
     /* only <step 1> is left */
-    runs(LAST(0, 1, 0), FIRST(0, 0, 1));
+    RUNS(LAST(0, 1, 0), FIRST(0, 0, 1), STANDS(0, 1, 0));
     PUT(SEQUENCE(2), ALTERNATIVE, CALL(0), ALTERNATIVE);
     /* only the empty run is left */
-    runs_and_empty(LAST(0, 0, 1), FIRST(0, 0, 1));
+    RUNS_AND_EMPTY(LAST(0, 0, 1), FIRST(0, 0, 1), STANDS(0, 0, 1));
     PUT(SEQUENCE(3), ALTERNATIVE, CALL(0), CALL(0));
     /* no run, as sequence 0 has none */
     no_run();
     PUT(SEQUENCE(4), ALTERNATIVE, CALL(0), DO(0), ALTERNATIVE, DO(0),
         ALTERNATIVE, CALL(0), DO(1));
     /* only the alternative in the middle counts, <step 0> */
-    runs(LAST(1, 0, 0), FIRST(0, 1, 0));
+    RUNS(LAST(1, 0, 0), FIRST(0, 1, 0), STANDS(1, 0, 0));
     judge();
 
     LIBRARY("the endless one stands behind another, and has a later number",
             HEAD(1, 2, 3), STEP(0), SETS(0), STEP(1), CLEARS(0));
     PUT(SEQUENCE(0), ALTERNATIVE, CALL(1), ALTERNATIVE, DO(1));
     /* sequence 1 has no run, so <step 1> alone */
-    runs(LAST(0, 1, 0), FIRST(0, 0, 1));
+    RUNS(LAST(0, 1, 0), FIRST(0, 0, 1), STANDS(0, 1, 0));
     PUT(SEQUENCE(1), ALTERNATIVE, DO(0), CALL(2));
     /* needs a run of sequence 2: none */
     no_run();
@@ -110,10 +110,10 @@ static void endless(void)
     PUT(SEQUENCE(0), ALTERNATIVE, DO(0), CALL(3), ALTERNATIVE, DO(1),
         ALTERNATIVE, DO(2), CALL(3));
     /* <step 1> alone: neither set nor needed */
-    runs(LAST(0, 1, 0), FIRST(0, 0, 1));
+    RUNS(LAST(0, 1, 0), FIRST(0, 0, 1), STANDS(0, 1, 0));
     PUT(SEQUENCE(1), ALTERNATIVE, DO(1), ALTERNATIVE, DO(0), CALL(3));
     /* <step 1> alone */
-    runs(LAST(0, 1, 0), FIRST(0, 0, 1));
+    RUNS(LAST(0, 1, 0), FIRST(0, 0, 1), STANDS(0, 1, 0));
     PUT(SEQUENCE(2), ALTERNATIVE, CALL(3), DO(0), ALTERNATIVE, CALL(3),
         ALTERNATIVE, DO(2), CALL(3), DO(1));
     /* three alternatives, none with a run */
@@ -127,10 +127,10 @@ static void endless(void)
     PUT(SEQUENCE(0), ALTERNATIVE, CALL(1), CALL(2), CALL(1),
         ALTERNATIVE, DO(1));
     /* <step 1> alone: neither the set nor the empty run of sequence 1 counts */
-    runs(LAST(0, 1, 0), FIRST(0, 0, 1));
+    RUNS(LAST(0, 1, 0), FIRST(0, 0, 1), STANDS(0, 1, 0));
     PUT(SEQUENCE(1), ALTERNATIVE, DO(0), ALTERNATIVE);
     /* runs <step 0> and <> */
-    runs_and_empty(LAST(1, 0, 1), FIRST(0, 1, 1));
+    RUNS_AND_EMPTY(LAST(1, 0, 1), FIRST(0, 1, 1), STANDS(1, 0, 1));
     PUT(SEQUENCE(2), ALTERNATIVE, CALL(2));
     no_run();
     judge();
@@ -147,6 +147,6 @@ static void endless(void)
        is untouched, <0, 2> set and <2, 1> cleared. First: <2> needs, <0, 2>
        sets. Each run has a step that needs, so none is untouched on the first
        side. */
-    runs(LAST(1, 1, 1), FIRST(1, 1, 0));
+    RUNS(LAST(1, 1, 1), FIRST(1, 1, 0), STANDS(1, 1, 0));
     judge();
 }

@@ -14,7 +14,7 @@ static void calls_in_a_row(void)
     for (c = 0; c < MOST_C; c++) {
         PUT(SEQUENCE(c), ALTERNATIVE, c < TOP ? CALL(c + 1) : DO(0));
         /* the one run of each is <step 0> */
-        runs(LAST(1, 0, 0), FIRST(0, 1, 0));
+        RUNS(LAST(1, 0, 0), FIRST(0, 1, 0), STANDS(1, 0, 0));
     }
     judge();
 
@@ -23,7 +23,15 @@ static void calls_in_a_row(void)
     for (c = 0; c < MOST_C; c++) {
         PUT(SEQUENCE(c), ALTERNATIVE, c > 0 ? CALL(c - 1) : DO(0));
         /* the one run of each is <step 0> */
-        runs(LAST(0, 0, 1), FIRST(1, 0, 0));
+        RUNS(LAST(0, 0, 1), FIRST(1, 0, 0), STANDS(1, 0, 0));
+    }
+    judge();
+
+    LIBRARY("each calls the next, the last one checks", HEAD(1, 0, MOST_C));
+    for (c = 0; c < MOST_C; c++) {
+        PUT(SEQUENCE(c), ALTERNATIVE, c < TOP ? CALL(c + 1) : CHECK(0));
+        /* the one run of each is <check>, which is empty */
+        RUNS_AND_EMPTY(LAST(0, 0, 1), FIRST(1, 0, 0), STANDS(1, 0, 0));
     }
     judge();
 
@@ -37,7 +45,7 @@ static void calls_in_a_row(void)
         else
             PUT(DO(0), ALTERNATIVE);
         /* runs <step 0> and <> of sequence 255 */
-        runs_and_empty(LAST(1, 0, 1), FIRST(0, 1, 1));
+        RUNS_AND_EMPTY(LAST(1, 0, 1), FIRST(0, 1, 1), STANDS(1, 0, 1));
     }
     judge();
 
@@ -46,22 +54,22 @@ static void calls_in_a_row(void)
     for (c = 0; c < TOP; c++) {
         PUT(SEQUENCE(c), ALTERNATIVE, CALL(c + 1), DO(1));
         /* a set, then clears */
-        runs(LAST(0, 1, 0), FIRST(0, 1, 0));
+        RUNS(LAST(0, 1, 0), FIRST(0, 1, 0), STANDS(0, 1, 0));
     }
     PUT(SEQUENCE(TOP), ALTERNATIVE, DO(0));
     /* the set alone */
-    runs(LAST(1, 0, 0), FIRST(0, 1, 0));
+    RUNS(LAST(1, 0, 0), FIRST(0, 1, 0), STANDS(1, 0, 0));
     judge();
 
     LIBRARY("<need, one before>, and the first one sets",
             HEAD(1, 2, MOST_C), STEP(0), SETS(0), STEP(1), NEEDS(0));
     PUT(SEQUENCE(0), ALTERNATIVE, DO(0));
     /* the set alone */
-    runs(LAST(1, 0, 0), FIRST(0, 1, 0));
+    RUNS(LAST(1, 0, 0), FIRST(0, 1, 0), STANDS(1, 0, 0));
     for (c = 1; c < MOST_C; c++) {
         PUT(SEQUENCE(c), ALTERNATIVE, DO(1), CALL(c - 1));
         /* needs, then the set */
-        runs(LAST(1, 0, 0), FIRST(1, 0, 0));
+        RUNS(LAST(1, 0, 0), FIRST(1, 0, 0), STANDS(1, 0, 0));
     }
     judge();
 
@@ -70,11 +78,11 @@ static void calls_in_a_row(void)
     for (c = 0; c < TOP; c++) {
         PUT(SEQUENCE(c), ALTERNATIVE, DO(0), CALL(c + 1), ALTERNATIVE);
         /* any number of needs, none among them */
-        runs_and_empty(LAST(0, 0, 1), FIRST(1, 0, 1));
+        RUNS_AND_EMPTY(LAST(0, 0, 1), FIRST(1, 0, 1), STANDS(1, 0, 1));
     }
     PUT(SEQUENCE(TOP), ALTERNATIVE);
     /* the empty run alone */
-    runs_and_empty(LAST(0, 0, 1), FIRST(0, 0, 1));
+    RUNS_AND_EMPTY(LAST(0, 0, 1), FIRST(0, 0, 1), STANDS(0, 0, 1));
     judge();
 }
 
@@ -91,7 +99,7 @@ static void neighbours(void)
     for (c = 0; c < MOST_C; c++) {
         PUT(SEQUENCE(c), ALTERNATIVE, CALL(c > 0 ? c - 1 : 1),
             ALTERNATIVE, c == 0 ? DO(0) : c == TOP ? DO(1) : CALL(c + 1));
-        runs(LAST(1, 0, 3), FIRST(2, 1, 3));
+        RUNS(LAST(1, 0, 3), FIRST(2, 1, 3), STANDS(3, 0, 3));
     }
     judge();
 
@@ -99,17 +107,17 @@ static void neighbours(void)
             HEAD(1, 2, MOST_C), STEP(0), SETS(0), STEP(1), CLEARS(0));
     PUT(SEQUENCE(0), ALTERNATIVE, DO(0), ALTERNATIVE);
     /* <0> and <> */
-    runs_and_empty(LAST(1, 0, 1), FIRST(0, 1, 1));
+    RUNS_AND_EMPTY(LAST(1, 0, 1), FIRST(0, 1, 1), STANDS(1, 0, 1));
     for (c = 1; c < TOP; c++) {
         PUT(SEQUENCE(c), ALTERNATIVE, CALL(c - 1), CALL(c + 1), ALTERNATIVE);
         /* through the ones before it comes the set of sequence 0, through the
            next ones the clear of sequence 255, and every other call can be
            empty: <>, <0>, <1>, <0, 1> */
-        runs_and_empty(LAST(1, 1, 1), FIRST(0, 1, 1));
+        RUNS_AND_EMPTY(LAST(1, 1, 1), FIRST(0, 1, 1), STANDS(1, 1, 1));
     }
     PUT(SEQUENCE(TOP), ALTERNATIVE, DO(1), ALTERNATIVE);
     /* <1> and <> */
-    runs_and_empty(LAST(0, 1, 1), FIRST(0, 0, 1));
+    RUNS_AND_EMPTY(LAST(0, 1, 1), FIRST(0, 0, 1), STANDS(0, 1, 1));
     judge();
 }
 
@@ -126,7 +134,7 @@ static void rings(void)
         if (c == WAY_OUT)
             PUT(ALTERNATIVE, DO(0));
         /* the one run of each is <step 0> */
-        runs(LAST(1, 0, 0), FIRST(0, 1, 0));
+        RUNS(LAST(1, 0, 0), FIRST(0, 1, 0), STANDS(1, 0, 0));
     }
     judge();
 
@@ -135,11 +143,11 @@ static void rings(void)
     for (c = 0; c < TOP; c++) {
         PUT(SEQUENCE(c), ALTERNATIVE, DO(0), CALL(c + 1));
         /* sets, then the need: set on both sides */
-        runs(LAST(1, 0, 0), FIRST(0, 1, 0));
+        RUNS(LAST(1, 0, 0), FIRST(0, 1, 0), STANDS(1, 0, 0));
     }
     PUT(SEQUENCE(TOP), ALTERNATIVE, DO(0), CALL(0), ALTERNATIVE, DO(1));
     /* also the need alone, which leaves the fact untouched on the last side */
-    runs(LAST(1, 0, 1), FIRST(1, 1, 0));
+    RUNS(LAST(1, 0, 1), FIRST(1, 1, 0), STANDS(1, 0, 0));
     judge();
 
     LIBRARY("a ring of <set, next> without a way out",
@@ -160,8 +168,9 @@ static void rings(void)
     for (c = 0; c < 64; c++) {
         PUT(SEQUENCE(c), ALTERNATIVE, DO(c), CALL(c < 63 ? c + 1 : 0),
             ALTERNATIVE);
-        runs_and_empty(LAST(FACTS(64), 0, FACTS(64)),
-                       FIRST(0, FACTS(64), FACTS(64)));
+        RUNS_AND_EMPTY(LAST(FACTS(64), 0, FACTS(64)),
+                       FIRST(0, FACTS(64), FACTS(64)),
+                       STANDS(FACTS(64), 0, FACTS(64)));
     }
     judge();
 }
@@ -192,7 +201,7 @@ static void endless_many(void)
         if (c >= HALF)
             PUT(ALTERNATIVE, DO(0));
         /* <step 0>, below 128 by sequence 128 */
-        runs(LAST(1, 0, 0), FIRST(0, 1, 0));
+        RUNS(LAST(1, 0, 0), FIRST(0, 1, 0), STANDS(1, 0, 0));
     }
     PUT(SEQUENCE(TOP), ALTERNATIVE, CALL(TOP));
     no_run();
@@ -211,7 +220,7 @@ static void endless_many(void)
         if (c < TOP)
             put(CALL(c + 1));
         /* the empty run */
-        runs_and_empty(LAST(0, 0, 1), FIRST(0, 0, 1));
+        RUNS_AND_EMPTY(LAST(0, 0, 1), FIRST(0, 0, 1), STANDS(0, 0, 1));
     }
     judge();
 }
@@ -226,7 +235,7 @@ static void full_images(void)
     while (words < FULL - 2)
         PUT(ALTERNATIVE, DO(0));
     put(ALTERNATIVE);
-    runs_and_empty(LAST(1, 0, 1), FIRST(0, 1, 1));
+    RUNS_AND_EMPTY(LAST(1, 0, 1), FIRST(0, 1, 1), STANDS(1, 0, 1));
     judge();
 
     LIBRARY("one alternative, <need, 8,180 clears, set>",
@@ -234,7 +243,16 @@ static void full_images(void)
     fill(DO(1), FULL - 2);
     put(DO(0));
     /* first the need, last the set */
-    runs(LAST(1, 0, 0), FIRST(1, 0, 0));
+    RUNS(LAST(1, 0, 0), FIRST(1, 0, 0), STANDS(1, 0, 0));
+    judge();
+
+    LIBRARY("one alternative, <clear, 8,180 checks of another fact, check>",
+            HEAD(2, 3, 1), SET_CLEAR_NEED, SEQUENCE(0), ALTERNATIVE, DO(1));
+    fill(CHECK(1), FULL - 2);
+    put(CHECK(0));
+    /* fact 0: last cleared, first needed past that, and it stands; fact 1:
+       checked alone */
+    RUNS(LAST(0, 1, 2), FIRST(3, 0, 0), STANDS(3, 0, 0));
     judge();
 
     begin("1,023 steps that clear, and the last one sets");
@@ -243,9 +261,9 @@ static void full_images(void)
         PUT(STEP(a), a < MOST_A - 1 ? CLEARS(0) : SETS(0));
     PUT(SEQUENCE(0), ALTERNATIVE, DO(MOST_A - 1));
     /* <1023>: set */
-    runs(LAST(1, 0, 0), FIRST(0, 1, 0));
+    RUNS(LAST(1, 0, 0), FIRST(0, 1, 0), STANDS(1, 0, 0));
     PUT(SEQUENCE(1), ALTERNATIVE, DO(MOST_A - 2), ALTERNATIVE, CALL(0));
     /* <1022>: cleared, and <1023> */
-    runs(LAST(1, 1, 0), FIRST(0, 1, 1));
+    RUNS(LAST(1, 1, 0), FIRST(0, 1, 1), STANDS(1, 1, 0));
     judge();
 }

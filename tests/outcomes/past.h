@@ -8,22 +8,22 @@ static void past(void)
             HEAD(1, 4, 6), SET_CLEAR_NEED, STEP(3));
     PUT(SEQUENCE(0), ALTERNATIVE, DO(0), DO(1));
     /* last the clear; first the set */
-    runs(LAST(0, 1, 0), FIRST(0, 1, 0));
+    RUNS(LAST(0, 1, 0), FIRST(0, 1, 0), STANDS(0, 1, 0));
     PUT(SEQUENCE(1), ALTERNATIVE, DO(1), DO(0));
     /* last the set; first the set too, as a clear is no touch there */
-    runs(LAST(1, 0, 0), FIRST(0, 1, 0));
+    RUNS(LAST(1, 0, 0), FIRST(0, 1, 0), STANDS(1, 0, 0));
     PUT(SEQUENCE(2), ALTERNATIVE, DO(2), DO(0));
     /* last the set; first the need */
-    runs(LAST(1, 0, 0), FIRST(1, 0, 0));
+    RUNS(LAST(1, 0, 0), FIRST(1, 0, 0), STANDS(1, 0, 0));
     PUT(SEQUENCE(3), ALTERNATIVE, DO(0), DO(2));
     /* last the set, as a need is no touch there; first the set */
-    runs(LAST(1, 0, 0), FIRST(0, 1, 0));
+    RUNS(LAST(1, 0, 0), FIRST(0, 1, 0), STANDS(1, 0, 0));
     PUT(SEQUENCE(4), ALTERNATIVE, DO(0), DO(3), DO(1), DO(3));
     /* steps without facts change nothing: last the clear, first the set */
-    runs(LAST(0, 1, 0), FIRST(0, 1, 0));
+    RUNS(LAST(0, 1, 0), FIRST(0, 1, 0), STANDS(0, 1, 0));
     PUT(SEQUENCE(5), ALTERNATIVE, DO(3), DO(2), DO(3), DO(0));
     /* first the need, last the set */
-    runs(LAST(1, 0, 0), FIRST(1, 0, 0));
+    RUNS(LAST(1, 0, 0), FIRST(1, 0, 0), STANDS(1, 0, 0));
     judge();
 
     /* sequence 0 always clears, sequence 1 clears or is empty */
@@ -31,32 +31,32 @@ static void past(void)
             HEAD(1, 4, 9), SET_CLEAR_NEED, STEP(3));
     PUT(SEQUENCE(0), ALTERNATIVE, DO(1), ALTERNATIVE, DO(1), DO(3));
     /* both runs clear */
-    runs(LAST(0, 1, 0), FIRST(0, 0, 1));
+    RUNS(LAST(0, 1, 0), FIRST(0, 0, 1), STANDS(0, 1, 0));
     PUT(SEQUENCE(1), ALTERNATIVE, DO(1), ALTERNATIVE);
     /* clears, or stays untouched */
-    runs_and_empty(LAST(0, 1, 1), FIRST(0, 0, 1));
+    RUNS_AND_EMPTY(LAST(0, 1, 1), FIRST(0, 0, 1), STANDS(0, 1, 1));
     PUT(SEQUENCE(2), ALTERNATIVE, DO(0), CALL(0));
     /* the set stands behind a clear in every run: it is never the last touch */
-    runs(LAST(0, 1, 0), FIRST(0, 1, 0));
+    RUNS(LAST(0, 1, 0), FIRST(0, 1, 0), STANDS(0, 1, 0));
     PUT(SEQUENCE(3), ALTERNATIVE, DO(0), CALL(1));
     /* where sequence 1 is empty the set is last, otherwise the clear */
-    runs(LAST(1, 1, 0), FIRST(0, 1, 0));
+    RUNS(LAST(1, 1, 0), FIRST(0, 1, 0), STANDS(1, 1, 0));
     PUT(SEQUENCE(4), ALTERNATIVE, DO(0), CALL(0), DO(3));
     /* step 3 touches nothing, so the clear is last */
-    runs(LAST(0, 1, 0), FIRST(0, 1, 0));
+    RUNS(LAST(0, 1, 0), FIRST(0, 1, 0), STANDS(0, 1, 0));
     PUT(SEQUENCE(5), ALTERNATIVE, DO(0), CALL(0), CALL(1));
     /* where sequence 1 is empty the clear of sequence 0 is last: never the
        set */
-    runs(LAST(0, 1, 0), FIRST(0, 1, 0));
+    RUNS(LAST(0, 1, 0), FIRST(0, 1, 0), STANDS(0, 1, 0));
     PUT(SEQUENCE(6), ALTERNATIVE, DO(0), CALL(1), CALL(1));
     /* both can be empty: then the set is last */
-    runs(LAST(1, 1, 0), FIRST(0, 1, 0));
+    RUNS(LAST(1, 1, 0), FIRST(0, 1, 0), STANDS(1, 1, 0));
     PUT(SEQUENCE(7), ALTERNATIVE, DO(0), CALL(0), ALTERNATIVE, DO(0));
     /* alternative 1 gives the set */
-    runs(LAST(1, 1, 0), FIRST(0, 1, 0));
+    RUNS(LAST(1, 1, 0), FIRST(0, 1, 0), STANDS(1, 1, 0));
     PUT(SEQUENCE(8), ALTERNATIVE, DO(0), CALL(0), DO(0), CALL(1));
     /* the second set is last, or a clear after it */
-    runs(LAST(1, 1, 0), FIRST(0, 1, 0));
+    RUNS(LAST(1, 1, 0), FIRST(0, 1, 0), STANDS(1, 1, 0));
     judge();
 
     /* sequence 0 always sets, sequence 1 always needs, sequence 2 sets or is
@@ -65,38 +65,38 @@ static void past(void)
             HEAD(1, 4, 11), SET_CLEAR_NEED, STEP(3));
     PUT(SEQUENCE(0), ALTERNATIVE, DO(0), ALTERNATIVE, DO(3), DO(0));
     /* both runs set */
-    runs(LAST(1, 0, 0), FIRST(0, 1, 0));
+    RUNS(LAST(1, 0, 0), FIRST(0, 1, 0), STANDS(1, 0, 0));
     PUT(SEQUENCE(1), ALTERNATIVE, DO(2), ALTERNATIVE, DO(3), DO(2));
     /* both runs need. A need is no touch on the last side. */
-    runs(LAST(0, 0, 1), FIRST(1, 0, 0));
+    RUNS(LAST(0, 0, 1), FIRST(1, 0, 0), STANDS(1, 0, 0));
     PUT(SEQUENCE(2), ALTERNATIVE, DO(0), ALTERNATIVE);
     /* sets, or stays untouched */
-    runs_and_empty(LAST(1, 0, 1), FIRST(0, 1, 1));
+    RUNS_AND_EMPTY(LAST(1, 0, 1), FIRST(0, 1, 1), STANDS(1, 0, 1));
     PUT(SEQUENCE(3), ALTERNATIVE, CALL(0), DO(2));
     /* the need stands behind a set in every run: it is never the first touch */
-    runs(LAST(1, 0, 0), FIRST(0, 1, 0));
+    RUNS(LAST(1, 0, 0), FIRST(0, 1, 0), STANDS(1, 0, 0));
     PUT(SEQUENCE(4), ALTERNATIVE, CALL(1), DO(0));
     /* the need is first in every run: the set is never the first touch */
-    runs(LAST(1, 0, 0), FIRST(1, 0, 0));
+    RUNS(LAST(1, 0, 0), FIRST(1, 0, 0), STANDS(1, 0, 0));
     PUT(SEQUENCE(5), ALTERNATIVE, CALL(2), DO(2));
     /* where sequence 2 is empty the need is first */
-    runs(LAST(1, 0, 1), FIRST(1, 1, 0));
+    RUNS(LAST(1, 0, 1), FIRST(1, 1, 0), STANDS(1, 0, 0));
     PUT(SEQUENCE(6), ALTERNATIVE, DO(3), CALL(0), DO(2));
     /* step 3 touches nothing, so the set of sequence 0 is first */
-    runs(LAST(1, 0, 0), FIRST(0, 1, 0));
+    RUNS(LAST(1, 0, 0), FIRST(0, 1, 0), STANDS(1, 0, 0));
     PUT(SEQUENCE(7), ALTERNATIVE, CALL(2), CALL(0), DO(2));
     /* the set of sequence 2 or that of sequence 0: never the need */
-    runs(LAST(1, 0, 0), FIRST(0, 1, 0));
+    RUNS(LAST(1, 0, 0), FIRST(0, 1, 0), STANDS(1, 0, 0));
     PUT(SEQUENCE(8), ALTERNATIVE, CALL(1), CALL(0));
     /* first the need, last the set */
-    runs(LAST(1, 0, 0), FIRST(1, 0, 0));
+    RUNS(LAST(1, 0, 0), FIRST(1, 0, 0), STANDS(1, 0, 0));
     PUT(SEQUENCE(9), ALTERNATIVE, CALL(2), CALL(1));
     /* where sequence 2 is empty the need is first, and nothing is set */
-    runs(LAST(1, 0, 1), FIRST(1, 1, 0));
+    RUNS(LAST(1, 0, 1), FIRST(1, 1, 0), STANDS(1, 0, 0));
     PUT(SEQUENCE(10), ALTERNATIVE, CALL(2), DO(1), CALL(1));
     /* the clear is last, as only needs follow; first the set, or where sequence
        2 is empty the need, past the clear */
-    runs(LAST(0, 1, 0), FIRST(1, 1, 0));
+    RUNS(LAST(0, 1, 0), FIRST(1, 1, 0), STANDS(1, 0, 0));
     judge();
 
     /* step 0 sets fact 0 and clears fact 1, step 1 the other way round, step 2
@@ -107,42 +107,48 @@ static void past(void)
     PUT(SEQUENCE(0), ALTERNATIVE, DO(0), CALL(1));
     /* runs <0, 1> and <0, 2>. Last, fact 0: cleared by 1, or set by 0; fact 1:
        set by 1, or cleared by 0. First, fact 0: set by 0 in both; fact 1: past
-       the clear, set by 1 or needed by 2; fact 2: untouched, or needed by 2. */
-    runs(LAST(3, 3, 4), FIRST(6, 3, 4));
+       the clear, set by 1 or needed by 2; fact 2: untouched, or needed by 2.
+       After <0, 2> all stand, after <0, 1> fact 1 alone, and fact 0 is
+       cleared. */
+    RUNS(LAST(3, 3, 4), FIRST(6, 3, 4), STANDS(7, 1, 4));
     PUT(SEQUENCE(1), ALTERNATIVE, DO(1), ALTERNATIVE, DO(2));
     /* runs <1> and <2>. Step 2 touches nothing on the last side, and on the
-       first side needs all; step 1 sets fact 1 and clears fact 0. */
-    runs(LAST(2, 1, 7), FIRST(7, 2, 5));
+       first side needs all, which stand after it; step 1 sets fact 1 and clears
+       fact 0. */
+    RUNS(LAST(2, 1, 7), FIRST(7, 2, 5), STANDS(7, 1, 4));
     PUT(SEQUENCE(2), ALTERNATIVE, CALL(1), DO(0));
-    /* runs <1, 0> and <2, 0>. Last: step 0 decides facts 0 and 1. First: <1, 0>
-       sets fact 1, then fact 0; <2, 0> needs all. */
-    runs(LAST(1, 2, 4), FIRST(7, 3, 4));
+    /* runs <1, 0> and <2, 0>. Last: step 0 decides facts 0 and 1, which is the
+       last to name them too; fact 2 is named by <2, 0>. First: <1, 0> sets fact
+       1, then fact 0; <2, 0> needs all. */
+    RUNS(LAST(1, 2, 4), FIRST(7, 3, 4), STANDS(5, 2, 4));
     PUT(SEQUENCE(3), ALTERNATIVE, CALL(1), CALL(1));
     /* runs <1, 1>, <1, 2>, <2, 1>, <2, 2>. Last: a step 1 decides facts 0 and
        1, and <2, 2> touches nothing. First: <1, 1> sets fact 1 only; <1, 2>
-       sets fact 1 and needs 0 and 2; a step 2 in front needs all. */
-    runs(LAST(2, 1, 7), FIRST(7, 2, 5));
+       sets fact 1 and needs 0 and 2; a step 2 in front needs all. A step 2 at
+       the end leaves all standing, a step 1 clears fact 0; <1, 1> does not name
+       fact 2. */
+    RUNS(LAST(2, 1, 7), FIRST(7, 2, 5), STANDS(7, 1, 4));
     judge();
 
     LIBRARY("a sequence that always touches through two calls",
             HEAD(1, 4, 6), SET_CLEAR_NEED, STEP(3));
     PUT(SEQUENCE(0), ALTERNATIVE, DO(1));
     /* clears */
-    runs(LAST(0, 1, 0), FIRST(0, 0, 1));
+    RUNS(LAST(0, 1, 0), FIRST(0, 0, 1), STANDS(0, 1, 0));
     PUT(SEQUENCE(1), ALTERNATIVE, CALL(0), CALL(0));
     /* clears twice */
-    runs(LAST(0, 1, 0), FIRST(0, 0, 1));
+    RUNS(LAST(0, 1, 0), FIRST(0, 0, 1), STANDS(0, 1, 0));
     PUT(SEQUENCE(2), ALTERNATIVE, CALL(1), ALTERNATIVE, CALL(0), DO(3));
     /* clears in both alternatives */
-    runs(LAST(0, 1, 0), FIRST(0, 0, 1));
+    RUNS(LAST(0, 1, 0), FIRST(0, 0, 1), STANDS(0, 1, 0));
     PUT(SEQUENCE(3), ALTERNATIVE, DO(0), CALL(2));
     /* the clear is last: the set is never read */
-    runs(LAST(0, 1, 0), FIRST(0, 1, 0));
+    RUNS(LAST(0, 1, 0), FIRST(0, 1, 0), STANDS(0, 1, 0));
     PUT(SEQUENCE(4), ALTERNATIVE, DO(0), CALL(2), DO(0));
     /* the second set is last */
-    runs(LAST(1, 0, 0), FIRST(0, 1, 0));
+    RUNS(LAST(1, 0, 0), FIRST(0, 1, 0), STANDS(1, 0, 0));
     PUT(SEQUENCE(5), ALTERNATIVE, CALL(2), DO(2));
     /* a clear is no touch on the first side: needed */
-    runs(LAST(0, 1, 0), FIRST(1, 0, 0));
+    RUNS(LAST(0, 1, 0), FIRST(1, 0, 0), STANDS(1, 0, 0));
     judge();
 }

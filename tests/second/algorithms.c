@@ -71,7 +71,6 @@ void empty_refinements(const struct domain *d, struct compounds *c_eps)
 static void begin_domain(const struct domain *d, struct domain *made)
 {
     made->facts = d->facts;
-    made->actions = d->actions;
     made->compounds = d->compounds;
     made->methods = made->tasks = 0;
 }
@@ -212,10 +211,10 @@ void restrict_to(const struct domain *d, const struct actions *a,
 }
 
 static void restrict_to_effects(const struct domain *d,
-                                const struct actions *a,
+                                const struct actions *a, unsigned plus,
                                 struct domain *restricted)
 {
-    restrict_to(d, a, ADD | DEL, restricted);
+    restrict_to(d, a, plus | DEL, restricted);
 }
 
 static void restrict_to_precs_only(const struct domain *d,
@@ -234,31 +233,31 @@ static void restrict_to_precs_and_adds(const struct domain *d,
 
 /* Algorithm 5 for one fact; line 2, "for all f in F", is the caller's. */
 void infer_effects(const struct domain *d, const struct actions *a,
-                   struct effects *found)
+                   unsigned plus, struct effects *found)
 {
     static struct domain restricted, shortened;
     static struct compounds m_r[MOST_SEQUENCES];
     struct compounds c_eps, adding, deleting;
     uint32_t c;
     memset(found, 0, sizeof *found);                              /* 1 */
-    restrict_to_effects(d, a, &restricted);                       /* 3 */
+    restrict_to_effects(d, a, plus, &restricted);                 /* 3 */
     empty_refinements(&restricted, &c_eps);                       /* 4 */
     shorten_methods_from_right(&restricted, &c_eps, &shortened);  /* 5 */
     decomposition_reachability(&shortened, m_r);                  /* 6 */
-    adding = doing(&shortened, a, ADD);
+    adding = doing(&shortened, a, plus);
     deleting = doing(&shortened, a, DEL);
     for (c = 0; c < d->compounds; c++) {                          /* 7 */
-        int plus = meet(&m_r[c], &adding);                        /* 8 */
-        int minus = meet(&m_r[c], &deleting);                     /* 10 */
-        if (plus)
+        int adds = meet(&m_r[c], &adding);                        /* 8 */
+        int deletes = meet(&m_r[c], &deleting);                   /* 10 */
+        if (adds)
             add(&found->poss_eff_plus, c);                        /* 9 */
-        if (minus)
+        if (deletes)
             add(&found->poss_eff_minus, c);                       /* 11 */
         if (has(&c_eps, c))                                       /* 12 */
             continue;
-        if (plus && !minus)                                       /* 13 */
+        if (adds && !deletes)                                     /* 13 */
             add(&found->eff_plus, c);                             /* 14 */
-        if (!plus && minus)                                       /* 15 */
+        if (!adds && deletes)                                     /* 15 */
             add(&found->eff_minus, c);                            /* 16 */
     }
 }

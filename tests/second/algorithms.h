@@ -18,13 +18,17 @@ void empty_refinements(const struct domain *d, struct compounds *c_eps);
 void restrict_to(const struct domain *d, const struct actions *a,
                  unsigned keep, struct domain *restricted);
 
-/* The compound tasks that have the fact in each of Algorithm 5's sets. */
+/*
+ * The compound tasks that have the fact in each of Algorithm 5's sets. `plus`
+ * is what an action does that has the fact in add(a): ADD, or STAND for the
+ * column "always stands". What has it in del(a) clears it.
+ */
 struct effects {
     struct compounds poss_eff_plus, poss_eff_minus, eff_plus, eff_minus;
 };
 
 void infer_effects(const struct domain *d, const struct actions *a,
-                   struct effects *found);
+                   unsigned plus, struct effects *found);
 
 /* Those that have it in Algorithm 6's set, and in the one of Definition 8. */
 struct preconditions {

@@ -46,6 +46,21 @@ static void remove_endless(struct domain *d,
     d->methods = kept;
 }
 
+/*
+ * "a check is no step, changes nothing [..] and a run without steps is still
+ * called empty": C_eps for the flag is that of the task networks without the
+ * checks. What is kept are the steps, whatever they do.
+ */
+static void find_empty(const struct domain *d, struct compounds *empty)
+{
+    enum { KEPT = 1 };
+    static struct actions steps;
+    static struct domain no_checks;
+    memset(steps.does, KEPT, CHECKS);
+    restrict_to(d, &steps, KEPT, &no_checks);
+    empty_refinements(&no_checks, empty);
+}
+
 /* Puts a fact into a column of the cards of the compound tasks in the set. */
 static void put_fact(uint64_t *area, const struct domain *d, int column,
                      uint32_t f, const struct compounds *s)
@@ -57,7 +72,7 @@ static void put_fact(uint64_t *area, const struct domain *d, int column,
 }
 
 /*
- * "Without a run all seven words are 0"; of a compound task without a
+ * Without a run all words of a card are 0; of a compound task without a
  * refinement line 10 of Algorithm 6 would hold emptily.
  */
 static void keep_terminating(struct compounds *s,
@@ -68,8 +83,10 @@ static void keep_terminating(struct compounds *s,
         s->word[i] &= terminating->word[i];
 }
 
+/* `e` is found with "sets" for add, `s` with "leaves it standing". */
 static void put_columns(uint64_t *area, const struct domain *d, uint32_t f,
-                        const struct effects *e, const struct preconditions *p)
+                        const struct preconditions *p, const struct effects *e,
+                        const struct effects *s)
 {
     put_fact(area, d, DULIMOVEN_ALWAYS_NEEDED, f, &p->prec);
     put_fact(area, d, DULIMOVEN_MAY_NEED, f, &p->poss_prec);
@@ -77,6 +94,7 @@ static void put_columns(uint64_t *area, const struct domain *d, uint32_t f,
     put_fact(area, d, DULIMOVEN_MAY_CLEAR, f, &e->poss_eff_minus);
     put_fact(area, d, DULIMOVEN_ALWAYS_SET, f, &e->eff_plus);
     put_fact(area, d, DULIMOVEN_ALWAYS_CLEARED, f, &e->eff_minus);
+    put_fact(area, d, DULIMOVEN_ALWAYS_STANDS, f, &s->eff_plus);
 }
 
 static void put_flags(uint64_t *card, int run, int empty_run)
@@ -94,20 +112,21 @@ static void write_cards(const uint32_t *image, size_t length, uint64_t *area)
     static struct domain d;
     static struct actions a;
     struct compounds terminating, empty;
-    struct effects e;
+    struct effects e, s;
     struct preconditions p;
     uint32_t c, f;
     read_domain(image, length, &d);
     memset(area, 0, DULIMOVEN_CARD_WORDS * d.compounds * sizeof *area);
     find_terminating(&d, &terminating);
     remove_endless(&d, &terminating);
-    empty_refinements(&d, &empty);
+    find_empty(&d, &empty);
     for (f = 0; f < d.facts; f++) {
         read_actions(image, length, f, &a);
-        infer_effects(&d, &a, &e);
+        infer_effects(&d, &a, ADD, &e);
+        infer_effects(&d, &a, STAND, &s);
         infer_preconditions(&d, &a, &p);
         keep_terminating(&p.prec, &terminating);
-        put_columns(area, &d, f, &e, &p);
+        put_columns(area, &d, f, &p, &e, &s);
     }
     for (c = 0; c < d.compounds; c++)
         put_flags(area + DULIMOVEN_CARD_WORDS * c, has(&terminating, c),

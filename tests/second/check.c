@@ -38,6 +38,7 @@ static int stands(const struct reading *r, uint32_t word)
         return r->opened_sequences > 0;
     case KIND_STEP_ENTRY:
     case KIND_SEQUENCE_ENTRY:
+    case KIND_CHECK:
         return kind_of(r->before) == KIND_ALTERNATIVE || is_entry(r->before);
     default:
         return 0;
@@ -59,7 +60,7 @@ static int payload_right(const struct reading *r, uint32_t word)
         return p < r->steps;
     case KIND_SEQUENCE_ENTRY:
         return p < r->sequences;
-    default:
+    default: /* a fact word, or a check */
         return p < r->facts;
     }
 }

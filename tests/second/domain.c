@@ -24,7 +24,6 @@ void read_domain(const uint32_t *image, size_t length, struct domain *d)
     uint32_t c = 0;
     size_t i;
     d->facts = facts_of(image[0]);
-    d->actions = steps_of(image[0]);
     d->compounds = sequences_of(image[0]);
     d->methods = d->tasks = 0;
     for (i = 1; i + 1 < length; i++) {
@@ -42,21 +41,35 @@ void read_domain(const uint32_t *image, size_t length, struct domain *d)
         case KIND_SEQUENCE_ENTRY:
             put_task(d, p, 0);
             break;
+        case KIND_CHECK:
+            put_task(d, CHECKS + p, 1);
+            break;
         }
     }
 }
 
 /*
- * What a fact word of kind `kind` adds to what the words before it say: they
- * stand in the order needs, sets, clears, so that a need comes before a set.
+ * What a step does by a fact word of kind `kind` and by those before it: they
+ * stand in the order needs, sets, clears, so that a need comes before a set. "A
+ * step that needs and clears counts as clearing."
  */
-static unsigned says(unsigned before, uint32_t kind)
+static unsigned with(unsigned before, uint32_t kind)
 {
     if (kind == KIND_NEEDS)
-        return PREC;
+        return before | PREC | STAND;
+    if (kind == KIND_SETS && (before & PREC))
+        return before | ADD | STAND;
     if (kind == KIND_SETS)
-        return before & PREC ? ADD : ADD | FIRST_ADD;
-    return DEL;
+        return before | ADD | STAND | FIRST_ADD;
+    return (before | DEL) & ~(unsigned)STAND;
+}
+
+/* What the checks do: that of the fact needs it and leaves it standing. */
+static void read_checks(uint32_t f, struct actions *a)
+{
+    uint32_t g;
+    for (g = 0; g < MOST_FACTS; g++)
+        a->does[CHECKS + g] = g == f ? PREC | STAND : 0;
 }
 
 void read_actions(const uint32_t *image, size_t length, uint32_t f,
@@ -64,6 +77,7 @@ void read_actions(const uint32_t *image, size_t length, uint32_t f,
 {
     uint8_t *now = a->does;
     size_t i;
+    read_checks(f, a);
     for (i = 1; i + 1 < length; i++) {
         uint32_t word = image[i];
         if (kind_of(word) == KIND_SEQUENCE)
@@ -72,7 +86,7 @@ void read_actions(const uint32_t *image, size_t length, uint32_t f,
             now = &a->does[payload_of(word)];
             *now = 0;
         } else if (payload_of(word) == f) {
-            *now |= (uint8_t)says(*now, kind_of(word));
+            *now = (uint8_t)with(*now, kind_of(word));
         }
     }
 }

@@ -1,12 +1,20 @@
 /*
  * The domain D = (F, A, C, M) of source document 001, read from an accepted
- * image. An action of A is a step, a compound task of C a sequence, a method of
- * M an alternative, and its task network the entries.
+ * image. An action of A is a step or a check, a compound task of C a sequence,
+ * a method of M an alternative, and its task network the entries.
+ *
+ * For an empty method with the condition p source document 003 has the method
+ * E -> no-op() [before(p, no-op())], where no-op() is "an action with no
+ * effects and no preconditions". So a check of fact f is the action with f in
+ * prec and nothing else, one action for each fact.
  */
 #ifndef DULIMOVEN_TESTS_DOMAIN_H
 #define DULIMOVEN_TESTS_DOMAIN_H
 
 #include "../image.h"
+
+/* The actions: first the steps, then from CHECKS on the check of each fact. */
+enum { CHECKS = MOST_STEPS, MOST_ACTIONS = CHECKS + MOST_FACTS };
 
 /* A task: an action, or else a compound task. */
 struct task {
@@ -25,7 +33,7 @@ struct method {
 };
 
 struct domain {
-    uint32_t facts, actions, compounds, methods, tasks;
+    uint32_t facts, compounds, methods, tasks;
     struct method method[MOST_WORDS];
     struct task task[MOST_WORDS];
 };
@@ -38,11 +46,14 @@ void read_domain(const uint32_t *image, size_t length, struct domain *d);
  * so in an accepted image, by refusal 13. For the first document 01 has a rule:
  * a step that needs and sets a fact needs it on the first side, and sets it on
  * the last. So add(a) of Algorithm 6 is not add(a) of Algorithm 5.
+ *
+ * STAND is for the column "always stands": the action sets, needs or checks the
+ * fact and does not clear it, which leaves it standing.
  */
-enum { PREC = 1, ADD = 2, DEL = 4, FIRST_ADD = 8 };
+enum { PREC = 1, ADD = 2, DEL = 4, FIRST_ADD = 8, STAND = 16 };
 
 struct actions {
-    uint8_t does[MOST_STEPS];
+    uint8_t does[MOST_ACTIONS];
 };
 
 void read_actions(const uint32_t *image, size_t length, uint32_t f,

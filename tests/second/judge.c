@@ -1,7 +1,8 @@
 /*
- * Document 01, "Chains", and document 02, request 2. A sequence is a compound
- * task of the domain, an alternative a method, an entry a task, a step an
- * action.
+ * Document 01, "Chains", and document 02, requests 2 and 4. A sequence is a
+ * compound task of the domain, an alternative a method, an entry a task, a step
+ * or a check an action. So a check ends a chain of question 3 about its fact,
+ * and stays untouched otherwise, with depth 0 as a step.
  *
  * Ranks are found by rounds. Round r looks at the ranks of the rounds before
  * it alone, and gives rank r to each sequence that has none yet and one of
@@ -30,22 +31,39 @@ struct ranks {
 };
 
 /* Which sequences have a run, and for each question its ranks. */
-enum { QUESTIONS = 6 };
 static struct ranks runs;
-static struct ranks asked[QUESTIONS];
+static struct ranks asked[JUDGE_QUESTIONS];
 
-static int is_first_side(uint32_t question)
+/*
+ * The sides: what an action does that touches the fact there, and the question
+ * about no touch. The standing view is read as the last side is.
+ */
+struct side {
+    unsigned touches;
+    uint32_t untouched;
+    int first;
+};
+
+static const struct side last_side = {ADD | DEL, DULIMOVEN_LAST_UNTOUCHED, 0};
+static const struct side first_side = {PREC | FIRST_ADD,
+                                       DULIMOVEN_FIRST_UNTOUCHED, 1};
+static const struct side standing = {STAND | DEL, JUDGE_STANDING_UNTOUCHED, 0};
+
+static const struct side *side_of(uint32_t question)
 {
-    return question >= DULIMOVEN_FIRST_NEEDED;
+    if (question >= JUDGE_STANDING_CLEARED)
+        return &standing;
+    return question >= DULIMOVEN_FIRST_NEEDED ? &first_side : &last_side;
 }
 
-/* What a step does that gives the question's touch; 0 for "untouched". */
+/* What an action does that gives the question's touch; 0 for "untouched". */
 static unsigned touch(uint32_t question)
 {
     switch (question) {
     case DULIMOVEN_LAST_SET:
         return ADD;
     case DULIMOVEN_LAST_CLEARED:
+    case JUDGE_STANDING_CLEARED:
         return DEL;
     case DULIMOVEN_FIRST_NEEDED:
         return PREC;
@@ -56,20 +74,13 @@ static unsigned touch(uint32_t question)
     }
 }
 
-/* What a step does that touches the fact on the question's side. */
-static unsigned touches(uint32_t question)
-{
-    return is_first_side(question) ? PREC | FIRST_ADD : ADD | DEL;
-}
-
 /* The ranks of "untouched" on the question's side. */
 static const struct ranks *untouched(uint32_t question)
 {
-    return &asked[is_first_side(question) ? DULIMOVEN_FIRST_UNTOUCHED
-                                          : DULIMOVEN_LAST_UNTOUCHED];
+    return &asked[side_of(question)->untouched];
 }
 
-/* Whether an entry can pass: a step that touches nothing, or one with rank. */
+/* Whether an entry passes: an action that does not touch, or one with rank. */
 static int passes(const struct task *t, const struct ranks *ranks,
                   unsigned touching)
 {
@@ -83,7 +94,7 @@ static int has_run(const struct task *t) { return passes(t, &runs, 0); }
 /* Whether it can stay untouched on the question's side. */
 static int stays(const struct task *t, uint32_t question)
 {
-    return passes(t, untouched(question), touches(question));
+    return passes(t, untouched(question), side_of(question)->touches);
 }
 
 /*
@@ -93,8 +104,8 @@ static int stays(const struct task *t, uint32_t question)
  */
 static int beside_right(const struct task *t, int earlier, uint32_t question)
 {
-    return earlier == is_first_side(question) ? stays(t, question)
-                                              : has_run(t);
+    return earlier == side_of(question)->first ? stays(t, question)
+                                               : has_run(t);
 }
 
 static const struct method *alternative_of(uint32_t c, uint32_t alternative)
@@ -231,6 +242,11 @@ static void rank_passing(struct ranks *ranks, unsigned touching)
     rank(ranks, &look);
 }
 
+static void rank_untouched(const struct side *side)
+{
+    rank_passing(&asked[side->untouched], side->touches);
+}
+
 static void rank_question(uint32_t question)
 {
     struct look look = {NULL, 0, question, 1};
@@ -255,12 +271,14 @@ void judge_library(const uint32_t *words, size_t count)
 void judge_fact(uint32_t fact)
 {
     read_actions(image, length, fact, &actions);
-    rank_passing(&asked[DULIMOVEN_LAST_UNTOUCHED], ADD | DEL);
-    rank_passing(&asked[DULIMOVEN_FIRST_UNTOUCHED], PREC | FIRST_ADD);
+    rank_untouched(&last_side);
+    rank_untouched(&first_side);
+    rank_untouched(&standing);
     rank_question(DULIMOVEN_LAST_SET);
     rank_question(DULIMOVEN_LAST_CLEARED);
     rank_question(DULIMOVEN_FIRST_NEEDED);
     rank_question(DULIMOVEN_FIRST_SET);
+    rank_question(JUDGE_STANDING_CLEARED);
 }
 
 int judge_possible(uint32_t sequence, uint32_t question)
@@ -290,7 +308,7 @@ static enum fault untouched_fault(uint32_t c, uint32_t question,
     if (link[1] != word_of(KIND_UNTOUCHED, 0))
         return FAULT_SECOND_WORD;
     if (!all_pass(alternative_of(c, alternative), untouched(question),
-                  touches(question)))
+                  side_of(question)->touches))
         return FAULT_UNTOUCHED;
     if (alternative != asked[question].alternative[c])
         return FAULT_NOT_NEWEST;
@@ -311,7 +329,8 @@ static int stands(const struct method *m, uint32_t position, uint32_t question)
 /*
  * What is wrong with a kind 11 link: "the entry at the position is a step with
  * that touch, which ends the chain, or a sequence, which the next link is
- * about".
+ * about"; of a check "On the first side a check counts as a need, and a chain
+ * may end on one."
  */
 static enum fault position_fault(uint32_t c, uint32_t question,
                                  const uint32_t *link, int last)
@@ -406,7 +425,7 @@ const char *fault_text(enum fault fault)
         "a link's second word is of a wrong kind, or names no entry",
         "a link's alternative cannot stay untouched",
         "beside a link's entry another touches the fact, or has no run",
-        "a link's entry is no step with the touch, or no sequence",
+        "a link's entry does not give the touch, or is no sequence",
         "a link is not the newest choice"};
     return text[fault];
 }

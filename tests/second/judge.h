@@ -36,6 +36,17 @@ const char *fault_text(enum fault fault);
 void judge_library(const uint32_t *image, size_t length);
 void judge_fact(uint32_t fact);
 
+/*
+ * Two questions more, for the column "always stands", which the chain call does
+ * not answer: some run's last item that sets, clears, needs or checks the fact
+ * clears it; some run has no such item.
+ */
+enum {
+    JUDGE_STANDING_CLEARED = 6,
+    JUDGE_STANDING_UNTOUCHED = 7,
+    JUDGE_QUESTIONS = 8
+};
+
 /* Whether a run of the sequence has the question's outcome. */
 int judge_possible(uint32_t sequence, uint32_t question);
 

@@ -1,9 +1,10 @@
 /*
  * The second engine, for tests and the benchmark: the check by the rules of
  * documents 01 and 02, one word after the other, and the cards by the
- * algorithms printed in source document 001, one fact after the other. The
- * calls are of the library's shape. The engine shares no code with the library,
- * and reads the image by itself. C11 and C++17.
+ * algorithms printed in source document 001, one fact after the other, with
+ * checks read as source document 003 does; "always stands" is by Algorithm 5
+ * once more. The calls are of the library's shape. The engine shares no code
+ * with the library, and reads the image by itself. C11 and C++17.
  */
 #ifndef DULIMOVEN_TESTS_SECOND_H
 #define DULIMOVEN_TESTS_SECOND_H

@@ -40,53 +40,55 @@ enum callee { ANY, ITSELF, NEXT, BEFORE, NEIGHBOUR };
  * times out of 64 a step needs, sets or clears a fact, where 0 says that step 0
  * alone does; the fewest alternatives of a sequence, and how many more there
  * may be; the most entries of an alternative, less one; how many times out of
- * 64 an alternative is empty, and an entry is a call.
+ * 64 an alternative is empty, an entry is a check, and another entry is a call.
  */
 struct kind {
     const char *name;
     struct range facts, steps, sequences, touching;
-    struct range alternatives, more, entries, empty, calls;
+    struct range alternatives, more, entries, empty, checks, calls;
     enum callee callee;
 };
 
 static const struct kind kinds[SEEDED_KINDS] = {
     {"small", {1, 2}, {0, 4}, {1, 5}, {4, 20},
-     {0, 1}, {1, 2}, {1, 3}, {8, 0}, {16, 32}, ANY},
+     {0, 1}, {1, 2}, {1, 3}, {8, 0}, {0, 8}, {16, 32}, ANY},
     {"calling themselves", {1, 2}, {1, 3}, {2, 4}, {4, 20},
-     {0, 1}, {3, 0}, {3, 0}, {8, 0}, {36, 0}, ITSELF},
+     {0, 1}, {3, 0}, {3, 0}, {8, 0}, {0, 8}, {36, 0}, ITSELF},
     {"calling each other", {1, 2}, {1, 3}, {2, 4}, {4, 20},
-     {0, 1}, {3, 0}, {3, 0}, {8, 0}, {36, 0}, NEIGHBOUR},
+     {0, 1}, {3, 0}, {3, 0}, {8, 0}, {0, 8}, {36, 0}, NEIGHBOUR},
     {"endless", {1, 2}, {1, 3}, {2, 4}, {4, 20},
-     {0, 1}, {3, 0}, {3, 0}, {2, 0}, {44, 0}, ANY},
+     {0, 1}, {3, 0}, {3, 0}, {2, 0}, {0, 8}, {44, 0}, ANY},
     {"deep, calling the next", {2, 0}, {12, 0}, {16, 4}, {1, 0},
-     {1, 0}, {1, 0}, {4, 0}, {1, 0}, {48, 0}, NEXT},
+     {1, 0}, {1, 0}, {4, 0}, {1, 0}, {0, 1}, {48, 0}, NEXT},
     {"deep, calling the one before", {2, 0}, {12, 0}, {16, 4}, {1, 0},
-     {1, 0}, {1, 0}, {4, 0}, {1, 0}, {48, 0}, BEFORE},
+     {1, 0}, {1, 0}, {4, 0}, {1, 0}, {0, 1}, {48, 0}, BEFORE},
     {"many empty alternatives", {1, 2}, {3, 0}, {1, 4}, {12, 0},
-     {0, 0}, {12, 0}, {4, 0}, {48, 0}, {40, 0}, ANY},
+     {0, 0}, {12, 0}, {4, 0}, {48, 0}, {0, 8}, {40, 0}, ANY},
     {"long alternatives", {2, 0}, {24, 0}, {2, 4}, {1, 0},
-     {1, 0}, {3, 0}, {500, 0}, {16, 0}, {1, 30}, ANY},
+     {1, 0}, {3, 0}, {500, 0}, {16, 0}, {0, 4}, {1, 30}, ANY},
     {"one fact", {1, 0}, {1, 5}, {1, 4}, {12, 0},
-     {0, 0}, {2, 0}, {3, 0}, {8, 0}, {24, 0}, ANY},
+     {0, 0}, {2, 0}, {3, 0}, {8, 0}, {0, 8}, {24, 0}, ANY},
     {"most facts", {MOST_FACTS, 0}, {1, 5}, {1, 4}, {12, 0},
-     {0, 0}, {2, 0}, {3, 0}, {8, 0}, {24, 0}, ANY},
+     {0, 0}, {2, 0}, {3, 0}, {8, 0}, {0, 16}, {24, 0}, ANY},
     {"ties", {1, 2}, {1, 4}, {1, 3}, {30, 20},
-     {1, 0}, {2, 0}, {3, 0}, {8, 0}, {24, 0}, ANY},
+     {1, 0}, {2, 0}, {3, 0}, {8, 0}, {0, 8}, {24, 0}, ANY},
     {"large", {4, 0}, {64, 64}, {MOST_SEQUENCES, 0}, {1, 0},
-     {0, 0}, {4, 0}, {10, 0}, {4, 0}, {20, 0}, ANY},
+     {0, 0}, {4, 0}, {10, 0}, {4, 0}, {0, 4}, {20, 0}, ANY},
     {"very deep, calling the next", {2, 0}, {12, 0}, {205, 51}, {0, 0},
-     {1, 0}, {1, 0}, {4, 0}, {1, 0}, {63, 0}, NEXT},
+     {1, 0}, {1, 0}, {4, 0}, {1, 0}, {0, 0}, {63, 0}, NEXT},
     {"very deep, calling the one before", {2, 0}, {12, 0}, {205, 51}, {0, 0},
-     {1, 0}, {1, 0}, {4, 0}, {1, 0}, {63, 0}, BEFORE},
+     {1, 0}, {1, 0}, {4, 0}, {1, 0}, {0, 0}, {63, 0}, BEFORE},
     {"large, most facts", {MOST_FACTS, 0}, {64, 64}, {MOST_SEQUENCES, 0},
-     {1, 0}, {0, 0}, {4, 0}, {10, 0}, {4, 0}, {20, 0}, ANY}};
+     {1, 0}, {0, 0}, {4, 0}, {10, 0}, {4, 0}, {0, 8}, {20, 0}, ANY},
+    {"checks", {1, 2}, {0, 4}, {1, 5}, {4, 20},
+     {0, 1}, {1, 2}, {1, 3}, {8, 0}, {16, 32}, {16, 32}, ANY}};
 
 const char *seeded_name(unsigned kind) { return kinds[kind].name; }
 
 /* The shape of one library. */
 struct shape {
     uint32_t facts, steps, sequences, touching;
-    uint32_t alternatives, more, entries, empty, calls;
+    uint32_t alternatives, more, entries, empty, checks, calls;
     enum callee callee;
 };
 
@@ -101,6 +103,7 @@ static struct shape draw_shape(struct seed *seed, const struct kind *k)
     s.more = draw_from(seed, k->more);
     s.entries = draw_from(seed, k->entries);
     s.empty = draw_from(seed, k->empty);
+    s.checks = draw_from(seed, k->checks);
     s.calls = draw_from(seed, k->calls);
     s.callee = k->callee;
     return s;
@@ -172,19 +175,25 @@ static uint32_t draw_step(struct seed *seed, const struct shape *s, int last)
 }
 
 /* An entry of an alternative of sequence c. */
-static void put_entry(struct seed *seed, const struct shape *s, uint32_t c,
-                      struct image *image)
+static uint32_t draw_entry(struct seed *seed, const struct shape *s, uint32_t c)
 {
     uint32_t callee = draw_callee(seed, s, c);
     int last = callee >= s->sequences;
-    int call = chance(seed, s->calls) && !last;
-    uint32_t kind = KIND_SEQUENCE_ENTRY, number = call ? callee : c;
-    if (!call && s->steps > 0) {
-        kind = KIND_STEP_ENTRY;
-        number = draw_step(seed, s, last);
-    }
+    if (chance(seed, s->checks))
+        return word_of(KIND_CHECK, draw(seed, s->facts));
+    if (chance(seed, s->calls) && !last)
+        return word_of(KIND_SEQUENCE_ENTRY, callee);
+    if (s->steps > 0)
+        return word_of(KIND_STEP_ENTRY, draw_step(seed, s, last));
+    return word_of(KIND_SEQUENCE_ENTRY, c);
+}
+
+static void put_entry(struct seed *seed, const struct shape *s, uint32_t c,
+                      struct image *image)
+{
+    uint32_t entry = draw_entry(seed, s, c);
     if (room(image))
-        image_put(image, kind, number);
+        image_put(image, kind_of(entry), payload_of(entry));
 }
 
 static void put_alternative(struct seed *seed, const struct shape *s,

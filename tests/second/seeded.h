@@ -13,9 +13,9 @@
  * sequence or the one before; endless and deep ones; with many empty
  * alternatives, or with alternatives of hundreds of entries; with one fact and
  * with as many as there can be; with steps that need and set, or need and
- * clear, the same fact. No step clears a fact that it sets.
+ * clear, the same fact; with many checks. No step clears a fact that it sets.
  */
-enum { SEEDED_KINDS = 15 };
+enum { SEEDED_KINDS = 16 };
 
 const char *seeded_name(unsigned kind);
 

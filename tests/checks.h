@@ -1,0 +1,190 @@
+/*
+ * Libraries with checks, and their cards. Document 02, request 4: "Kind 13, an
+ * entry, checks that its fact stands; its payload is below F under 5. A run
+ * holds its checks in their places; a check is no step, changes nothing and has
+ * depth 0, and a run without steps is still called empty. [..] On the first
+ * side a check counts as a need [..]" On the last side it touches nothing.
+ * "Always stands" is "a run exists, and in every run the last item that sets,
+ * clears, needs or checks the fact is there and does not clear it. A step that
+ * needs and clears counts as clearing." C11 and C++17.
+ */
+#ifndef DULIMOVEN_TESTS_CHECKS_H
+#define DULIMOVEN_TESTS_CHECKS_H
+
+#include "harness.h"
+#include "setup.h"
+
+/*
+ * A library with its sum word, and the cards of its sequences, which `cards`
+ * holds one after the other.
+ */
+struct checks {
+    const char *name;
+    const uint32_t *words;
+    size_t count;
+    const uint64_t (*cards)[DULIMOVEN_CARD_WORDS];
+    size_t sequences;
+};
+
+/*
+ * One alternative each, over one fact. Step 0 sets it, 1 clears it, 2 needs it,
+ * 3 neither, 4 needs and clears it.
+ *
+ * The sum word: beside the head's the payloads add up to 60, and the kinds to
+ * 300, which is 12 mod 16. So it is the head's payload and 72: 240281 + 48.
+ */
+static const uint32_t single_words[] = {
+    HEAD(1, 5, 9),
+    STEP(0), SETS(0),
+    STEP(1), CLEARS(0),
+    STEP(2), NEEDS(0),
+    STEP(3),
+    STEP(4), NEEDS(0), CLEARS(0),
+    SEQUENCE(0), ALTERNATIVE, CHECK(0),
+    SEQUENCE(1), ALTERNATIVE, DO(0), CHECK(0),
+    SEQUENCE(2), ALTERNATIVE, DO(1), CHECK(0),
+    SEQUENCE(3), ALTERNATIVE, CHECK(0), DO(1),
+    SEQUENCE(4), ALTERNATIVE, CHECK(0), DO(0),
+    SEQUENCE(5), ALTERNATIVE, DO(4),
+    SEQUENCE(6), ALTERNATIVE, DO(2),
+    SEQUENCE(7), ALTERNATIVE, CHECK(0), DO(3),
+    SEQUENCE(8), ALTERNATIVE, DO(3),
+    0xf02402c9};
+
+static const uint64_t single_cards[][DULIMOVEN_CARD_WORDS] = {
+    /* <check>: the run has no step, so it is empty; the check is a need on the
+       first side and no touch on the last, and the fact stands after it */
+    {3, 1, 1, 0, 0, 0, 0, 1},
+    /* <set, check>: the set is the first touch and the last one */
+    {0x101, 0, 0, 1, 0, 1, 0, 1},
+    /* <clear, check>: a clear is no touch on the first side, so the check is
+       first; last the clear. The check is the last item that names the fact:
+       no run executes. */
+    {0x101, 1, 1, 0, 1, 0, 1, 1},
+    /* <check, clear>: the same sides, and the clear is the last item */
+    {0x101, 1, 1, 0, 1, 0, 1, 0},
+    /* <check, set>: first the need, last the set */
+    {0x101, 1, 1, 1, 0, 1, 0, 1},
+    /* <needs and clears>: counts as clearing */
+    {0x101, 1, 1, 0, 1, 0, 1, 0},
+    /* <need>: no touch on the last side, and the fact stands after it */
+    {1, 1, 1, 0, 0, 0, 0, 1},
+    /* <check, other>: it has a step, so it is not empty */
+    {1, 1, 1, 0, 0, 0, 0, 1},
+    /* <other>: no item names the fact */
+    {1, 0, 0, 0, 0, 0, 0, 0}};
+
+/*
+ * Two facts; step 0 sets 0, step 1 needs 0 and sets 1. Sequence 0 is <step 0>,
+ * <check 0>; 1 is <0, step 1>; 2 is <0>, <check 1>; 3 is <itself, check 0>,
+ * <check 0, check 0>; 4 is <>, <check 1, itself>.
+ *
+ * The sum word: the payloads add up to 22, the kinds to 242, which is 2 mod 16:
+ * 140102 + 18.
+ */
+static const uint32_t nested_words[] = {
+    HEAD(2, 2, 5),
+    STEP(0), SETS(0),
+    STEP(1), NEEDS(0), SETS(1),
+    SEQUENCE(0), TAKES(DO(0)), TAKES(CHECK(0)),
+    SEQUENCE(1), TAKES(CALL(0), DO(1)),
+    SEQUENCE(2), TAKES(CALL(0)), TAKES(CHECK(1)),
+    SEQUENCE(3), TAKES(CALL(3), CHECK(0)), TAKES(CHECK(0), CHECK(0)),
+    SEQUENCE(4), ALTERNATIVE, TAKES(CHECK(1), CALL(4)),
+    0xf014011a};
+
+static const uint64_t nested_cards[][DULIMOVEN_CARD_WORDS] = {
+    /* fact 0 is set or checked, so it may be needed and set, and stands */
+    {0x103, 0, 1, 1, 0, 0, 0, 1},
+    /* after either step 1 needs fact 0, which stands then, and sets fact 1. The
+       first touch of fact 0 is sequence 0's, a set or a need. */
+    {0x201, 0, 1, 3, 0, 2, 0, 3},
+    /* fact 0 is not named in <check 1>, and fact 1 not in sequence 0 */
+    {0x103, 0, 3, 1, 0, 0, 0, 0},
+    /* two checks of fact 0 and more: runs without number, and all are empty */
+    {3, 1, 1, 0, 0, 0, 0, 1},
+    /* any number of checks of fact 1, none among them */
+    {3, 0, 2, 0, 0, 0, 0, 0}};
+
+/*
+ * 64 facts. Sequence 0 is <check 63>, <set 63>; 1 is <check 0, check 63>.
+ *
+ * The sum word: the payloads add up to 190, the kinds to 89, which is 9 mod 16:
+ * 800c0 + c7.
+ */
+static const uint32_t widest_words[] = {
+    HEAD(64, 1, 2),
+    STEP(0), SETS(63),
+    SEQUENCE(0), TAKES(CHECK(63)), TAKES(DO(0)),
+    SEQUENCE(1), TAKES(CHECK(0), CHECK(63)),
+    0xf0080187};
+
+#define FACT_63 UINT64_C(0x8000000000000000)
+
+static const uint64_t widest_cards[][DULIMOVEN_CARD_WORDS] = {
+    /* fact 63 is needed and not touched last, or set; it stands after both */
+    {0x103, 0, FACT_63, FACT_63, 0, 0, 0, FACT_63},
+    /* facts 0 and 63 are needed and stand, and the run is empty */
+    {3, FACT_63 | 1, FACT_63 | 1, 0, 0, 0, 0, FACT_63 | 1}};
+
+/*
+ * The library of examples/skip.image. Request sets fact 0, unit needs 0 and
+ * sets 1, release needs and clears 0, measure needs 0 and 1 and sets 2.
+ *
+ * The sum word: the payloads add up to 34, the kinds to 228, which is 4 mod 16:
+ * 100203 + 26.
+ */
+static const uint32_t skip_words[] = {SKIP, 0xf0100229};
+
+static const uint64_t skip_cards[][DULIMOVEN_CARD_WORDS] = {
+    /* <request, unit, release> sets fact 1 and clears 0; <check 1> is empty,
+       needs fact 1 and touches none on the last side. Fact 1 is set or checked
+       last, and fact 0 is cleared or not named. */
+    {0x203, 0, 2, 2, 1, 0, 0, 2},
+    /* the first of these runs alone */
+    {0x201, 0, 0, 2, 1, 2, 1, 2},
+    /* after either request, measure, release: measure needs fact 1 and sets 2,
+       which nothing names after it, and release clears fact 0. Fact 1 is first
+       touched in sequence 0, by a need or a set. Its last touch is there too:
+       set or none. */
+    {0x301, 0, 2, 6, 1, 4, 1, 6},
+    /* the same after sequence 1, which sets fact 1 */
+    {0x301, 0, 0, 6, 1, 6, 1, 6}};
+
+/*
+ * Checks before, between and after the other entries of an alternative that
+ * calls its own sequence: no run, so that the card is blank.
+ *
+ * The sum word: the payloads add up to 2, the kinds to 75, which is 11 mod 16:
+ * 40082 + d.
+ */
+static const uint32_t around_words[] = {
+    HEAD(2, 1, 1),
+    STEP(0),
+    SEQUENCE(0), TAKES(CHECK(0), DO(0), CHECK(1), CALL(0), CHECK(1)),
+    0xf004008f};
+
+static const uint64_t around_cards[][DULIMOVEN_CARD_WORDS] = {
+    {0, 0, 0, 0, 0, 0, 0, 0}};
+
+#define CHECKS(title, words, cards) \
+    {title, words, COUNT(words), cards, COUNT(cards)}
+
+/* The libraries, by name in their order. */
+enum { SINGLE, NESTED, WIDEST, SKIPPED, AROUND };
+static const struct checks checks[] = {
+    CHECKS("one alternative each", single_words, single_cards),
+    CHECKS("checks in sequences", nested_words, nested_cards),
+    CHECKS("64 facts", widest_words, widest_cards),
+    CHECKS("skip", skip_words, skip_cards),
+    CHECKS("checks around a call of itself", around_words, around_cards)};
+
+/* One of these, with the sum word that the builder gives it. */
+static inline void build_checks(const struct checks *library)
+{
+    build(library->words, library->count - 1);
+    hold(library->name,
+         *word_at(library->count - 1) == library->words[library->count - 1]);
+}
+
+#endif
