@@ -47,11 +47,11 @@
  *   link, the oldest alternative that fits is kept in place of the newest, in
  *     `chosen_link` and, by itself, in `chosen_alternative`: a link is not the
  *     newest choice
- *   library, the alternatives are counted from 1; those of later sequences are
+ *   walk, the alternatives are counted from 1; those of later sequences are
  *     taken in; on the way back an empty alternative is passed over, an entry is
  *     taken for an opener, or the first word is (five breaks): a link is about
  *     another sequence, or about no alternative
- *   library, the second opener is kept in place of the last: beside a link's
+ *   walk, the second opener is kept in place of the last: beside a link's
  *     entry another touches the fact, or has no run
  *   rank, an entry behind the position is held to what is asked of one ahead
  *     (`passes(none, ahead, w)`): none, and a run has the outcome
@@ -63,7 +63,7 @@
  *     has the outcome
  *   outcome, an alternative with a dead entry has the row of what was read
  *     before it, or a run: word 1 of a card, 3 for 0
- *   library, after a dead entry five words are passed where four were tested,
+ *   walk, after a dead entry five words are passed where four were tested,
  *     or an opener after three entries (two breaks): word 1 of a card
  *   question, one word more is written: words past the chain are changed
  *   settling, callers are stale where a visit changed nothing, and not where it

@@ -12,7 +12,7 @@ use lib.Dec.{ltb}
 use borrow.Author.Tests.{ltb-true}
 use Rattle.general.proofs.Bools.{or-left, or-right, or-cases, both-ways}
 use Rattle.library.specs.Library.{Library, Entry, item, call}
-use Rattle.library.specs.Walk.{namesNone}
+use Rattle.walk.specs.Walk.{namesNone}
 use Rattle.runs.specs.Possible.{hasRun}
 use Rattle.runs.specs.Touch.{Side, last, first, Question}
 use Rattle.chains.specs.Ranks.{Ranks, Attained, Linked, unranked, entryRank, entryPasses, hasMark, canStay, canRun, aheadOf, behindOf}

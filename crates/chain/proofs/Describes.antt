@@ -17,7 +17,7 @@ use borrow.Author.Tests.{ltb-true, lt-ltb, le-ltb}
 use Rattle.column.specs.Sets.{inColumn}
 use Rattle.library.specs.Library.{has, Library, Step, Alternative, Item, step, check, Entry, item, call, entryAt}
 use Rattle.library.specs.Tables.{maskOf}
-use Rattle.library.specs.Walk.{alternativesAt}
+use Rattle.walk.specs.Walk.{alternativesAt}
 use Rattle.library.proofs.Decode.{has-none, has-one}
 use Rattle.library.proofs.Lookup.{mask-has}
 use Rattle.runs.specs.Run.{alternativesOf}

@@ -16,7 +16,7 @@ use lib.Seq.{getD-take, ext-getD, length-take-le}
 use Rattle.rules.specs.Checked.{accepts}
 use Rattle.rules.specs.Rules.{opened}
 use Rattle.library.specs.Library.{Library, Sequence, Entry, alternativesFrom, sequencesPart, libraryOf, Item}
-use Rattle.library.specs.Walk.{alternativesAt}
+use Rattle.walk.specs.Walk.{alternativesAt}
 use Rattle.general.specs.Tests.{All}
 use Rattle.library.specs.Accepted.{SequenceWord, Counted}
 use Rattle.image.specs.declared.answer.Head.{Head}

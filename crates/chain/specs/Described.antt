@@ -8,7 +8,7 @@ use mathlib.Core.List.{List, [], _∷_}
 use lib.ListN.{length, getD, drop}
 use Rattle.rules.specs.Checked.{accepts}
 use Rattle.library.specs.Library.{Library, Entry, libraryOf, Item, step}
-use Rattle.library.specs.Walk.{alternativesAt}
+use Rattle.walk.specs.Walk.{alternativesAt}
 use Rattle.image.specs.declared.answer.Head.{Head}
 use Rattle.library.specs.Tables.{maskOf}
 use Rattle.general.specs.Numbers.{Zeros}

@@ -2,7 +2,7 @@
 -- decoding without opening it.
 -- It has: kinds of words, and the entry that a word names by its kind; one word more of entries, alternatives, sequences, steps and facts (`entries-cons`, `alternatives-cons`, `sequences-
 -- open`, `steps-open`, `facts-here`); the two parts; how many steps and sequences there are, and the one at a number (`step-at`, `sequence-
--- at`). Loops over them are in Walking.
+-- at`). Loops over them are in crate `walk` (proofs/Walking).
 -- Assumes nothing.
 use Prim.Native.Nat.{ℕ, zero, suc, _+_, _≤_, _<_}
 use native.Mathlib.Nat.{le-of-suc-le-suc, zero-add}

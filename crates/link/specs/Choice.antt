@@ -6,7 +6,7 @@ use mathlib.Core.List.{List, [], _∷_, _++_}
 use lib.ListN.{length, getD, drop}
 use lib.Dec.{eqb, leb, ltb}
 use Rattle.library.specs.Library.{Alternative, alternativesFrom, entryAt}
-use Rattle.library.specs.Walk.{alternativesAt}
+use Rattle.walk.specs.Walk.{alternativesAt}
 use Rattle.chains.specs.Link.{Link, touchLink, untouchedLink, Chain, chainWords}
 use Rattle.question.specs.declared.asked.Asked.{Asked}
 use Rattle.rank.specs.Walk.{newestLink}

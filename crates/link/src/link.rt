@@ -1,13 +1,13 @@
 // The choice of a link: "Among equally good choices a link takes the highest alternative, then the lowest position."
 use image::word::is_entry;
 use image::word::payload_of;
-use library::walk::alternatives_of;
-use library::walk::opener_before;
-use library::walk::selected_index;
-use library::walk::word_at;
 use rank::entry::passes;
 use rank::entry::traits_of;
 use rank::read::greatest_depth;
+use walk::sequence::alternatives_of;
+use walk::sequence::opener_before;
+use walk::sequence::selected_index;
+use walk::sequence::word_at;
 ghost use mathlib.Core.Path.{_≡_};
 ghost use Prim.Native.Nat.{_+_, _≤_, _<_};
 ghost use lib.ListN.{length, drop};

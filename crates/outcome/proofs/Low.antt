@@ -11,7 +11,7 @@ use lib.Bits.{bitAnd, bitOr, and-le-l, or-lt}
 use lib.Pow.{pow-pos, ones-lt}
 use Rattle.column.specs.Column.{withFact}
 use Rattle.library.specs.Library.{Entry, step, check, item, call, Alternative}
-use Rattle.library.specs.Walk.{alternativesAt}
+use Rattle.walk.specs.Walk.{alternativesAt}
 use Rattle.row.specs.Words.{rowWords, allFacts, noRow, startRow, notWord, stepMarks, stepRow, checkRow, laterMarks, joinRows, orMarks, orRows, liveRow, rowIn}
 use Rattle.outcome.specs.Walks.{entryIn, joinedFrom, alternativeIn, unitedFrom}
 use Rattle.outcome.specs.Visited.{visited}

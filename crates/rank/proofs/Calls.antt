@@ -10,7 +10,7 @@ use lib.Dec.{eqb, ltb}
 use lib.ListN.{length, getD, set, take}
 use lib.Seq.{set-getD, take-set-lt, drop-set-lt, getD-set-same, getD-set-other}
 use Rattle.library.specs.Library.{Entry, Alternative}
-use Rattle.library.specs.Walk.{alternativesAt}
+use Rattle.walk.specs.Walk.{alternativesAt}
 use Rattle.general.specs.Tests.{All}
 use Rattle.general.specs.Scan.{every}
 use Rattle.callers.specs.Callers.{calls}

@@ -9,7 +9,7 @@ use lib.Seq.{set-getD, take-set-lt, drop-set-lt, getD-take}
 use lib.Dec.{ltb}
 use borrow.Author.Tests.{ltb-true, ltb-false}
 use Rattle.library.specs.Library.{Sequence, Alternative, alternativesFrom}
-use Rattle.library.specs.Walk.{alternativesAt}
+use Rattle.walk.specs.Walk.{alternativesAt}
 use Rattle.settling.specs.Settling as settling
 use Rattle.runs.specs.Run.{alternativesOf}
 use Rattle.settling.proofs.Visits.{Lowers}

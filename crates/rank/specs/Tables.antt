@@ -11,7 +11,7 @@ use lib.Dec.{eqb, ltb}
 use Rattle.column.specs.Sets.{inColumn}
 use Rattle.image.specs.Word.{kind, payload, isKind, isEntry}
 use Rattle.library.specs.Library.{Alternative, Item, step, check, Entry, item, call, entryOf, entriesFrom}
-use Rattle.library.specs.Walk.{walkEnd, alternativesAt}
+use Rattle.walk.specs.Walk.{walkEnd, alternativesAt}
 use Rattle.settling.specs.Settling.{Settles}
 use Rattle.general.specs.Scan.{every}
 use Rattle.chains.specs.Ranks.{Ranks}

@@ -8,9 +8,8 @@ use mathlib.Core.Bool.{Bool, true}
 use Prim.Native.Nat.{ℕ, _-_}
 use lib.ListN.{length, getD, drop}
 use Rattle.image.specs.Word.{isEntry}
-use Rattle.library.specs.Library.{entriesFrom}
-use Rattle.library.specs.Walk.{entryOf}
-use Rattle.library.proofs.Walking.{tested, Folding, folding-start, folding-inside, folding-turn, folding-out}
+use Rattle.library.specs.Library.{entryOf, entriesFrom}
+use Rattle.walk.proofs.Walking.{tested, Folding, folding-start, folding-inside, folding-turn, folding-out}
 use Rattle.rank.specs.Walk.{tailFrom}
 use Rattle.rank.specs.Tables.{passIn}
 use Rattle.link.proofs.Choices.{tail-cons}

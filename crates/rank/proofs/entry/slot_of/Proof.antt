@@ -16,7 +16,7 @@ use Rattle.rank.proofs.entry.slot_of.Reads as reads
 use Rattle.rank.proofs.entry.slot_of.Lts as lts
 use Rattle.image.proofs.word.is_kind.Reads as is-kind-reads
 use Rattle.image.proofs.word.payload_of.Reads as payload-of-reads
-use Rattle.library.proofs.walk.selected_index.Reads as selected-index-reads
+use Rattle.walk.proofs.sequence.selected_index.Reads as selected-index-reads
 use Rattle.rank.proofs.entry.check_slot.Reads as check-slot-reads
 
 is-kind-requires : tie.Need-is-kind-requires

@@ -1,11 +1,11 @@
--- `library::walk::four_entries` meets its contract: each word is tested.
+-- `walk::sequence::four_entries` meets its contract: each word is tested.
 -- Assumes nothing.
 use borrow.Author.Needs.{needs}
 use mathlib.Core.Path.{refl}
-use Rattle.library.proofs.walk.four_entries.Statement.{statement}
-use Rattle.library.proofs.walk.four_entries.Tie as tie
-use Rattle.library.proofs.walk.four_entries.Reads as reads
-use Rattle.library.proofs.walk.four_entries.Lts as lts
+use Rattle.walk.proofs.sequence.four_entries.Statement.{statement}
+use Rattle.walk.proofs.sequence.four_entries.Tie as tie
+use Rattle.walk.proofs.sequence.four_entries.Reads as reads
+use Rattle.walk.proofs.sequence.four_entries.Lts as lts
 use Rattle.image.proofs.word.is_entry.Reads as is-entry-reads
 
 is-entry-requires : tie.Need-is-entry-requires

@@ -15,10 +15,10 @@ use lib.ListN.{length, getD, drop, length-drop}
 use Rattle.general.specs.Scan.{lastIndex}
 use Rattle.general.proofs.Bools.{passes-or-not, or-cases, nor-left, nor-right}
 use Rattle.image.specs.Word.{isKind, isEntry}
 use Rattle.library.specs.Library.{Alternative, entriesFrom, alternativesFrom}
-use Rattle.library.specs.Walk.{Before, openerBefore, LastBefore}
+use Rattle.walk.specs.Walk.{Before, openerBefore, LastBefore}
 use Rattle.library.proofs.Decode.{alternatives-short}
-use Rattle.library.proofs.Walking.{opener-inside, entry-inside, alternatives-at, drop-next}
+use Rattle.walk.proofs.Walking.{opener-inside, entry-inside, alternatives-at, drop-next}
 
 module _ (part : List ℕ) where
   -- the alternatives from index i on, and whether a word opens one or is an entry

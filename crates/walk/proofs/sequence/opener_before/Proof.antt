@@ -1,4 +1,4 @@
--- `library::walk::opener_before` meets its contract: the words gone back over open no alternative.
+-- `walk::sequence::opener_before` meets its contract: the words gone back over open no alternative.
 -- Assumes nothing.
 use borrow.Author.Needs.{needs}
 use native.Mathlib.Omega.{arith}
@@ -7,10 +7,10 @@ use mathlib.Core.Bool.{true, false}
 use Prim.Native.Nat.{_≤_}
 use lib.ListN.{length}
 use Rattle.general.specs.Scan.{lastIndex}
-use Rattle.library.specs.Walk.{openerBefore}
-use Rattle.library.proofs.Before.{opener-last}
-use Rattle.library.proofs.walk.opener_before.Statement.{statement}
-use Rattle.library.proofs.walk.opener_before.Tie as tie
+use Rattle.walk.specs.Walk.{openerBefore}
+use Rattle.walk.proofs.Before.{opener-last}
+use Rattle.walk.proofs.sequence.opener_before.Statement.{statement}
+use Rattle.walk.proofs.sequence.opener_before.Tie as tie
 
 abbrev Inv-loop : tie.InvT-loop
 Inv-loop part end i₀ i = (i ≤ length part) × (openerBefore part i ≡ openerBefore part end)

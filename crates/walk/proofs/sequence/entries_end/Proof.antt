@@ -1,4 +1,4 @@
--- `library::walk::entries_end` meets its contract: the words so far are entries.
+-- `walk::sequence::entries_end` meets its contract: the words so far are entries.
 -- Assumes nothing.
 use borrow.Author.Needs.{needs}
 use native.Mathlib.Omega.{arith}
@@ -7,9 +7,9 @@ use mathlib.Core.Bool.{true}
 use Prim.Native.Nat.{ℕ, _-_}
 use lib.ListN.{length, getD}
 use Rattle.image.specs.Word.{isEntry}
-use Rattle.library.proofs.Walking.{tested, Folding, folding-start, folding-inside, folding-turn, folding-end}
-use Rattle.library.proofs.walk.entries_end.Statement.{statement}
-use Rattle.library.proofs.walk.entries_end.Tie as tie
+use Rattle.walk.proofs.Walking.{tested, Folding, folding-start, folding-inside, folding-turn, folding-end}
+use Rattle.walk.proofs.sequence.entries_end.Statement.{statement}
+use Rattle.walk.proofs.sequence.entries_end.Tie as tie
 
 abbrev Inv-loop : tie.InvT-loop
 Inv-loop part at i₀ i = Folding part {R = ℕ} 0 at (λ es. 0) i

@@ -1,5 +1,5 @@
--- The words of a sequence from an index on, in the form that a loop follows: the entry that a word names (Library's), where the entries of an
--- alternative end and where a walk over them does, the alternatives of a sequence by its place, and those of them that stand before an index.
+-- The words of a sequence from an index on, in the form that a loop follows: where the entries of an alternative end and where a walk over them
+-- does, the alternatives of a sequence by its place, and those of them that stand before an index.
 use Prim.Native.Nat.{ℕ, _+_, _≤_, _<_}
 use mathlib.Core.Path.{_≡_}
 use mathlib.Core.Bool.{Bool, true, false, not, _||_}
@@ -7,9 +7,8 @@ use mathlib.Core.List.{List}
 use lib.ListN.{length, getD, drop}
 use Rattle.general.specs.Scan.{firstIndex, lastIndex}
 use Rattle.image.specs.Word.{isKind, isEntry}
 use Rattle.library.specs.Library.{Entry, item, call, Alternative, entryAt, entriesFrom, alternativesFrom}
-pub use Rattle.library.specs.Library.{entryOf}
-use Rattle.library.specs.declared.walk.Alternatives.{Alternatives}
+use Rattle.walk.specs.declared.sequence.Alternatives.{Alternatives}
 
 -- the index after the entries that stand from index `at` on
 abbrev pub entriesEnd : List ℕ → ℕ → ℕ

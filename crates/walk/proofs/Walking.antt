@@ -16,9 +16,9 @@ use Rattle.general.specs.Scan.{firstIndex}
 use Rattle.general.proofs.Bools.{and-parts}
 use Rattle.general.proofs.Scan.{first-le}
 use Rattle.image.specs.Word.{isKind, isEntry}
 use Rattle.library.specs.Library.{Entry, entryOf, Alternative, entryAt, entriesFrom, alternativesFrom}
-use Rattle.library.specs.Walk.{entriesEnd, walkEnd}
+use Rattle.walk.specs.Walk.{entriesEnd, walkEnd}
 use Rattle.library.proofs.Decode.{entry-opens-none, entries-nil, entries-cons, entries-short, alternatives-nil, alternatives-cons}
 
 -- what a test says of the word at an index, by the word that was read there
 pub tested : {w v : ℕ} (test : ℕ → Bool) {b c : Bool} → w ≡ v → b ≡ test w → b ≡ c → test v ≡ c

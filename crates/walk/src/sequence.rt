@@ -8,7 +8,7 @@ ghost use mathlib.Core.Bool.{cond, _&&_};
 ghost use Prim.Native.Nat.{_≤_};
 ghost use lib.ListN.{length, getD};
 ghost use Rattle.image.specs.Word.{mostWords, isEntry};
-ghost use Rattle.library.specs.Walk.{entriesEnd, AllBefore, openerBefore};
+ghost use Rattle.walk.specs.Walk.{entriesEnd, AllBefore, openerBefore};
 
 // How many alternatives a sequence has, and the index of the last one's opener.
 pub struct Alternatives {

@@ -1,13 +1,13 @@
--- `library::walk::word_at` meets its contract: past the words there is 0.
+-- `walk::sequence::word_at` meets its contract: past the words there is 0.
 -- Assumes nothing.
 use borrow.Author.Needs.{needs}
 use native.Mathlib.Omega.{arith}
 use mathlib.Core.Path.{sym}
 use lib.ListN.{List·getD-eq-default}
-use Rattle.library.proofs.walk.word_at.Statement.{statement}
-use Rattle.library.proofs.walk.word_at.Tie as tie
-use Rattle.library.proofs.walk.word_at.Reads as reads
-use Rattle.library.proofs.walk.word_at.Lts as lts
+use Rattle.walk.proofs.sequence.word_at.Statement.{statement}
+use Rattle.walk.proofs.sequence.word_at.Tie as tie
+use Rattle.walk.proofs.sequence.word_at.Reads as reads
+use Rattle.walk.proofs.sequence.word_at.Lts as lts
 
 mul-result : tie.Need-mul-result
 mul-result c = search needs

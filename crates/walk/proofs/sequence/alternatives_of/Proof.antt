@@ -1,4 +1,4 @@
--- `library::walk::alternatives_of` meets its contract: as many alternatives open before the word as were counted.
+-- `walk::sequence::alternatives_of` meets its contract: as many alternatives open before the word as were counted.
 -- Assumes nothing.
 use borrow.Author.Needs.{needs}
 use borrow.Author.Tests.{not-true, not-false}
@@ -9,11 +9,11 @@ use mir.Val.{boolByte}
 use Prim.Native.Nat.{ℕ, _+_, _-_}
 use lib.ListN.{length}
 use Rattle.image.specs.Word.{isKind, isEntry}
-use Rattle.library.specs.Walk.{LastBefore}
-use Rattle.library.proofs.Walking.{tested}
-use Rattle.library.proofs.Before.{before-start, before-out, last-turn, before-few}
-use Rattle.library.proofs.walk.alternatives_of.Statement.{statement}
-use Rattle.library.proofs.walk.alternatives_of.Tie as tie
+use Rattle.walk.specs.Walk.{LastBefore}
+use Rattle.walk.proofs.Walking.{tested}
+use Rattle.walk.proofs.Before.{before-start, before-out, last-turn, before-few}
+use Rattle.walk.proofs.sequence.alternatives_of.Statement.{statement}
+use Rattle.walk.proofs.sequence.alternatives_of.Tie as tie
 
 abbrev Inv-loop : tie.InvT-loop
 Inv-loop part at count₀ last₀ end₀ count last end = LastBefore part at count last end

@@ -1,4 +1,4 @@
--- `library::walk::rest_end` meets its contract: the words that were passed are entries.
+-- `walk::sequence::rest_end` meets its contract: the words that were passed are entries.
 -- Assumes nothing.
 use borrow.Author.Needs.{needs}
 use borrow.Author.Tests.{not-false}
@@ -6,13 +6,13 @@ use native.Mathlib.Omega.{arith}
 use mathlib.Core.Path.{sym, _∙_}
 use Prim.Native.Nat.{_-_}
 use lib.ListN.{length}
-use Rattle.library.proofs.Walking.{EntriesPassed, passed-start, passed-four}
-use Rattle.library.proofs.walk.rest_end.Statement.{statement}
-use Rattle.library.proofs.walk.rest_end.Tie as tie
-use Rattle.library.proofs.walk.rest_end.Reads as reads
-use Rattle.library.proofs.walk.rest_end.Lts as lts
-use Rattle.library.proofs.walk.entries_end.Reads as entries-end-reads
-use Rattle.library.proofs.walk.four_entries.Reads as four-entries-reads
+use Rattle.walk.proofs.Walking.{EntriesPassed, passed-start, passed-four}
+use Rattle.walk.proofs.sequence.rest_end.Statement.{statement}
+use Rattle.walk.proofs.sequence.rest_end.Tie as tie
+use Rattle.walk.proofs.sequence.rest_end.Reads as reads
+use Rattle.walk.proofs.sequence.rest_end.Lts as lts
+use Rattle.walk.proofs.sequence.entries_end.Reads as entries-end-reads
+use Rattle.walk.proofs.sequence.four_entries.Reads as four-entries-reads
 
 abbrev Inv-loop : tie.InvT-loop
 Inv-loop part at i₀ i = EntriesPassed part at i
