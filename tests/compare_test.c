@@ -29,9 +29,9 @@
  *     (`x.run | y.run`): word 1 of a card, 1 for 0
  *   row, a touch counts though a later entry always touches
  *     (`x.present & x.present`): word 3 of a card, 1 for 0
- *   row, a run may leave an always set fact untouched
+ *   writer, a run may leave an always set fact untouched
  *     (`union(rival, rival)`): word 6 of a card, 1 for 0
- *   row, a card too many is written (`c <= n`): word 1 of a card past
+ *   writer, a card too many is written (`c <= n`): word 1 of a card past
  *     the last
  *   link, a link with one link more after it is taken (`t.rank <= k + 1`): a
  *     link's entry is no step with the touch, or no sequence

@@ -1,17 +1,17 @@
--- `row::card::write_cards` meets its contract: each turn writes the next card into its own part.
+-- `writer::card::write_cards` meets its contract: each turn writes the next card into its own part.
 -- Assumes nothing.
 use borrow.Author.Needs.{needs}
 use Prim.Native.Nat.{_+_, _*_, _-_}
 use native.Mathlib.Omega.{arith}
 use lib.ListN.{length-take, length-drop}
 use Rattle.cards.specs.Layout.{cardWords}
 use Rattle.row.specs.Words.{rowWords}
-use Rattle.row.proofs.Cards.{CardsAt, cards-start, cards-long, cards-next, cards-end}
-use Rattle.row.proofs.card.write_cards.Statement.{statement}
-use Rattle.row.proofs.card.write_cards.Tie as tie
-use Rattle.row.proofs.card.write_cards.Reads as reads
-use Rattle.row.proofs.card.write_cards.Lts as lts
-use Rattle.row.proofs.card.write_card.Reads as write-card-reads
+use Rattle.writer.proofs.Cards.{CardsAt, cards-start, cards-long, cards-next, cards-end}
+use Rattle.writer.proofs.card.write_cards.Statement.{statement}
+use Rattle.writer.proofs.card.write_cards.Tie as tie
+use Rattle.writer.proofs.card.write_cards.Reads as reads
+use Rattle.writer.proofs.card.write_cards.Lts as lts
+use Rattle.writer.proofs.card.write_card.Reads as write-card-reads
 
 abbrev Inv-loop : tie.InvT-loop
 Inv-loop n table area₀ c₀ area c = CardsAt table area₀ area n c

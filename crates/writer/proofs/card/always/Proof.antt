@@ -1,10 +1,10 @@
--- `row::card::always` meets its contract: a run exists, without the two rival outcomes.
+-- `writer::card::always` meets its contract: a run exists, without the two rival outcomes.
 -- Assumes nothing.
 use borrow.Author.Needs.{needs}
-use Rattle.row.proofs.card.always.Statement.{statement}
-use Rattle.row.proofs.card.always.Tie as tie
-use Rattle.row.proofs.card.always.Reads as reads
-use Rattle.row.proofs.card.always.Lts as lts
+use Rattle.writer.proofs.card.always.Statement.{statement}
+use Rattle.writer.proofs.card.always.Tie as tie
+use Rattle.writer.proofs.card.always.Reads as reads
+use Rattle.writer.proofs.card.always.Lts as lts
 use Rattle.column.proofs.sets.union.Reads as union-reads
 use Rattle.column.proofs.sets.without.Reads as without-reads
 

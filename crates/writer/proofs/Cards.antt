@@ -9,8 +9,8 @@ use mathlib.Core.List.{List, [], _∷_, _++_, append-assoc, append-nil}
 use lib.ListN.{length, take, drop, set, length-append, length-drop, drop-of-length-le}
 use lib.Seq.{take-at, drop-at, drop-drop, sets-eq}
 use Rattle.cards.specs.Layout.{cardWords}
 use Rattle.row.specs.Words.{rowWords}
-use Rattle.row.specs.Card.{rowCard, rowAt, tableCards}
+use Rattle.writer.specs.Card.{rowCard, rowAt, tableCards}
 
 -- ---- one card
 

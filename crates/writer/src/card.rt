@@ -1,26 +1,26 @@
 // The card writer: a card from a row of the outcome table, and the cards of all sequences.
-use crate::words::CLEARED;
-use crate::words::EMPTY_RUN;
-use crate::words::FIRST_NEEDED;
-use crate::words::FIRST_SET;
-use crate::words::FIRST_UNTOUCHED;
-use crate::words::LAST_CLEARED;
-use crate::words::LAST_SET;
-use crate::words::LAST_UNTOUCHED;
-use crate::words::ROW_WORDS;
-use crate::words::RUN;
-use crate::words::UNMENTIONED;
 use column::sets::count;
 use column::sets::union;
 use column::sets::without;
 use image::word::MOST_SEQUENCES;
+use row::words::CLEARED;
+use row::words::EMPTY_RUN;
+use row::words::FIRST_NEEDED;
+use row::words::FIRST_SET;
+use row::words::FIRST_UNTOUCHED;
+use row::words::LAST_CLEARED;
+use row::words::LAST_SET;
+use row::words::LAST_UNTOUCHED;
+use row::words::ROW_WORDS;
+use row::words::RUN;
+use row::words::UNMENTIONED;
 ghost use mathlib.Core.Path.{_≡_};
 ghost use mathlib.Core.List.{_++_};
 ghost use Prim.Native.Nat.{_*_, _≤_};
 ghost use lib.ListN.{length, drop};
 ghost use Rattle.cards.specs.Layout.{cardWords};
 ghost use Rattle.row.specs.Words.{rowWords};
-ghost use Rattle.row.specs.Card.{flagsOf, alwaysOf, rowCard, tableCards};
+ghost use Rattle.writer.specs.Card.{flagsOf, alwaysOf, rowCard, tableCards};
 
 // The words of a card, in their order.
 pub const FLAGS: usize = 0;

@@ -1,10 +1,10 @@
--- `row::card::flags` meets its contract: the count is that of the union.
+-- `writer::card::flags` meets its contract: the count is that of the union.
 -- Assumes nothing.
 use borrow.Author.Needs.{needs}
-use Rattle.row.proofs.card.flags.Statement.{statement}
-use Rattle.row.proofs.card.flags.Tie as tie
-use Rattle.row.proofs.card.flags.Reads as reads
-use Rattle.row.proofs.card.flags.Lts as lts
+use Rattle.writer.proofs.card.flags.Statement.{statement}
+use Rattle.writer.proofs.card.flags.Tie as tie
+use Rattle.writer.proofs.card.flags.Reads as reads
+use Rattle.writer.proofs.card.flags.Lts as lts
 use Rattle.column.proofs.sets.count.Reads as count-reads
 use Rattle.column.proofs.sets.union.Reads as union-reads
 

@@ -1,17 +1,17 @@
--- `row::card::write_card` meets its contract: a store for each word of the part.
+-- `writer::card::write_card` meets its contract: a store for each word of the part.
 -- Assumes nothing.
 use borrow.Author.Needs.{needs}
 use native.Mathlib.Omega.{arith}
 use lib.ListN.{length-set}
 use mathlib.Core.Path.{_∙_}
-use Rattle.row.specs.Card.{rowCard}
-use Rattle.row.proofs.Cards.{all-stores}
-use Rattle.row.proofs.card.write_card.Statement.{statement}
-use Rattle.row.proofs.card.write_card.Tie as tie
-use Rattle.row.proofs.card.write_card.Reads as reads
-use Rattle.row.proofs.card.write_card.Lts as lts
-use Rattle.row.proofs.card.always.Reads as always-reads
-use Rattle.row.proofs.card.flags.Reads as flags-reads
+use Rattle.writer.specs.Card.{rowCard}
+use Rattle.writer.proofs.Cards.{all-stores}
+use Rattle.writer.proofs.card.write_card.Statement.{statement}
+use Rattle.writer.proofs.card.write_card.Tie as tie
+use Rattle.writer.proofs.card.write_card.Reads as reads
+use Rattle.writer.proofs.card.write_card.Lts as lts
+use Rattle.writer.proofs.card.always.Reads as always-reads
+use Rattle.writer.proofs.card.flags.Reads as flags-reads
 
 shared-slice-read-run : tie.Need-shared-slice-read-run
 shared-slice-read-run c = search needs
