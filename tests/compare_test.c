@@ -53,7 +53,7 @@
  *     another sequence, or about no alternative
  *   walk, the second opener is kept in place of the last: beside a link's
  *     entry another touches the fact, or has no run
- *   rank, an entry behind the position is held to what is asked of one ahead
+ *   slot, an entry behind the position is held to what is asked of one ahead
  *     (`passes(none, ahead, w)`): none, and a run has the outcome
  *   rank, entries ahead of the position may touch
  *     (`choose(t.ahead, x.floor, x.floor)`): a chain, and no run has the

@@ -19,7 +19,8 @@ use Rattle.chains.specs.Ranks.{Ranks, Attained, Linked, unranked, entryRank, en
 use Rattle.chains.proofs.Entries.{stays-run}
 use Rattle.chains.proofs.Stands.{stands-run}
 use Rattle.runs.proofs.Columns.{hasRun-iff}
-use Rattle.rank.specs.Tables.{inRanks, lacksIn, lostIn}
+use Rattle.slot.specs.Slots.{inRanks}
+use Rattle.rank.specs.Tables.{lacksIn, lostIn}
 use Rattle.chain.specs.Described.{ItemsBy, Described}
 use Rattle.chain.proofs.Describes.{rank-is, pass-is}
 

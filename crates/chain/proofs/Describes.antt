@@ -29,14 +29,15 @@ use Rattle.general.specs.Scan.{every}
 use Rattle.chains.specs.Ranks.{Ranks, Attained, Linked, Unlowered, unranked, entryRank, entryPasses, depthLook, passLook, hasMark, aheadOf, behindOf, touchLook, untouchedLook}
 use Rattle.chains.specs.Answer.{Answer, none, shown, newest, chosenAlternative, followed, linksFrom, touchAnswer, untouchedAnswer}
 use Rattle.rank.specs.Walk.{newestLink, depthFrom, fewestFrom}
-use Rattle.rank.specs.Tables.{entryNumber, firstStep, checkWord, inRanks, itemRank, rankIn, passIn, depthIn, everyIn, fewestIn, lookIn, stepMark, checkMark, markRank, ItemsRanked}
+use Rattle.slot.specs.Slots.{entryNumber, firstStep, checkWord, inRanks, itemRank, rankIn, passIn, stepMark, checkMark, markRank, ItemsRanked}
+use Rattle.rank.specs.Tables.{depthIn, everyIn, fewestIn, lookIn}
 use Rattle.link.specs.Choice.{linkIn, alternativeIn, linkEntry, linkAt, linksIn, untouchedIn, answerIn}
 use Rattle.chain.specs.Described.{isFirst, markNumber, Asks, Masked, Placed, ItemsBy, Described}
 use Rattle.question.specs.declared.asked.Asked.{Asked}
 use Rattle.chains.proofs.Depth.{step-rank, step-passes}
 use Rattle.chains.proofs.Links.{entriesOf, chosenAt, positionAt, chosen, chosen-rank, ranked-listed}
 use Rattle.general.proofs.Scan.{getD-inside}
-use Rattle.rank.proofs.Slots.{check-low, about-word}
+use Rattle.slot.proofs.Slots.{check-low, about-word}
 use Rattle.rank.proofs.Walk.{depth-from, fewest-from, link-newest}
 
 cond-mark : (x y : Bool) → cond x 0 (cond y 1 2) ≡ markNumber (cond x present (cond y absent untouched))

@@ -17,7 +17,8 @@ use Rattle.runs.specs.Run.{alternativesOf}
 use Rattle.runs.specs.Domain.{actionOf}
 use Rattle.runs.specs.Touch.{Side, last, first, Mark, present, absent, untouched, Question}
 use Rattle.chains.specs.Ranks.{unranked, aheadOf, behindOf}
-use Rattle.rank.specs.Tables.{firstStep, itemRank, passIn, Rankable, ItemsRankable, Ranked}
+use Rattle.slot.specs.Slots.{firstStep, itemRank, passIn, ItemsRankable}
+use Rattle.rank.specs.Tables.{Rankable, Ranked}
 use Rattle.link.specs.Choice.{Opened, answerIn}
 use Rattle.question.specs.Answer.{byRank}
 use Rattle.question.specs.Reply.{Answered}

@@ -1,9 +1,9 @@
 // The choice of a link: "Among equally good choices a link takes the highest alternative, then the lowest position."
 use image::word::is_entry;
 use image::word::payload_of;
-use rank::entry::passes;
-use rank::entry::traits_of;
 use rank::read::greatest_depth;
+use slot::entry::passes;
+use slot::entry::traits_of;
 use walk::sequence::alternatives_of;
 use walk::sequence::opener_before;
 use walk::sequence::selected_index;
@@ -14,7 +14,8 @@ ghost use lib.ListN.{length, drop};
 ghost use Rattle.image.specs.Word.{mostWords};
 ghost use Rattle.library.specs.Library.{entriesFrom, alternativesFrom};
 ghost use Rattle.rank.specs.Walk.{tailFrom};
-ghost use Rattle.rank.specs.Tables.{passIn, Rankable, RanksReadable};
+ghost use Rattle.slot.specs.Slots.{passIn};
+ghost use Rattle.rank.specs.Tables.{Rankable, RanksReadable};
 ghost use Rattle.link.specs.Choice.{alternativeIn, Chosen};
 
 // An alternative, the position of an entry there, and the number that the entry names.

@@ -18,7 +18,8 @@ use Rattle.callers.proofs.Calls.{calls-all}
 use Rattle.settling.proofs.Stale.{Local}
 use Rattle.question.specs.declared.asked.Asked.{Asked}
 use Rattle.rank.specs.Walk.{loweredFrom, depthFrom, fewestFrom}
-use Rattle.rank.specs.Tables.{itemRank, rankIn, passIn, lookIn, visitedRank, visitedRanks}
+use Rattle.slot.specs.Slots.{itemRank, rankIn, passIn}
+use Rattle.rank.specs.Tables.{lookIn, visitedRank, visitedRanks}
 
 -- ---- what is made of entries depends on what is said of each
 

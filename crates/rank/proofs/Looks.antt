@@ -17,10 +17,11 @@ use Rattle.walk.specs.Walk.{walkEnd}
 use Rattle.walk.proofs.Walking.{folding-inside, folding-out, Leaving, leaving-start, leaving-turn, leaving-dead, leaving-rest, leaving-out, Walking, walking-out}
 use Rattle.general.proofs.Bools.{nor-left, nor-right, or-left, or-right, or-cases}
 use Rattle.rank.specs.Walk.{loweredFrom, depthFrom, fewestFrom}
-use Rattle.rank.specs.Tables.{rankIn, passIn, traitsIn, depthIn, everyIn, fewestAfter, fewestIn, lookIn, lacksIn, lostIn, deadIn, TraitsFound, AlternativeRanked}
+use Rattle.slot.specs.Slots.{rankIn, passIn, traitsIn}
+use Rattle.rank.specs.Tables.{depthIn, everyIn, fewestAfter, fewestIn, lookIn, lacksIn, lostIn, deadIn, TraitsFound, AlternativeRanked}
 use Rattle.rank.proofs.Walk.{cond-same, lowered-least}
 use Rattle.question.specs.declared.asked.Asked.{Asked}
-use Rattle.rank.specs.declared.entry.Traits.{Traits}
+use Rattle.slot.specs.declared.entry.Traits.{Traits}
 use Rattle.rank.specs.declared.read.Found.{Found}
 use Rattle.rank.specs.declared.read.Positions.{Positions}
 use Rattle.rank.specs.declared.read.Read.{Read}

@@ -17,7 +17,8 @@ use Rattle.general.specs.Numbers.{total}
 use Rattle.chains.specs.Ranks.{Look}
 use Rattle.rank.specs.Walk.{loweredFrom}
 use Rattle.rank.specs.Visits.{visited, Visits, RanksSettled}
-use Rattle.rank.specs.Tables.{inRanks, lookIn, Rankable, RanksReadable, RanksVisitable, visitedRank, visitedRanks}
+use Rattle.slot.specs.Slots.{inRanks}
+use Rattle.rank.specs.Tables.{lookIn, Rankable, RanksReadable, RanksVisitable, visitedRank, visitedRanks}
 use Rattle.question.specs.declared.asked.Asked.{Asked}
 use Rattle.general.proofs.Scan.{getD-inside, total-set}
 use Rattle.rank.proofs.Walk.{lowered-low, lowered-from}

@@ -1,15 +1,15 @@
 // What an alternative comes to by the ranks as they stand, and the rank of a sequence lowered by its alternatives.
-use crate::entry::Traits;
-use crate::entry::choose;
-use crate::entry::passes;
-use crate::entry::rank_of;
-use crate::entry::traits_of;
 use image::word::KIND_ALTERNATIVE;
 use image::word::is_entry;
 use image::word::is_kind;
 use question::asked::Asked;
 use question::asked::RUN_MARK;
 use question::asked::UNTOUCHED_MARK;
+use slot::entry::Traits;
+use slot::entry::choose;
+use slot::entry::passes;
+use slot::entry::rank_of;
+use slot::entry::traits_of;
 use walk::sequence::word_at;
 ghost use mathlib.Core.Path.{_≡_};
 ghost use mathlib.Core.Bool.{cond};

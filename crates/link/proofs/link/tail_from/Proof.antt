@@ -11,7 +11,7 @@ use Rattle.image.specs.Word.{isEntry}
 use Rattle.library.specs.Library.{entryOf, entriesFrom}
 use Rattle.walk.proofs.Walking.{tested, Folding, folding-start, folding-inside, folding-turn, folding-out}
 use Rattle.rank.specs.Walk.{tailFrom}
-use Rattle.rank.specs.Tables.{passIn}
+use Rattle.slot.specs.Slots.{passIn}
 use Rattle.link.proofs.Choices.{tail-cons}
 use Rattle.link.proofs.link.tail_from.Statement.{statement}
 use Rattle.link.proofs.link.tail_from.Tie as tie

@@ -8,7 +8,7 @@ use lib.ListN.{getD}
 use Rattle.image.specs.Word.{isEntry}
 use Rattle.library.specs.Library.{entryOf}
 use Rattle.walk.proofs.Walking.{tested, entry-inside}
-use Rattle.rank.specs.Tables.{traitsIn}
+use Rattle.slot.specs.Slots.{traitsIn}
 use Rattle.rank.proofs.read.found_at.Statement.{statement}
 use Rattle.rank.proofs.read.found_at.Tie as tie
 

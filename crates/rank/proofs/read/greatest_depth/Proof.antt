@@ -12,7 +12,8 @@ use Rattle.image.specs.Word.{isEntry}
 use Rattle.library.specs.Library.{entryOf, entriesFrom}
 use Rattle.walk.proofs.Walking.{tested, folding-inside, folding-out, Leaving, leaving-start, leaving-turn, leaving-dead, leaving-rest, leaving-out}
 use Rattle.rank.specs.Walk.{depthFrom}
-use Rattle.rank.specs.Tables.{rankIn, depthIn, lacksIn}
+use Rattle.slot.specs.Slots.{rankIn}
+use Rattle.rank.specs.Tables.{depthIn, lacksIn}
 use Rattle.rank.proofs.Looks.{depth-cons}
 use Rattle.rank.proofs.read.greatest_depth.Statement.{statement}
 use Rattle.rank.proofs.read.greatest_depth.Tie as tie

@@ -1,13 +1,13 @@
--- `rank::entry::write_item_ranks` meets its contract: the checks' words and then the steps'.
+-- `slot::entry::write_item_ranks` meets its contract: the checks' words and then the steps'.
 -- Assumes nothing.
-use Rattle.rank.proofs.Slots.{items-ranked}
+use Rattle.slot.proofs.Slots.{items-ranked}
 use borrow.Author.Needs.{needs}
-use Rattle.rank.proofs.entry.write_item_ranks.Statement.{statement}
-use Rattle.rank.proofs.entry.write_item_ranks.Tie as tie
-use Rattle.rank.proofs.entry.write_item_ranks.Reads as reads
-use Rattle.rank.proofs.entry.write_item_ranks.Lts as lts
-use Rattle.rank.proofs.entry.write_check_ranks.Reads as write-check-ranks-reads
-use Rattle.rank.proofs.entry.write_step_ranks.Reads as write-step-ranks-reads
+use Rattle.slot.proofs.entry.write_item_ranks.Statement.{statement}
+use Rattle.slot.proofs.entry.write_item_ranks.Tie as tie
+use Rattle.slot.proofs.entry.write_item_ranks.Reads as reads
+use Rattle.slot.proofs.entry.write_item_ranks.Lts as lts
+use Rattle.slot.proofs.entry.write_check_ranks.Reads as write-check-ranks-reads
+use Rattle.slot.proofs.entry.write_step_ranks.Reads as write-step-ranks-reads
 
 write-check-ranks-requires : tie.Need-write-check-ranks-requires
 write-check-ranks-requires c κs = search needs

@@ -1,18 +1,18 @@
--- `rank::entry::write_step_ranks` meets its contract: the ranks of the steps so far are written.
+-- `slot::entry::write_step_ranks` meets its contract: the ranks of the steps so far are written.
 -- Assumes nothing.
 use borrow.Author.Needs.{needs}
 use native.Mathlib.Omega.{arith}
 use Prim.Native.Nat.{_+_, _-_}
 use lib.ListN.{length}
 use mathlib.Core.Path.{ap, _∙_}
-use Rattle.rank.specs.Tables.{firstStep, markRank}
-use Rattle.rank.proofs.Slots.{Stepping, stepping-start, stepping-turn, stepping-end}
-use Rattle.rank.proofs.entry.write_step_ranks.Statement.{statement}
-use Rattle.rank.proofs.entry.write_step_ranks.Tie as tie
-use Rattle.rank.proofs.entry.write_step_ranks.Reads as reads
-use Rattle.rank.proofs.entry.write_step_ranks.Lts as lts
-use Rattle.rank.proofs.entry.step_mark.Reads as step-mark-reads
-use Rattle.rank.proofs.entry.mark_rank.Reads as mark-rank-reads
+use Rattle.slot.specs.Slots.{firstStep, markRank}
+use Rattle.slot.proofs.Slots.{Stepping, stepping-start, stepping-turn, stepping-end}
+use Rattle.slot.proofs.entry.write_step_ranks.Statement.{statement}
+use Rattle.slot.proofs.entry.write_step_ranks.Tie as tie
+use Rattle.slot.proofs.entry.write_step_ranks.Reads as reads
+use Rattle.slot.proofs.entry.write_step_ranks.Lts as lts
+use Rattle.slot.proofs.entry.step_mark.Reads as step-mark-reads
+use Rattle.slot.proofs.entry.mark_rank.Reads as mark-rank-reads
 
 abbrev Inv-loop : tie.InvT-loop
 Inv-loop all q masks ranks₀ base a₀ ranks a = Stepping all q masks ranks₀ ranks a

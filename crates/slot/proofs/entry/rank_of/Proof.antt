@@ -1,12 +1,12 @@
--- `rank::entry::rank_of` meets its contract: the word of an entry is its rank.
+-- `slot::entry::rank_of` meets its contract: the word of an entry is its rank.
 -- Assumes nothing.
 use borrow.Author.Needs.{needs, scaled-fits}
-use Rattle.rank.proofs.Slots.{slot-inside, slot-rank}
-use Rattle.rank.proofs.entry.rank_of.Statement.{statement}
-use Rattle.rank.proofs.entry.rank_of.Tie as tie
-use Rattle.rank.proofs.entry.rank_of.Reads as reads
-use Rattle.rank.proofs.entry.rank_of.Lts as lts
-use Rattle.rank.proofs.entry.slot_of.Reads as slot-of-reads
+use Rattle.slot.proofs.Slots.{slot-inside, slot-rank}
+use Rattle.slot.proofs.entry.rank_of.Statement.{statement}
+use Rattle.slot.proofs.entry.rank_of.Tie as tie
+use Rattle.slot.proofs.entry.rank_of.Reads as reads
+use Rattle.slot.proofs.entry.rank_of.Lts as lts
+use Rattle.slot.proofs.entry.slot_of.Reads as slot-of-reads
 
 slot-of-requires : tie.Need-slot-of-requires
 slot-of-requires c κs = search needs

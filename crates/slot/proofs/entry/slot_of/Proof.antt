@@ -1,4 +1,4 @@
--- `rank::entry::slot_of` meets its contract, by those of its parts.
+-- `slot::entry::slot_of` meets its contract, by those of its parts.
 -- Assumes nothing.
 use native.Mathlib.Omega.{arith}
 use mathlib.Core.Path.{sym, ap, ap₂, _∙_}
@@ -7,17 +7,17 @@ use Prim.Native.Nat.{ℕ, _+_}
 use lib.ListN.{getD}
 use lib.Dec.{eqb}
 use borrow.Author.Tests.{eqb-true}
-use Rattle.rank.specs.Tables.{firstStep, checkWord}
-use Rattle.rank.proofs.Slots.{slot-by, cond-low}
+use Rattle.slot.specs.Slots.{firstStep, checkWord}
+use Rattle.slot.proofs.Slots.{slot-by, cond-low}
 use borrow.Author.Needs.{needs}
-use Rattle.rank.proofs.entry.slot_of.Statement.{statement}
-use Rattle.rank.proofs.entry.slot_of.Tie as tie
-use Rattle.rank.proofs.entry.slot_of.Reads as reads
-use Rattle.rank.proofs.entry.slot_of.Lts as lts
+use Rattle.slot.proofs.entry.slot_of.Statement.{statement}
+use Rattle.slot.proofs.entry.slot_of.Tie as tie
+use Rattle.slot.proofs.entry.slot_of.Reads as reads
+use Rattle.slot.proofs.entry.slot_of.Lts as lts
 use Rattle.image.proofs.word.is_kind.Reads as is-kind-reads
 use Rattle.image.proofs.word.payload_of.Reads as payload-of-reads
 use Rattle.walk.proofs.sequence.selected_index.Reads as selected-index-reads
-use Rattle.rank.proofs.entry.check_slot.Reads as check-slot-reads
+use Rattle.slot.proofs.entry.check_slot.Reads as check-slot-reads
 
 is-kind-requires : tie.Need-is-kind-requires
 is-kind-requires c κs = search needs

@@ -1,12 +1,12 @@
--- `rank::entry::traits_of` meets its contract, by those of its parts.
+-- `slot::entry::traits_of` meets its contract, by those of its parts.
 -- Assumes nothing.
 use borrow.Author.Needs.{needs}
-use Rattle.rank.proofs.entry.traits_of.Statement.{statement}
-use Rattle.rank.proofs.entry.traits_of.Tie as tie
-use Rattle.rank.proofs.entry.traits_of.Reads as reads
-use Rattle.rank.proofs.entry.traits_of.Lts as lts
-use Rattle.rank.proofs.entry.passes.Reads as passes-reads
-use Rattle.rank.proofs.entry.rank_of.Reads as rank-of-reads
+use Rattle.slot.proofs.entry.traits_of.Statement.{statement}
+use Rattle.slot.proofs.entry.traits_of.Tie as tie
+use Rattle.slot.proofs.entry.traits_of.Reads as reads
+use Rattle.slot.proofs.entry.traits_of.Lts as lts
+use Rattle.slot.proofs.entry.passes.Reads as passes-reads
+use Rattle.slot.proofs.entry.rank_of.Reads as rank-of-reads
 
 rank-of-requires : tie.Need-rank-of-requires
 rank-of-requires c κs = search needs

@@ -1,11 +1,11 @@
--- `rank::entry::mark_of` meets its contract, by those of its parts.
+-- `slot::entry::mark_of` meets its contract, by those of its parts.
 -- Assumes nothing.
 use borrow.Author.Needs.{needs}
-use Rattle.rank.proofs.entry.mark_of.Statement.{statement}
-use Rattle.rank.proofs.entry.mark_of.Tie as tie
-use Rattle.rank.proofs.entry.mark_of.Reads as reads
-use Rattle.rank.proofs.entry.mark_of.Lts as lts
-use Rattle.rank.proofs.entry.choose.Reads as choose-reads
+use Rattle.slot.proofs.entry.mark_of.Statement.{statement}
+use Rattle.slot.proofs.entry.mark_of.Tie as tie
+use Rattle.slot.proofs.entry.mark_of.Reads as reads
+use Rattle.slot.proofs.entry.mark_of.Lts as lts
+use Rattle.slot.proofs.entry.choose.Reads as choose-reads
 use Rattle.column.proofs.sets.holds.Reads as holds-reads
 
 holds-requires : tie.Need-holds-requires

@@ -1,15 +1,15 @@
--- `rank::entry::step_mark` meets its contract, by the side.
+-- `slot::entry::step_mark` meets its contract, by the side.
 -- Assumes nothing.
 use borrow.Author.Needs.{needs}
 use native.Mathlib.Omega.{arith}
 use mathlib.Core.Path.{_∙_}
-use Rattle.rank.proofs.Slots.{side-low, side-mark}
-use Rattle.rank.proofs.entry.step_mark.Statement.{statement}
-use Rattle.rank.proofs.entry.step_mark.Tie as tie
-use Rattle.rank.proofs.entry.step_mark.Reads as reads
-use Rattle.rank.proofs.entry.step_mark.Lts as lts
-use Rattle.rank.proofs.entry.choose.Reads as choose-reads
-use Rattle.rank.proofs.entry.mark_of.Reads as mark-of-reads
+use Rattle.slot.proofs.Slots.{side-low, side-mark}
+use Rattle.slot.proofs.entry.step_mark.Statement.{statement}
+use Rattle.slot.proofs.entry.step_mark.Tie as tie
+use Rattle.slot.proofs.entry.step_mark.Reads as reads
+use Rattle.slot.proofs.entry.step_mark.Lts as lts
+use Rattle.slot.proofs.entry.choose.Reads as choose-reads
+use Rattle.slot.proofs.entry.mark_of.Reads as mark-of-reads
 
 mul-at : tie.Need-mul-at
 mul-at c = search needs

@@ -18,7 +18,7 @@ ghost use lib.Dec.{eqb};
 ghost use Rattle.library.specs.Tables.{maskWords};
 ghost use Rattle.image.specs.Word.{kind, isEntry, mostFacts};
 ghost use Rattle.library.specs.Library.{entryOf};
-ghost use Rattle.rank.specs.Tables.{ownCheck, firstStep, checkWord, slotOf, rankIn, passIn, traitsIn, RankWithin, markOf, stepMark, checkMark, markRank, ItemsRankable, ItemsRanked, checksWritten, StepsRanked};
+ghost use Rattle.slot.specs.Slots.{ownCheck, firstStep, checkWord, slotOf, rankIn, passIn, traitsIn, RankWithin, markOf, stepMark, checkMark, markRank, ItemsRankable, ItemsRanked, checksWritten, StepsRanked};
 
 // A table of ranks has a word for each sequence. From word `none` on come those of the items: the fact that the table is about, the rank of a
 // check of any other fact, the rank of a check of that fact, and those of the steps. These are counted from word `none`.

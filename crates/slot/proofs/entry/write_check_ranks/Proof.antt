@@ -1,16 +1,16 @@
--- `rank::entry::write_check_ranks` meets its contract: three words are written.
+-- `slot::entry::write_check_ranks` meets its contract: three words are written.
 -- Assumes nothing.
 use native.Mathlib.Omega.{arith}
 use Prim.Native.Nat.{_+_}
 use lib.ListN.{set, length-set}
-use Rattle.rank.specs.Tables.{otherCheck}
+use Rattle.slot.specs.Slots.{otherCheck}
 use borrow.Author.Needs.{needs}
-use Rattle.rank.proofs.entry.write_check_ranks.Statement.{statement}
-use Rattle.rank.proofs.entry.write_check_ranks.Tie as tie
-use Rattle.rank.proofs.entry.write_check_ranks.Reads as reads
-use Rattle.rank.proofs.entry.write_check_ranks.Lts as lts
-use Rattle.rank.proofs.entry.check_mark.Reads as check-mark-reads
-use Rattle.rank.proofs.entry.mark_rank.Reads as mark-rank-reads
+use Rattle.slot.proofs.entry.write_check_ranks.Statement.{statement}
+use Rattle.slot.proofs.entry.write_check_ranks.Tie as tie
+use Rattle.slot.proofs.entry.write_check_ranks.Reads as reads
+use Rattle.slot.proofs.entry.write_check_ranks.Lts as lts
+use Rattle.slot.proofs.entry.check_mark.Reads as check-mark-reads
+use Rattle.slot.proofs.entry.mark_rank.Reads as mark-rank-reads
 
 cast-base : tie.Need-cast-base
 cast-base c = search needs

@@ -14,7 +14,7 @@ use Rattle.image.specs.Word.{kind, payload, isKind, isEntry}
 use Rattle.library.specs.Library.{step, check, Entry, item, call, entryOf}
 use Rattle.library.proofs.Decode.{step-entry, check-entry, call-entry}
 use Rattle.image.proofs.Words.{entry-cases}
-use Rattle.rank.specs.Tables.{otherCheck, ownCheck, firstStep, checkWord, entryNumber, slotOf, rankIn, RankWithin, markOf, stepMark, checkMark, markRank, ItemsRankable, ItemsRanked, checksWritten, StepsRanked}
+use Rattle.slot.specs.Slots.{otherCheck, ownCheck, firstStep, checkWord, entryNumber, slotOf, rankIn, RankWithin, markOf, stepMark, checkMark, markRank, ItemsRankable, ItemsRanked, checksWritten, StepsRanked}
 use Rattle.question.specs.declared.asked.Asked.{Asked}
 use Rattle.general.proofs.Scan.{getD-inside}
 
