@@ -29,9 +29,9 @@
  *     (`x.run | y.run`): word 1 of a card, 1 for 0
  *   row, a touch counts though a later entry always touches
  *     (`x.present & x.present`): word 3 of a card, 1 for 0
- *   row, a run may leave an always set fact untouched
+ *   writer, a run may leave an always set fact untouched
  *     (`union(rival, rival)`): word 6 of a card, 1 for 0
- *   row, a card too many is written (`c <= n`): word 1 of a card past
+ *   writer, a card too many is written (`c <= n`): word 1 of a card past
  *     the last
  *   link, a link with one link more after it is taken (`t.rank <= k + 1`): a
  *     link's entry does not give the touch, or is no sequence
@@ -47,13 +47,13 @@
  *   link, the oldest alternative that fits is kept in place of the newest, in
  *     `chosen_link` and, by itself, in `chosen_alternative`: a link is not the
  *     newest choice
- *   library, the alternatives are counted from 1; those of later sequences are
- *     taken in; on the way back an empty alternative is passed over, an entry
- *     is taken for an opener, or the first word is (five breaks): a link is
- *     about another sequence, or about no alternative
- *   library, the second opener is kept in place of the last: beside a link's
+ *   walk, the alternatives are counted from 1; those of later sequences are
+ *     taken in; on the way back an empty alternative is passed over, an entry is
+ *     taken for an opener, or the first word is (five breaks): a link is about
+ *     another sequence, or about no alternative
+ *   walk, the second opener is kept in place of the last: beside a link's
  *     entry another touches the fact, or has no run
- *   rank, an entry behind the position is held to what is asked of one ahead
+ *   slot, an entry behind the position is held to what is asked of one ahead
  *     (`passes(none, ahead, w)`): none, and a run has the outcome
  *   rank, entries ahead of the position may touch
  *     (`choose(t.ahead, x.floor, x.floor)`): a chain, and no run has the
@@ -63,7 +63,7 @@
  *     has the outcome
  *   outcome, an alternative with a dead entry has the row of what was read
  *     before it, or a run: word 1 of a card, 3 for 0
- *   library, after a dead entry five words are passed where four were tested,
+ *   walk, after a dead entry five words are passed where four were tested,
  *     or an opener after three entries (two breaks): word 1 of a card
  *   question, one word more is written: words past the chain are changed
  *   settling, callers are stale where a visit changed nothing, and not where it

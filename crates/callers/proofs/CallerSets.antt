@@ -23,9 +23,9 @@ use Rattle.image.proofs.Words.{entry-of}
 use Rattle.general.specs.Tests.{some}
 use Rattle.general.proofs.Bools.{or-right, or-cases, nor-left, nor-right}
 use Rattle.library.specs.Library.{Item, step, check, Entry, item, entryOf, Alternative, entriesFrom, alternativesFrom}
-use Rattle.library.specs.Walk.{entriesEnd}
+use Rattle.walk.specs.Walk.{entriesEnd}
 use Rattle.library.proofs.Decode.{kind-is, step-entry, check-entry, call-entry}
-use Rattle.library.proofs.Walking.{end-skips, end-ends}
+use Rattle.walk.proofs.Walking.{end-skips, end-ends}
 use Rattle.callers.proofs.Calls.{left, left-entry, left-opener, left-none}
 use Rattle.column.specs.Column.{bit, withFact}
 use Rattle.column.specs.Sets.{inColumn, difference}

@@ -11,7 +11,7 @@ use borrow.Author.Tests.{eq-eqb}
 use Rattle.image.specs.Word.{isKind, isEntry}
 use Rattle.library.specs.Library.{Item, Entry, item, call, entryOf, Alternative, entriesFrom, alternativesFrom}
 use Rattle.library.proofs.Decode.{entry-opens-none}
-use Rattle.library.proofs.Walking.{entries-at, alternatives-at}
+use Rattle.walk.proofs.Walking.{entries-at, alternatives-at}
 use Rattle.general.specs.Tests.{All, some}
 use Rattle.general.proofs.Bools.{or-left, or-right}
 use Rattle.callers.specs.Callers.{isCallOf, callsOf}

@@ -11,7 +11,7 @@ use Rattle.image.specs.Word.{mostSequences}
 use Rattle.general.specs.Numbers.{Zeros}
 use Rattle.general.specs.Tests.{some}
 use Rattle.library.specs.Library.{Entry, item, call, Alternative}
-use Rattle.library.specs.Walk.{alternativesAt}
+use Rattle.walk.specs.Walk.{alternativesAt}
 
 -- the words of a set: four, of 64 bits, room for 256 sequences
 abbrev pub setWords : ℕ

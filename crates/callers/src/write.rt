@@ -10,7 +10,7 @@ use image::word::KIND_STEP_ENTRY;
 use image::word::PAYLOADS;
 use image::word::is_kind;
 use image::word::payload_of;
-use library::walk::entries_end;
+use walk::sequence::entries_end;
 ghost use mathlib.Core.Path.{_≡_};
 ghost use mathlib.Core.Bool.{_||_};
 ghost use Prim.Native.Nat.{_≤_, _<_};

@@ -19,7 +19,7 @@ use Rattle.library.proofs.Accepted.{faultless, counted}
 use Rattle.outcome.specs.Area.{outcomes}
 use Rattle.cards.specs.Layout.{cardWords}
 use Rattle.cards.specs.Card.{cards}
-use Rattle.row.specs.Card.{tableCards}
+use Rattle.writer.specs.Card.{tableCards}
 use Rattle.card.specs.Answer.{cardsGiven, cardsOf, areaWith, CardsCalled}
 use Rattle.card.specs.declared.answer.Cards.{Cards}
 use Rattle.card.proofs.Table.{table-cards}

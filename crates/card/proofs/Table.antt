@@ -20,7 +20,7 @@ use Rattle.runs.specs.Possible.{columnPossible, possibleIn, brokenIn, hasRun}
 use Rattle.outcome.specs.Area.{outcomeWord, outcomeRows, outcomes}
 use Rattle.cards.specs.Card.{may, always, mayNeed, maySet, mayClear, changeable, flags, card, cardsFrom, cards}
 use Rattle.row.specs.Words.{rowWords}
-use Rattle.row.specs.Card.{flagsOf, alwaysOf, rowCard, tableCards}
+use Rattle.writer.specs.Card.{flagsOf, alwaysOf, rowCard, tableCards}
 
 module _ (L : Library) (low : 1 ≤ L .facts) (high : L .facts ≤ 64) (c : ℕ) where
   -- the lowest bit of a column says of fact 0 what the column says

@@ -1,11 +1,11 @@
 // The lines that the program prints: a card, the cards of all sequences, a refusal.
 use image::word::MOST_SEQUENCES;
-use row::card::CARD_WORDS;
 use text::bytes::put_byte;
 use text::bytes::put_bytes;
 use text::number::DECIMAL;
 use text::number::HEXADECIMAL;
 use text::number::put_numeral;
+use writer::card::CARD_WORDS;
 ghost use mathlib.Core.List.{_∷_};
 ghost use Prim.Native.Nat.{_+_, _*_, _≤_};
 ghost use lib.ListN.{length};

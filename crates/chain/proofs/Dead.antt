@@ -12,14 +12,15 @@ use lib.Dec.{ltb}
 use borrow.Author.Tests.{ltb-true}
 use Rattle.general.proofs.Bools.{or-left, or-right, or-cases, both-ways}
 use Rattle.library.specs.Library.{Library, Entry, item, call}
-use Rattle.library.specs.Walk.{namesNone}
+use Rattle.walk.specs.Walk.{namesNone}
 use Rattle.runs.specs.Possible.{hasRun}
 use Rattle.runs.specs.Touch.{Side, last, first, Question}
 use Rattle.chains.specs.Ranks.{Ranks, Attained, Linked, unranked, entryRank, entryPasses, hasMark, canStay, canRun, aheadOf, behindOf}
 use Rattle.chains.proofs.Entries.{stays-run}
 use Rattle.chains.proofs.Stands.{stands-run}
 use Rattle.runs.proofs.Columns.{hasRun-iff}
-use Rattle.rank.specs.Tables.{inRanks, lacksIn, lostIn}
+use Rattle.slot.specs.Slots.{inRanks}
+use Rattle.rank.specs.Tables.{lacksIn, lostIn}
 use Rattle.chain.specs.Described.{ItemsBy, Described}
 use Rattle.chain.proofs.Describes.{rank-is, pass-is}
 

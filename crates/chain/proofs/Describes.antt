@@ -18,7 +18,7 @@ use Rattle.column.specs.Sets.{inColumn}
 use Rattle.image.specs.Word.{mostFacts}
 use Rattle.library.specs.Library.{has, Library, Step, Alternative, Item, step, check, Entry, item, call, entryAt}
 use Rattle.library.specs.Tables.{maskOf}
-use Rattle.library.specs.Walk.{alternativesAt}
+use Rattle.walk.specs.Walk.{alternativesAt}
 use Rattle.library.proofs.Decode.{has-none, has-one}
 use Rattle.library.proofs.Lookup.{mask-has}
 use Rattle.runs.specs.Run.{alternativesOf}
@@ -30,7 +30,8 @@ use Rattle.general.specs.Scan.{every}
 use Rattle.chains.specs.Ranks.{Ranks, Attained, Linked, Unlowered, unranked, entryRank, entryPasses, depthLook, passLook, hasMark, aheadOf, behindOf, touchLook, untouchedLook}
 use Rattle.chains.specs.Answer.{Answer, none, shown, newest, chosenAlternative, followed, linksFrom, touchAnswer, untouchedAnswer}
 use Rattle.rank.specs.Walk.{newestLink, depthFrom, fewestFrom}
-use Rattle.rank.specs.Tables.{entryNumber, firstStep, inRanks, itemRank, rankIn, passIn, depthIn, everyIn, fewestIn, lookIn, stepMark, checkMark, markRank, checkRank, stepRank, ItemsRanked}
+use Rattle.slot.specs.Slots.{entryNumber, firstStep, inRanks, itemRank, rankIn, passIn, stepMark, checkMark, markRank, checkRank, stepRank, ItemsRanked}
+use Rattle.rank.specs.Tables.{depthIn, everyIn, fewestIn, lookIn}
 use Rattle.link.specs.Choice.{linkIn, alternativeIn, linkEntry, linkAt, linksIn, untouchedIn, answerIn}
 use Rattle.chain.specs.Described.{isFirst, markNumber, Asks, Masked, Placed, ItemsBy, Described}
 use Rattle.question.specs.declared.asked.Asked.{Asked}

@@ -16,7 +16,7 @@ use lib.Seq.{getD-take, ext-getD, length-take-le}
 use Rattle.rules.specs.Checked.{accepts}
 use Rattle.rules.specs.Rules.{opened}
 use Rattle.library.specs.Library.{Library, Sequence, Entry, alternativesFrom, sequencesPart, libraryOf, Item}
-use Rattle.library.specs.Walk.{alternativesAt}
+use Rattle.walk.specs.Walk.{alternativesAt}
 use Rattle.general.specs.Tests.{All}
 use Rattle.library.specs.Accepted.{SequenceWord, Counted}
 use Rattle.image.specs.declared.answer.Head.{Head}
@@ -36,7 +36,8 @@ use Rattle.general.specs.Scan.{every}
 use Rattle.chains.specs.Ranks.{Look, passLook, unranked, entryPasses, hasMark, canStay, canRun, aheadOf, behindOf, touchLook, untouchedLook}
 use Rattle.chains.specs.Answer.{answer, ranksIn}
 use Rattle.rank.specs.Visits.{Visits, RanksSettled}
-use Rattle.rank.specs.Tables.{firstStep, inRanks, itemRank, passIn, lookIn, Rankable, RanksReadable, RanksVisitable, ItemsRankable, Ranked}
+use Rattle.slot.specs.Slots.{firstStep, inRanks, itemRank, passIn, ItemsRankable}
+use Rattle.rank.specs.Tables.{lookIn, Rankable, RanksReadable, RanksVisitable, Ranked}
 use Rattle.link.specs.Choice.{Choosable, answerIn}
 use Rattle.chain.specs.Described.{Asks, Masked, Placed, ItemsBy, Described, FindAsked, ranksLength, RanksAsked, AreasAsked, Unranked, Findable, EntriesMarked, forUntouched, forRun, isFirst, markNumber, sideBy, markBy, questionBy}
 use Rattle.question.specs.declared.asked.Asked.{Asked}

@@ -8,7 +8,7 @@ use mathlib.Core.List.{List, [], _∷_}
 use lib.ListN.{length, getD, drop}
 use Rattle.rules.specs.Checked.{accepts}
 use Rattle.library.specs.Library.{Library, Entry, libraryOf, Item, step}
-use Rattle.library.specs.Walk.{alternativesAt}
+use Rattle.walk.specs.Walk.{alternativesAt}
 use Rattle.image.specs.declared.answer.Head.{Head}
 use Rattle.library.specs.Tables.{maskOf}
 use Rattle.general.specs.Numbers.{Zeros}
@@ -17,7 +17,8 @@ use Rattle.runs.specs.Run.{alternativesOf}
 use Rattle.runs.specs.Domain.{actionOf}
 use Rattle.runs.specs.Touch.{Side, last, first, Mark, present, absent, untouched, Question}
 use Rattle.chains.specs.Ranks.{unranked, aheadOf, behindOf}
-use Rattle.rank.specs.Tables.{firstStep, itemRank, passIn, Rankable, ItemsRankable, Ranked}
+use Rattle.slot.specs.Slots.{firstStep, itemRank, passIn, ItemsRankable}
+use Rattle.rank.specs.Tables.{Rankable, Ranked}
 use Rattle.link.specs.Choice.{Opened, answerIn}
 use Rattle.question.specs.Answer.{byRank}
 use Rattle.question.specs.Reply.{Answered}

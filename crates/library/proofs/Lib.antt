@@ -6,5 +6,3 @@ pub mod Accepted
 pub mod Lookup
 pub mod Rows
 pub mod Sizes
-pub mod Walking
-pub mod Before

@@ -41,6 +41,10 @@ pub record SequenceWord (h : Head) (w : ℕ) : Type 0 where
   pub sequence : kind w ≡ 9 → payload w < h .sequences
   pub check : kind w ≡ 13 → payload w < h .facts
 
+-- a word that is an entry if its kind is 8 or above: one of the sequences' part, in which no other word has such a kind
+abbrev pub HighEntry : ℕ → Type 0
+HighEntry w = 8 ≤ kind w → isEntry w ≡ true
+
 -- the openers of kind k among the words have their numbers, counted from 0 in their order
 abbrev pub Numbered : ℕ → List ℕ → Type 0
 Numbered k ws = (i : ℕ) → i < length ws → kind (getD ws i 0) ≡ k → payload (getD ws i 0) ≡ opened k (take i ws)

@@ -2,4 +2,3 @@ pub mod Library
 pub mod Seam
 pub mod Accepted
 pub mod Tables
-pub mod Walk

@@ -1,5 +1,3 @@
-// The library that an accepted image holds: its two parts, the masks of its steps and the places of its sequences, and the walk over a
-// sequence's words.
+// The library that an accepted image holds: its two parts, the masks of its steps and the places of its sequences.
 pub mod parts;
 pub mod tables;
-pub mod walk;

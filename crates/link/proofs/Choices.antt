@@ -14,18 +14,18 @@ use lib.Dec.{leb, ltb}
 use borrow.Author.Tests.{lt-ltb, le-ltb}
 use Rattle.image.specs.Word.{payload, isEntry}
 use Rattle.library.specs.Library.{step, Entry, item, entryOf, Alternative, entriesFrom, alternativesFrom, entryAt}
-use Rattle.library.specs.Walk.{Before, openerBefore, LastBefore, AllBefore}
+use Rattle.walk.specs.Walk.{Before, openerBefore, LastBefore, AllBefore}
 use Rattle.general.specs.Scan.{every, lastIndex}
 use Rattle.chains.specs.Link.{touchLink}
 use Rattle.chains.specs.Answer.{newest}
 use Rattle.rank.specs.Walk.{tailFrom, positionFrom, newestLink}
-use Rattle.rank.specs.Tables.{entryNumber, rankIn, passIn, traitsIn}
+use Rattle.slot.specs.Slots.{entryNumber, rankIn, passIn, traitsIn}
 use Rattle.link.specs.Choice.{linkIn, Chosen}
-use Rattle.library.specs.declared.walk.Alternatives.{Alternatives}
-use Rattle.rank.specs.declared.entry.Traits.{Traits}
-use Rattle.library.proofs.Walking.{Folding, folding-start, folding-inside, folding-turn, folding-read, folding-entry, folding-out}
-use Rattle.library.proofs.Before.{before-few, Back, before-back}
-use Rattle.rank.proofs.Slots.{entry-number}
+use Rattle.walk.specs.declared.sequence.Alternatives.{Alternatives}
+use Rattle.slot.specs.declared.entry.Traits.{Traits}
+use Rattle.walk.proofs.Walking.{Folding, folding-start, folding-inside, folding-turn, folding-read, folding-entry, folding-out}
+use Rattle.walk.proofs.Before.{before-few, Back, before-back}
+use Rattle.slot.proofs.Slots.{entry-number}
 use Rattle.rank.proofs.Walk.{tail-from}
 
 -- ---- the newest alternative that passes a test

@@ -14,11 +14,11 @@ use lib.Dec.{eqb, leb, ltb}
 use borrow.Author.Tests.{eq-eqb, ne-eqb, lt-ltb, le-ltb, leb-true}
 use Rattle.general.specs.Tests.{All}
 use Rattle.library.specs.Library.{step, Entry, item, entryOf, alternativesFrom, entryAt}
-use Rattle.library.specs.Walk.{alternativesAt}
+use Rattle.walk.specs.Walk.{alternativesAt}
 use Rattle.question.specs.Answer.{linkLength, linkCount, byRank, shownLinks}
 use Rattle.chains.specs.Link.{Link, touchLink, choiceWord, linkWords, chainWords}
-use Rattle.rank.specs.Tables.{entryNumber}
-use Rattle.rank.proofs.Slots.{entry-number}
+use Rattle.slot.specs.Slots.{entryNumber}
+use Rattle.slot.proofs.Slots.{entry-number}
 use Rattle.link.specs.Choice.{linkIn, alternativeIn, Chosen, linkEntry, linkAt, linksIn, untouchedIn, untouchedWords, answerIn}
 use Rattle.link.specs.declared.link.Choice.{Choice}
 use Rattle.chains.specs.Answer.{Answer, none, shown}

@@ -6,11 +6,12 @@ use mathlib.Core.List.{List, [], _∷_, _++_}
 use lib.ListN.{length, getD, drop}
 use lib.Dec.{eqb, leb, ltb}
 use Rattle.library.specs.Library.{Alternative, alternativesFrom, entryAt}
-use Rattle.library.specs.Walk.{alternativesAt}
+use Rattle.walk.specs.Walk.{alternativesAt}
 use Rattle.chains.specs.Link.{Link, touchLink, untouchedLink, Chain, chainWords}
 use Rattle.question.specs.declared.asked.Asked.{Asked}
 use Rattle.rank.specs.Walk.{newestLink}
-use Rattle.rank.specs.Tables.{entryNumber, rankIn, passIn, depthIn, RanksReadable}
+use Rattle.slot.specs.Slots.{entryNumber, rankIn, passIn}
+use Rattle.rank.specs.Tables.{depthIn, RanksReadable}
 use Rattle.chains.specs.Answer.{Answer, shown, newest}
 use Rattle.chains.specs.Answer as known
 use Rattle.link.specs.declared.link.Choice.{Choice}

@@ -1,12 +1,12 @@
 // The choice of a link: "Among equally good choices a link takes the highest alternative, then the lowest position."
 use image::word::payload_of;
-use library::walk::alternatives_of;
-use library::walk::opener_before;
-use library::walk::part_entry;
-use library::walk::selected_index;
-use library::walk::word_at;
-use rank::entry::passes;
-use rank::entry::traits_of;
+use walk::sequence::alternatives_of;
+use walk::sequence::opener_before;
+use walk::sequence::part_entry;
+use walk::sequence::selected_index;
+use walk::sequence::word_at;
+use slot::entry::passes;
+use slot::entry::traits_of;
 use rank::read::greatest_depth;
 ghost use mathlib.Core.Path.{_≡_};
 ghost use Prim.Native.Nat.{_+_, _≤_, _<_};
@@ -14,7 +14,8 @@ ghost use lib.ListN.{length, drop};
 ghost use Rattle.image.specs.Word.{mostWords};
 ghost use Rattle.library.specs.Library.{entriesFrom, alternativesFrom};
 ghost use Rattle.rank.specs.Walk.{tailFrom};
-ghost use Rattle.rank.specs.Tables.{passIn, Rankable, RanksReadable};
+ghost use Rattle.slot.specs.Slots.{passIn};
+ghost use Rattle.rank.specs.Tables.{Rankable, RanksReadable};
 ghost use Rattle.link.specs.Choice.{alternativeIn, Chosen};
 
 // An alternative, the position of an entry there, and the number that the entry names.

@@ -16,7 +16,7 @@ use Rattle.column.specs.Column.{bit, column}
 use Rattle.column.proofs.Bits.{bit-le, column-is, column-none}
 use Rattle.column.proofs.Operations.{column-all}
 use Rattle.library.specs.Library.{Library, Entry, item, call}
-use Rattle.library.specs.Walk.{namesNone}
+use Rattle.walk.specs.Walk.{namesNone}
 use Rattle.image.specs.declared.answer.Head.{Head}
 use Rattle.runs.specs.Touch.{Side, last, first, Mark, present, absent, untouched}
 use Rattle.runs.specs.Possible.{columnPossible, hasRun}

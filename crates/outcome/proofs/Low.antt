@@ -12,7 +12,7 @@ use lib.Pow.{pow-pos, ones-lt}
 use Rattle.column.specs.Column.{withFact}
 use Rattle.column.specs.Sets.{difference}
 use Rattle.library.specs.Library.{Entry, step, check, item, call, Alternative}
-use Rattle.library.specs.Walk.{alternativesAt}
+use Rattle.walk.specs.Walk.{alternativesAt}
 use Rattle.row.specs.Words.{rowWords, allFacts, allBits, noRow, startRow, notWord, stepMarks, stepRow, checkRow, laterMarks, joinRows, orMarks, orRows, liveRow, rowIn}
 use Rattle.outcome.specs.Walks.{entryIn, joinedFrom, alternativeIn, unitedFrom}
 use Rattle.outcome.specs.Visited.{visited}

@@ -9,7 +9,7 @@ use lib.ListN.{length}
 use borrow.Author.Tests.{not-true, not-false}
 use Rattle.row.specs.Words.{rowWords, noRow, rowIn, withRow, sameRows}
 use Rattle.settling.proofs.Visits.{Lowers}
-use Rattle.library.specs.Walk.{alternativesAt}
+use Rattle.walk.specs.Walk.{alternativesAt}
 use Rattle.outcome.specs.Walks.{unitedFrom}
 use Rattle.settling.specs.Settling.{Visit}
 use Rattle.outcome.specs.Visited.{lacking, RowsVisitable, visitedRow, visited}

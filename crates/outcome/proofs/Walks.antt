@@ -10,9 +10,8 @@ use lib.Bits.{and-zero-l, and-zero-r}
 use lib.Dec.{ltb}
 use borrow.Author.Tests.{eqb-true, lt-ltb}
 use Rattle.image.specs.Word.{kind, payload, isKind, isEntry}
-use Rattle.library.specs.Library.{Entry, step, check, item, call, Alternative, alternativesFrom}
-use Rattle.library.specs.Walk.{entryOf}
-use Rattle.library.proofs.Walking.{opener-inside, entries-at, alternatives-at, Walking, walking-here}
+use Rattle.library.specs.Library.{Entry, step, check, item, call, entryOf, Alternative, alternativesFrom}
+use Rattle.walk.proofs.Walking.{opener-inside, entries-at, alternatives-at, Walking, walking-here}
 use Rattle.row.specs.Words.{noRow, startRow, joinRows, orRows, liveRow, rowIn}
 use Rattle.outcome.specs.Walks.{RowWithin, isDead, entryIn, joinedFrom, unitedFrom, EmptiesEnd}
 use Rattle.row.specs.declared.words.Row.{Row}

@@ -2,7 +2,7 @@
 use Prim.Native.Nat.{ℕ, _+_, _-_, _*_, _^_, _≤_, _<_}
 use mathlib.Core.List.{List, [], _∷_}
 use lib.ListN.{length, getD}
-use Rattle.library.specs.Walk.{alternativesAt}
+use Rattle.walk.specs.Walk.{alternativesAt}
 use Rattle.row.specs.Words.{rowWords, noRow, orRows, rowIn, withRow}
 use Rattle.outcome.specs.Walks.{RowsReadable, unitedFrom}
 use Rattle.row.specs.declared.words.Row.{Row}

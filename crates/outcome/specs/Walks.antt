@@ -8,7 +8,7 @@ use lib.ListN.{length, getD, drop, replicate}
 use lib.Dec.{ltb}
 use Rattle.image.specs.Word.{kind, payload, mostFacts}
 use Rattle.library.specs.Library.{Entry, step, check, item, call, Alternative, entriesFrom, alternativesFrom}
-use Rattle.library.specs.Walk.{namesNone, walkEnd}
+use Rattle.walk.specs.Walk.{namesNone, walkEnd}
 use Rattle.row.specs.Words.{rowWords, startRow, stepRow, checkRow, joinRows, orRows, liveRow, rowIn}
 use Rattle.row.specs.declared.words.Row.{Row}
 use Rattle.outcome.specs.declared.read.Read.{Read}

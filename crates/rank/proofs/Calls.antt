@@ -10,7 +10,7 @@ use lib.Dec.{eqb, ltb}
 use lib.ListN.{length, getD, set, take}
 use lib.Seq.{set-getD, take-set-lt, drop-set-lt, getD-set-same, getD-set-other}
 use Rattle.library.specs.Library.{Entry, Alternative}
-use Rattle.library.specs.Walk.{alternativesAt}
+use Rattle.walk.specs.Walk.{alternativesAt}
 use Rattle.general.specs.Tests.{All}
 use Rattle.general.specs.Scan.{every}
 use Rattle.callers.specs.Callers.{calls}
@@ -18,7 +18,8 @@ use Rattle.callers.proofs.Calls.{calls-all}
 use Rattle.settling.proofs.Stale.{Local}
 use Rattle.question.specs.declared.asked.Asked.{Asked}
 use Rattle.rank.specs.Walk.{loweredFrom, depthFrom, fewestFrom}
-use Rattle.rank.specs.Tables.{itemRank, rankIn, passIn, lookIn, visitedRank, visitedRanks}
+use Rattle.slot.specs.Slots.{itemRank, rankIn, passIn}
+use Rattle.rank.specs.Tables.{lookIn, visitedRank, visitedRanks}
 
 -- ---- what is made of entries depends on what is said of each
 

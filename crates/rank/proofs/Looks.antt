@@ -11,16 +11,17 @@ use lib.ListN.{length, getD, drop}
 use lib.Dec.{eqb, leb, ltb}
 use borrow.Author.Tests.{eq-eqb, ne-eqb, leb-true, ltb-false, not-true}
 use Rattle.image.specs.Word.{isKind, isEntry}
-use Rattle.library.specs.Library.{Entry, Alternative, entriesFrom, alternativesFrom}
+use Rattle.library.specs.Library.{Entry, entryOf, Alternative, entriesFrom, alternativesFrom}
 use Rattle.general.specs.Scan.{every}
-use Rattle.library.specs.Walk.{entryOf, walkEnd}
-use Rattle.library.proofs.Walking.{folding-inside, folding-out, Leaving, leaving-start, leaving-turn, leaving-dead, leaving-rest, leaving-out, Walking, walking-out}
+use Rattle.walk.specs.Walk.{walkEnd}
+use Rattle.walk.proofs.Walking.{folding-inside, folding-out, Leaving, leaving-start, leaving-turn, leaving-dead, leaving-rest, leaving-out, Walking, walking-out}
 use Rattle.general.proofs.Bools.{nor-left, nor-right, or-left, or-right, or-cases}
 use Rattle.rank.specs.Walk.{loweredFrom, depthFrom, fewestFrom}
-use Rattle.rank.specs.Tables.{rankIn, passIn, traitsIn, depthIn, everyIn, fewestAfter, fewestIn, lookIn, lacksIn, lostIn, deadIn, TraitsFound, AlternativeRanked}
+use Rattle.slot.specs.Slots.{rankIn, passIn, traitsIn}
+use Rattle.rank.specs.Tables.{depthIn, everyIn, fewestAfter, fewestIn, lookIn, lacksIn, lostIn, deadIn, TraitsFound, AlternativeRanked}
 use Rattle.rank.proofs.Walk.{cond-same, lowered-least}
 use Rattle.question.specs.declared.asked.Asked.{Asked}
-use Rattle.rank.specs.declared.entry.Traits.{Traits}
+use Rattle.slot.specs.declared.entry.Traits.{Traits}
 use Rattle.rank.specs.declared.read.Found.{Found}
 use Rattle.rank.specs.declared.read.Positions.{Positions}
 use Rattle.rank.specs.declared.read.Read.{Read}

@@ -9,7 +9,7 @@ use lib.Seq.{set-getD, take-set-lt, drop-set-lt, getD-take}
 use lib.Dec.{ltb}
 use borrow.Author.Tests.{ltb-true, ltb-false}
 use Rattle.library.specs.Library.{Sequence, Alternative, alternativesFrom}
-use Rattle.library.specs.Walk.{alternativesAt}
+use Rattle.walk.specs.Walk.{alternativesAt}
 use Rattle.settling.specs.Settling as settling
 use Rattle.runs.specs.Run.{alternativesOf}
 use Rattle.settling.proofs.Visits.{Lowers}
@@ -17,7 +17,8 @@ use Rattle.general.specs.Numbers.{total}
 use Rattle.chains.specs.Ranks.{Look}
 use Rattle.rank.specs.Walk.{loweredFrom}
 use Rattle.rank.specs.Visits.{visited, Visits, RanksSettled}
-use Rattle.rank.specs.Tables.{inRanks, lookIn, Rankable, RanksReadable, RanksVisitable, visitedRank, visitedRanks}
+use Rattle.slot.specs.Slots.{inRanks}
+use Rattle.rank.specs.Tables.{lookIn, Rankable, RanksReadable, RanksVisitable, visitedRank, visitedRanks}
 use Rattle.question.specs.declared.asked.Asked.{Asked}
 use Rattle.general.proofs.Scan.{getD-inside, total-set}
 use Rattle.rank.proofs.Walk.{lowered-low, lowered-from}

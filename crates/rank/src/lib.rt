@@ -1,4 +1,4 @@
-// Ranks: tables of words that say how few links, or how little depth, an entry or a sequence takes, and the visits that settle them.
-pub mod entry;
+// Ranks: how few links, or how little depth, a sequence takes, by its alternatives and the tables as they stand, and the visits that settle
+// them.
 pub mod read;
 pub mod settle;

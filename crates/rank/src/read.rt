@@ -1,13 +1,13 @@
 // What an alternative comes to by the ranks as they stand, and the rank of a sequence lowered by its alternatives.
-use crate::entry::Traits;
-use crate::entry::choose;
-use crate::entry::passes;
-use crate::entry::rank_of;
-use crate::entry::traits_of;
+use slot::entry::Traits;
+use slot::entry::choose;
+use slot::entry::passes;
+use slot::entry::rank_of;
+use slot::entry::traits_of;
 use image::word::KIND_ALTERNATIVE;
 use image::word::is_kind;
-use library::walk::part_entry;
-use library::walk::word_at;
+use walk::sequence::part_entry;
+use walk::sequence::word_at;
 use question::asked::Asked;
 use question::asked::RUN_MARK;
 use question::asked::UNTOUCHED_MARK;

@@ -12,7 +12,7 @@ use Rattle.callers.proofs.write.add_calls.Tie as tie
 use Rattle.callers.proofs.write.add_calls.Reads as reads
 use Rattle.callers.proofs.write.add_calls.Lts as lts
 use Rattle.image.proofs.word.is_kind.Reads as is-kind-reads
-use Rattle.library.proofs.walk.entries_end.Reads as entries-end-reads
+use Rattle.walk.proofs.sequence.entries_end.Reads as entries-end-reads
 use Rattle.callers.proofs.write.add.Reads as add-reads
 use Rattle.callers.proofs.write.goes_on.Reads as goes-on-reads
 

@@ -7,7 +7,7 @@ use Rattle.chain.proofs.call.rank.Statement.{statement}
 use Rattle.chain.proofs.call.rank.Tie as tie
 use Rattle.chain.proofs.call.rank.Reads as reads
 use Rattle.chain.proofs.call.rank.Lts as lts
-use Rattle.rank.proofs.entry.write_item_ranks.Reads as write-item-ranks-reads
+use Rattle.slot.proofs.entry.write_item_ranks.Reads as write-item-ranks-reads
 use Rattle.rank.proofs.settle.settle.Reads as settle-reads
 
 write-item-ranks-requires : tie.Need-write-item-ranks-requires

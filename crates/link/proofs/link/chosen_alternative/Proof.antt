@@ -10,8 +10,8 @@ use lib.Dec.{leb}
 use Rattle.library.specs.Library.{Alternative}
 use Rattle.rank.specs.Tables.{depthIn}
 use Rattle.link.specs.Choice.{alternativeIn}
-use Rattle.library.proofs.Walking.{tested}
-use Rattle.library.proofs.Before.{before-few}
+use Rattle.walk.proofs.Walking.{tested}
+use Rattle.walk.proofs.Before.{before-few}
 use Rattle.link.proofs.Choices.{Seeking, seeking-start, last-within, seeking-turn, seeking-found, seeking-out}
 use Rattle.link.proofs.link.chosen_alternative.Statement.{statement}
 use Rattle.link.proofs.link.chosen_alternative.Tie as tie

@@ -9,8 +9,8 @@ use mathlib.Core.Bool.{true}
 use Prim.Native.Nat.{_+_, _-_, _≤_}
 use lib.ListN.{length, getD}
 use Rattle.image.specs.Word.{isEntry}
-use Rattle.library.proofs.Walking.{tested, folding-inside}
-use Rattle.rank.proofs.Slots.{rankable-high}
+use Rattle.walk.proofs.Walking.{tested, folding-inside}
+use Rattle.rank.proofs.Rankable.{rankable-high}
 use Rattle.link.proofs.Choices.{seeking-start, last-within, Placing, placing-start, placing-turn}
 use Rattle.link.proofs.Choices.{Choosing, choosing-turn, chosen-found, chosen-out}
 use Rattle.link.proofs.link.chosen_link.Statement.{statement}

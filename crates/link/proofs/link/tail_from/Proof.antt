@@ -9,11 +9,11 @@ use Prim.Native.Nat.{ℕ, _-_}
 use lib.ListN.{length, getD, drop}
 use Rattle.image.specs.Word.{isEntry}
 use Rattle.library.specs.Library.{entriesFrom}
-use Rattle.library.specs.Walk.{entryOf}
-use Rattle.library.proofs.Walking.{tested, Folding, folding-start, folding-inside, folding-turn, folding-out}
+use Rattle.library.specs.Library.{entryOf}
+use Rattle.walk.proofs.Walking.{tested, Folding, folding-start, folding-inside, folding-turn, folding-out}
 use Rattle.rank.specs.Walk.{tailFrom}
-use Rattle.rank.specs.Tables.{passIn}
-use Rattle.rank.proofs.Slots.{rankable-high}
+use Rattle.slot.specs.Slots.{passIn}
+use Rattle.rank.proofs.Rankable.{rankable-high}
 use Rattle.link.proofs.Choices.{tail-cons}
 use Rattle.link.proofs.link.tail_from.Statement.{statement}
 use Rattle.link.proofs.link.tail_from.Tie as tie

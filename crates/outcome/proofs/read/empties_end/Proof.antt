@@ -7,7 +7,7 @@ use mathlib.Core.Bool.{true}
 use Prim.Native.Nat.{_-_}
 use lib.ListN.{length, getD}
 use Rattle.image.specs.Word.{isKind, isEntry}
-use Rattle.library.proofs.Walking.{tested, opener-inside}
+use Rattle.walk.proofs.Walking.{tested, opener-inside}
 use Rattle.outcome.specs.Walks.{EmptiesEnd}
 use Rattle.outcome.proofs.Walks.{empties-start, empties-turn}
 use Rattle.outcome.proofs.read.empties_end.Statement.{statement}

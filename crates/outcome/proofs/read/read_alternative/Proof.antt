@@ -11,8 +11,8 @@ use lib.Dec.{ltb}
 use Rattle.image.specs.Word.{kind, payload, isKind, isEntry}
 use Rattle.library.proofs.Decode.{check-entry}
 use Rattle.library.specs.Library.{entriesFrom}
-use Rattle.library.specs.Walk.{entryOf}
-use Rattle.library.proofs.Walking.{tested, folding-inside, folding-out, Leaving, leaving-start, leaving-turn, leaving-dead, leaving-rest, leaving-out}
+use Rattle.library.specs.Library.{entryOf}
+use Rattle.walk.proofs.Walking.{tested, folding-inside, folding-out, Leaving, leaving-start, leaving-turn, leaving-dead, leaving-rest, leaving-out}
 use Rattle.row.specs.Words.{startRow, checkRow, liveRow}
 use Rattle.row.specs.declared.words.Row.{Row}
 use Rattle.outcome.specs.Walks.{isDead, entryIn, joinedFrom}

@@ -9,7 +9,7 @@ use Prim.Native.Nat.{_-_}
 use lib.ListN.{length, getD, drop}
 use Rattle.image.specs.Word.{isKind, isEntry}
 use Rattle.library.specs.Library.{alternativesFrom}
-use Rattle.library.proofs.Walking.{tested, Walking, walking-start, walking-opener-inside, walking-turn, walking-pass, walking-entry-inside, walking-out}
+use Rattle.walk.proofs.Walking.{tested, Walking, walking-start, walking-opener-inside, walking-turn, walking-pass, walking-entry-inside, walking-out}
 use Rattle.row.specs.Words.{noRow}
 use Rattle.outcome.specs.Walks.{isDead, unitedFrom}
 use Rattle.outcome.proofs.Walks.{uniting-empties}

@@ -8,12 +8,11 @@ use mathlib.Core.Bool.{Bool, true, not}
 use Prim.Native.Nat.{ℕ, _-_, _<_}
 use lib.ListN.{length, getD, drop}
 use Rattle.image.specs.Word.{isEntry}
-use Rattle.library.specs.Library.{entriesFrom}
-use Rattle.library.specs.Walk.{entryOf}
-use Rattle.library.proofs.Walking.{tested, folding-inside, folding-out, Leaving, leaving-start, leaving-turn, leaving-dead, leaving-rest, leaving-out}
+use Rattle.library.specs.Library.{entryOf, entriesFrom}
+use Rattle.walk.proofs.Walking.{tested, folding-inside, folding-out, Leaving, leaving-start, leaving-turn, leaving-dead, leaving-rest, leaving-out}
 use Rattle.general.specs.Scan.{every}
 use Rattle.rank.specs.Tables.{everyIn, lacksIn}
-use Rattle.rank.proofs.Slots.{rankable-high}
+use Rattle.rank.proofs.Rankable.{rankable-high}
 use Rattle.rank.proofs.Looks.{every-cons}
 use Rattle.rank.proofs.read.all_ranked.Statement.{statement}
 use Rattle.rank.proofs.read.all_ranked.Tie as tie

@@ -6,10 +6,10 @@ use mathlib.Core.Path.{_≡_, sym, ap, _∙_}
 use mathlib.Core.Bool.{true, false≢true}
 use lib.ListN.{getD}
 use Rattle.image.specs.Word.{isEntry}
-use Rattle.library.specs.Walk.{entryOf}
-use Rattle.library.proofs.Walking.{tested, entry-inside}
-use Rattle.rank.specs.Tables.{traitsIn}
-use Rattle.rank.proofs.Slots.{rankable-high}
+use Rattle.library.specs.Library.{entryOf}
+use Rattle.walk.proofs.Walking.{tested, entry-inside}
+use Rattle.slot.specs.Slots.{traitsIn}
+use Rattle.rank.proofs.Rankable.{rankable-high}
 use Rattle.rank.proofs.read.found_at.Statement.{statement}
 use Rattle.rank.proofs.read.found_at.Tie as tie
 

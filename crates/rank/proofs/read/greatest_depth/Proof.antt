@@ -10,11 +10,12 @@ use lib.ListN.{length, getD, drop}
 use lib.Dec.{ltb}
 use Rattle.image.specs.Word.{isEntry}
 use Rattle.library.specs.Library.{entriesFrom}
-use Rattle.library.specs.Walk.{entryOf}
-use Rattle.library.proofs.Walking.{tested, folding-inside, folding-out, Leaving, leaving-start, leaving-turn, leaving-dead, leaving-rest, leaving-out}
+use Rattle.library.specs.Library.{entryOf}
+use Rattle.walk.proofs.Walking.{tested, folding-inside, folding-out, Leaving, leaving-start, leaving-turn, leaving-dead, leaving-rest, leaving-out}
 use Rattle.rank.specs.Walk.{depthFrom}
-use Rattle.rank.specs.Tables.{rankIn, depthIn, lacksIn}
-use Rattle.rank.proofs.Slots.{rankable-high}
+use Rattle.slot.specs.Slots.{rankIn}
+use Rattle.rank.specs.Tables.{depthIn, lacksIn}
+use Rattle.rank.proofs.Rankable.{rankable-high}
 use Rattle.rank.proofs.Looks.{depth-cons}
 use Rattle.rank.proofs.read.greatest_depth.Statement.{statement}
 use Rattle.rank.proofs.read.greatest_depth.Tie as tie

@@ -11,10 +11,10 @@ use lib.Dec.{leb}
 use Rattle.general.proofs.Bools.{nor-right}
 use Rattle.image.specs.Word.{isKind, isEntry}
 use Rattle.library.specs.Library.{alternativesFrom}
-use Rattle.library.proofs.Walking.{tested, Walking, walking-start, walking-opener-inside, walking-turn, walking-skip, walking-entry-inside}
+use Rattle.walk.proofs.Walking.{tested, Walking, walking-start, walking-opener-inside, walking-turn, walking-skip, walking-entry-inside}
 use Rattle.rank.specs.Walk.{loweredFrom}
 use Rattle.rank.specs.Tables.{lookIn, deadIn}
-use Rattle.rank.proofs.Slots.{rankable-high}
+use Rattle.rank.proofs.Rankable.{rankable-high}
 use Rattle.rank.proofs.Looks.{lowered-cons, lowered-done}
 use Rattle.rank.proofs.read.lowered_rank.Statement.{statement}
 use Rattle.rank.proofs.read.lowered_rank.Tie as tie

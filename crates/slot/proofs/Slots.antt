@@ -1,0 +1,136 @@
+-- A table of ranks: the word of an entry, and how those of the items are written, the steps' by a loop.
+-- Assumes nothing.
+use Prim.Native.Nat.{ℕ, _+_, _*_, _≤_, _<_}
+use native.Mathlib.Decide.{ℕ-discrete}
+use native.Mathlib.Omega.{arith}
+use mathlib.Core.Path.{_≡_, refl, sym, ap, _∙_}
+use mathlib.Core.Logic.{⊎-elim}
+use mathlib.Core.Bool.{Bool, true, false, cond}
+use mathlib.Core.List.{List}
+use lib.ListN.{length, getD, set, drop, length-set}
+use lib.Dec.{leb}
+use lib.Seq.{getD-take, getD-drop, getD-set-same, getD-set-other}
+use Rattle.image.specs.Word.{mostFacts, kind, payload, isKind, isEntry}
+use Rattle.library.specs.Library.{step, check, Entry, item, call, entryOf}
+use Rattle.library.proofs.Decode.{step-entry, check-entry, call-entry}
+use Rattle.image.proofs.Words.{entry-cases}
+use Rattle.slot.specs.Slots.{entryNumber, firstStep, slotOf, rankIn, RankWithin, markOf, stepMark, checkRank, stepRank, Written, ItemsRanked}
+use Rattle.question.specs.declared.asked.Asked.{Asked}
+use Rattle.general.proofs.Scan.{getD-inside}
+
+-- ---- the word of an entry
+
+-- the number that a word names
+pub entry-number : (w : ℕ) → entryNumber (entryOf w) ≡ payload w
+entry-number w = go (isKind 8 w) (isKind 13 w)
+  where
+    go : (b d : Bool) → entryNumber (cond b (item (step (payload w))) (cond d (item (check (payload w))) (call (payload w)))) ≡ payload w
+    go true d = refl
+    go false true = refl
+    go false false = refl
+
+pub cond-low : (b : Bool) (x y n : ℕ) → x ≤ n → y ≤ n → cond b x y ≤ n
+cond-low true x y n l m = l
+cond-low false x y n l m = m
+
+-- of the kinds of entries that of steps is the least and that of checks the greatest
+pub kinds-between : (w : ℕ) → isEntry w ≡ true → (leb (kind w) 8 ≡ isKind 8 w) × (leb 13 (kind w) ≡ isKind 13 w)
+kinds-between w e = ⊎-elim (λ k. rw k (refl, refl)) (λ s. ⊎-elim (λ k. rw k (refl, refl)) (λ k. rw k (refl, refl)) s) (entry-cases w e)
+
+module _ (none w : ℕ) (T : List ℕ) (within : RankWithin none T w) (e : isEntry w ≡ true) where
+  -- by the kind of the word
+  pub slot-inside : slotOf none w < length T
+  slot-inside =
+      ⊎-elim (λ k. rw k (omega (arith, within .step k)))
+      (λ s. ⊎-elim (λ k. rw k (omega (arith, within .sequence k .1))) (λ k. rw k (omega (arith, within .check k .1))) s) (entry-cases w e)
+
+  pub slot-rank : (past : ℕ) → getD T (slotOf none w) 0 ≡ rankIn none past T (entryOf w)
+  slot-rank past = getD-inside T (slotOf none w) 0 past slot-inside ∙ ⊎-elim by-step (λ s. ⊎-elim by-call by-check s) (entry-cases w e)
+    where
+      p : ℕ
+      p = payload w
+
+      -- the word, and the entry that it names
+      named : (i : ℕ) (x : Entry) → slotOf none w ≡ i → getD T i past ≡ rankIn none past T x → entryOf w ≡ x
+          → getD T (slotOf none w) past ≡ rankIn none past T (entryOf w)
+      named i x slot rank entry = ap (λ (n : ℕ). getD T n past) slot ∙ rank ∙ ap (rankIn none past T) (sym entry)
+
+      by-step : kind w ≡ 8 → getD T (slotOf none w) past ≡ rankIn none past T (entryOf w)
+      by-step k =
+          let at : slotOf none w ≡ none + (mostFacts + p) = rw k (omega arith) in
+          named (none + (mostFacts + p)) (item (step p)) at (sym (getD-drop none T (mostFacts + p) past)) (step-entry w k)
+
+      by-check : kind w ≡ 13 → getD T (slotOf none w) past ≡ rankIn none past T (entryOf w)
+      by-check k =
+          let at : slotOf none w ≡ none + p = rw k (omega arith) in
+          named (none + p) (item (check p)) at (sym (getD-drop none T p past) ∙ sym (getD-take mostFacts (drop none T) p past (within .check k .0)))
+          (check-entry w k)
+
+      by-call : kind w ≡ 9 → getD T (slotOf none w) past ≡ rankIn none past T (entryOf w)
+      by-call k =
+          let at : slotOf none w ≡ p = rw k (omega arith) in
+          let inside = within .sequence k in
+          named p (call p) at (getD-inside T p past none (inside .1) ∙ sym (getD-take none T p none (inside .0))) (call-entry w k)
+
+-- ---- the ranks of the items
+
+-- what a step needs and sets stands one word before what it sets and clears
+pub side-low : (b : Bool) → cond b 0 1 ≤ 1
+side-low true = omega arith
+side-low false = omega arith
+
+pub side-mark : (q : Asked) (masks : List ℕ) (a side : ℕ) → side ≡ cond (q .first) 0 1
+    → markOf (q .fact) (getD masks (3 * a + side) 0) (getD masks (3 * a + side + 1) 0) ≡ stepMark q masks a
+side-mark q masks a side e = ap (λ (n : ℕ). markOf (q .fact) (getD masks (3 * a + n) 0) (getD masks (3 * a + n + 1) 0)) e ∙ go (q .first)
+  where
+    go : (b : Bool) → markOf (q .fact) (getD masks (3 * a + cond b 0 1) 0) (getD masks (3 * a + cond b 0 1 + 1) 0)
+        ≡ cond b (markOf (q .fact) (getD masks (3 * a) 0) (getD masks (3 * a + 1) 0)) (markOf (q .fact) (getD masks (3 * a + 1) 0) (getD masks (3 * a + 2) 0))
+    go true = let same : 3 * a + 0 ≡ 3 * a = omega arith in ap (λ (n : ℕ). markOf (q .fact) (getD masks n 0) (getD masks (n + 1) 0)) same
+    go false = let next : 3 * a + 1 + 1 ≡ 3 * a + 2 = omega arith in ap (λ (n : ℕ). markOf (q .fact) (getD masks (3 * a + 1) 0) (getD masks n 0)) next
+
+-- words that are written one by one, from index `from` on
+module _ (from to : ℕ) (rank : ℕ → ℕ) (before : List ℕ) where
+  -- at the head: those of the numbers below j are written
+  pub record Writing (T : List ℕ) (j : ℕ) : Type 0 where
+    pub low : from + j ≤ to
+    pub written : Written from (from + j) rank before T
+
+  pub writing-start : from ≤ to → Writing before 0
+  writing-start l =
+      record { low = omega arith; written = record { long = refl; stays = λ i l past. refl; ranked = λ j l. absurd (omega arith) } }
+
+  module _ (T : List ℕ) (j : ℕ) (here : Writing T j) where
+    pub writing-turn : from + j < to → to ≤ length before → (r : ℕ) → r ≡ rank j → Writing (set T (from + j) r) (j + 1)
+    writing-turn l room r is =
+        let so-far = here .written in
+        record {
+          low = omega arith;
+          written =
+              record {
+                long = length-set T (from + j) r ∙ so-far .long;
+                stays = λ i k past. getD-set-other T (from + j) i r past (λ e. omega arith) ∙ so-far .stays i k past;
+                ranked = λ k m.
+                    elim (ℕ-discrete k j) [
+                      | yes e ↦
+                          ap (λ (i : ℕ). getD (set T (from + j) r) (from + i) 0) e
+                          ∙ getD-set-same T (from + j) r 0 (omega (arith, so-far .long)) ∙ is ∙ ap rank (sym e)
+                      | no e ↦ getD-set-other T (from + j) (from + k) r 0 (λ x. e (omega arith)) ∙ so-far .ranked k (omega arith)
+                    ];
+              };
+        }
+
+    pub writing-end : to ≤ from + j → Written from to rank before T
+    writing-end le =
+        let all = here .written in
+        record { long = all .long; stays = all .stays; ranked = λ k l. all .ranked k (omega arith) }
+
+-- the checks and then the steps
+pub items-ranked : (all : Bool) (q : Asked) (masks before between after : List ℕ) → Written (q .none) (firstStep (q .none)) (checkRank all q) before between
+    → Written (firstStep (q .none)) (length between) (stepRank all q masks) between after → ItemsRanked all q masks before after
+items-ranked all q masks before between after checks steps =
+    record {
+      long = steps .long ∙ checks .long;
+      stays = λ d l. steps .stays d (omega arith) (q .none) ∙ checks .stays d l (q .none);
+      checks = λ f l. steps .stays (q .none + f) (omega arith) 0 ∙ checks .ranked f (omega arith);
+      steps = λ a l. steps .ranked a (omega (arith, checks .long));
+    }

@@ -1,0 +1,150 @@
+// What the tables say of an entry, for the question that is asked.
+use column::sets::holds;
+use image::word::KIND_CHECK;
+use image::word::KIND_STEP_ENTRY;
+use image::word::MOST_FACTS;
+use image::word::PAYLOADS;
+use image::word::payload_of;
+use library::tables::MASK_WORDS;
+use walk::sequence::selected_index;
+use question::asked::ABSENT_MARK;
+use question::asked::Asked;
+use question::asked::PRESENT_MARK;
+use question::asked::UNTOUCHED_MARK;
+ghost use mathlib.Core.Path.{_≡_};
+ghost use mathlib.Core.Bool.{true, cond};
+ghost use Prim.Native.Nat.{ℕ, _+_, _*_, _≤_, _<_};
+ghost use lib.ListN.{length};
+ghost use Rattle.library.specs.Tables.{maskWords};
+ghost use Rattle.image.specs.Word.{isEntry, mostFacts};
+ghost use Rattle.library.specs.Library.{entryOf};
+ghost use Rattle.slot.specs.Slots.{firstStep, slotOf, rankIn, passIn, traitsIn, RankWithin, markOf, stepMark, checkMark, markRank, checkRank, stepRank, Written, ItemsRankable, ItemsRanked};
+
+// An entry's rank, and whether it passes as one ahead of the position and as one behind it.
+pub struct Traits {
+    pub rank: u32,
+    pub ahead: bool,
+    pub behind: bool,
+}
+
+// The number where the test holds, otherwise the other one.
+pub fn choose(test: bool, x: u32, other: u32) -> u32
+    ensures { λ r. ⌜ r ≡ cond test x other ⌝ }
+{
+    if test {
+        return x;
+    }
+    other
+}
+
+// The mark that two columns give the fact.
+fn mark_of(f: u32, one: u64, other: u64) -> u32
+    requires { ⌜ f < mostFacts ⌝ }
+    ensures { λ r. ⌜ r ≡ markOf f one other ⌝ }
+{
+    choose(
+        holds(one, f),
+        PRESENT_MARK,
+        choose(holds(other, f), ABSENT_MARK, UNTOUCHED_MARK),
+    )
+}
+
+// The mark of step `a` on the question's side.
+fn step_mark(q: Asked, masks: &[u64], a: usize) -> u32
+    requires { ⌜ (q .fact < mostFacts) × (maskWords * a + maskWords ≤ length (now masks)) ⌝ }
+    ensures { λ r. ⌜ r ≡ stepMark q (now (masks .entry)) a ⌝ }
+{
+    let at = MASK_WORDS * a + choose(q.first, 0, 1) as usize;
+    mark_of(q.fact, masks[at], masks[at + 1])
+}
+
+// The mark of a check of fact `f` on the question's side.
+fn check_mark(q: Asked, f: u32) -> u32
+    ensures { λ r. ⌜ r ≡ checkMark q f ⌝ }
+{
+    choose(q.first & (f == q.fact), PRESENT_MARK, UNTOUCHED_MARK)
+}
+
+// The rank of an item by its mark: 0 where it is the mark asked for, or where any will do.
+fn mark_rank(all: bool, q: Asked, mark: u32) -> u32
+    ensures { λ r. ⌜ r ≡ markRank all q mark ⌝ }
+{
+    choose(all | (mark == q.mark), 0, q.none)
+}
+
+// Writes the ranks of the checks into a table: those of all facts that there may be stand from word `none` on.
+fn write_check_ranks(all: bool, q: Asked, ranks: &mut [u32])
+    requires { ⌜ firstStep (q .none) ≤ length (now ranks) ⌝ }
+    ensures { λ _. ⌜ Written (q .none) (firstStep (q .none)) (checkRank all q) (now (ranks .entry)) (now (ranks .exit)) ⌝ }
+{
+    let base = q.none as usize;
+    let mut f = 0;
+    while f < MOST_FACTS {
+        ranks[base + f as usize] = mark_rank(all, q, check_mark(q, f));
+        f += 1;
+    }
+}
+
+// Writes the ranks of the steps into a table: they stand after those of the checks.
+fn write_step_ranks(all: bool, q: Asked, masks: &[u64], ranks: &mut [u32])
+    requires { ⌜ ItemsRankable q (now masks) (now ranks) ⌝ }
+    ensures { λ _. ⌜ Written (firstStep (q .none)) (length (now (ranks .entry))) (stepRank all q (now (masks .entry))) (now (ranks .entry)) (now (ranks .exit)) ⌝ }
+{
+    let base = q.none as usize + MOST_FACTS as usize;
+    let mut a = 0;
+    while base + a < ranks.len() {
+        ranks[base + a] = mark_rank(all, q, step_mark(q, masks, a));
+        a += 1;
+    }
+}
+
+// Writes the ranks of the items into a table.
+pub fn write_item_ranks(all: bool, q: Asked, masks: &[u64], ranks: &mut [u32])
+    requires { ⌜ ItemsRankable q (now masks) (now ranks) ⌝ }
+    ensures { λ _. ⌜ ItemsRanked all q (now (masks .entry)) (now (ranks .entry)) (now (ranks .exit)) ⌝ }
+{
+    write_check_ranks(all, q, ranks);
+    write_step_ranks(all, q, masks, ranks);
+}
+
+// Where the rank of an entry stands in a table: the sequences come first, then the checks, then the steps. There is no branch here, since
+// processors would guess it badly, and the place is the same in all tables, so that it is worked out once where three are read. Of the kinds of
+// entries that of steps is the least and that of checks the greatest.
+fn slot_of(none: u32, w: u32) -> usize
+    requires { ⌜ isEntry w ≡ true ⌝ }
+    ensures { λ r. ⌜ r ≡ slotOf none w ⌝ }
+{
+    let kind = w / PAYLOADS;
+    let first_check = none as usize;
+    let first_step = first_check + MOST_FACTS as usize;
+    let check_or_call = selected_index(KIND_CHECK <= kind, first_check, 0);
+    payload_of(w) as usize + selected_index(kind <= KIND_STEP_ENTRY, first_step, check_or_call)
+}
+
+// The rank of an entry.
+pub fn rank_of(none: u32, ranks: &[u32], w: u32) -> u32
+    requires { ⌜ RankWithin none (now ranks) w × (isEntry w ≡ true) ⌝ }
+    ensures { λ r. ⌜ ((past : ℕ) → r ≡ rankIn none past (now (ranks .entry)) (entryOf w)) ⌝ }
+{
+    ranks[slot_of(none, w)]
+}
+
+// Whether an entry has a rank.
+pub fn passes(none: u32, ranks: &[u32], w: u32) -> bool
+    requires { ⌜ RankWithin none (now ranks) w × (isEntry w ≡ true) ⌝ }
+    ensures { λ r. ⌜ r ≡ passIn none (now (ranks .entry)) (entryOf w) ⌝ }
+{
+    rank_of(none, ranks, w) < none
+}
+
+// The traits of an entry.
+pub fn traits_of(none: u32, ahead: &[u32], behind: &[u32], ranks: &[u32], w: u32) -> Traits
+    requires { ⌜ RankWithin none (now ahead) w × RankWithin none (now behind) w × RankWithin none (now ranks) w × (isEntry w ≡ true) ⌝ }
+    ensures { λ r. ⌜ r ≡ traitsIn none (now (ahead .entry)) (now (behind .entry)) (now (ranks .entry)) (entryOf w) ⌝ }
+{
+    Traits {
+        rank: rank_of(none, ranks, w),
+        ahead: passes(none, ahead, w),
+        behind: passes(none, behind, w),
+    }
+}
