@@ -20,7 +20,8 @@ use Rattle.rules.specs.Rules.{setsAfter, faultAt}
 use Rattle.rules.specs.Quick.{bodyRight, insideRight, Counts, FactFollows, after, further, withLast, inAlternative}
 use Rattle.rules.specs.Checked.{atWord}
 use Rattle.rules.specs.Walk.{ended, walk}
-use Rattle.reader.specs.Readers.{Read, KindRead, FourRight}
+use Rattle.reader.specs.Readers.{Read, KindRead, FourRight, FoursRead}
+use Rattle.reader.specs.declared.check.Body.{Body}
 use Rattle.image.specs.declared.answer.Head.{Head}
 use Rattle.image.specs.declared.answer.Refusal.{Refusal}
 use Rattle.image.specs.declared.answer.Checked.{Checked}
@@ -162,13 +163,13 @@ module _ (h : Head) (part : List ℕ) (k last from at : ℕ) (low : 2 ≤ k) (hi
         above = inr (is, refl);
       })
 
--- the loop over a sequence's words, four at a time
+-- the loops over a sequence's words, four at a time and one by one
 pub record Fours (h : Head) (part : List ℕ) (last at l i : ℕ) : Type 0 where
   pub read : (e : Earlier) → 0 < e .sequences → Read h part (withLast e last) at (withLast e l) i
   pub follows : inAlternative l ≡ true
 
 module _ (h : Head) (part : List ℕ) (last at : ℕ) where
-  one-turn : (l i j : ℕ) → i < length part → i + 1 ≡ j → insideRight h (getD part i 0) ≡ true
+  pub one-turn : (l i j : ℕ) → i < length part → i + 1 ≡ j → insideRight h (getD part i 0) ≡ true
       → Fours h part last at l i → Fours h part last at (getD part i 0) j
   one-turn l i j lt next right here =
       let w = getD part i 0 in
@@ -188,6 +189,13 @@ module _ (h : Head) (part : List ℕ) (last at : ℕ) where
       (one-turn (getD part (i + 1) 0) (i + 2) (i + 3) (omega arith) (omega arith) (right .third)
       (one-turn (getD part i 0) (i + 1) (i + 2) (omega arith) (omega arith) (right .second)
       (one-turn l i (i + 1) (omega arith) refl (right .first) here)))
+
+-- where one has stopped, another reads on
+pub fours-on : (h : Head) (part : List ℕ) (last at l i : ℕ) (r : Body) → Fours h part last at l i → FoursRead h part l i r → FoursRead h part last at r
+fours-on h part last at l i r here rest e opened =
+    let one = here .read e opened in
+    let two = rest e opened in
+    record { low = omega (arith, one .low, two .low); within = two .within; same = λ p. one .same p ∙ two .same p }
 
 -- a loop that reads on after them
 pub reading-on : (h : Head) (e₀ : Earlier) (p₀ : ℕ) (part : List ℕ) (e : Earlier) (i last sets next : ℕ) → Reading h e₀ p₀ part e i

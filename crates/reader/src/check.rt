@@ -177,8 +177,26 @@ fn four_right(h: Head, part: &[u32], at: usize) -> bool
     a & b & c & d
 }
 
-// Reads the alternatives and entries that stand from index `at` on, after an alternative's opener or an entry `last`, by fours that
-// are right.
+// Reads the alternatives and entries that stand from index `at` on, after an alternative's opener or an entry `last`, one by one to the first
+// that is not right.
+fn read_rest(h: Head, last: u32, part: &[u32], at: usize) -> Body
+    requires { ⌜ (at ≤ length (now part)) × Counts h × (inAlternative last ≡ true) ⌝ }
+    ensures { λ r. ⌜ FoursRead h (now (part .entry)) last at r ⌝ }
+{
+    let mut l = last;
+    let mut i = at;
+    while i < part.len() {
+        let w = part[i];
+        if !inside_right(h, w) {
+            return Body { last: l, next: i };
+        }
+        l = w;
+        i += 1;
+    }
+    Body { last: l, next: i }
+}
+
+// The same by fours that are right, and then one by one.
 fn read_fours(h: Head, last: u32, part: &[u32], at: usize) -> Body
     requires { ⌜ (at ≤ length (now part)) × Counts h × (inAlternative last ≡ true) ⌝ }
     ensures { λ r. ⌜ FoursRead h (now (part .entry)) last at r ⌝ }
@@ -187,12 +205,12 @@ fn read_fours(h: Head, last: u32, part: &[u32], at: usize) -> Body
     let mut i = at;
     while AT_ONCE <= part.len() - i {
         if !four_right(h, part, i) {
-            return Body { last: l, next: i };
+            return read_rest(h, l, part, i);
         }
         l = part[i + 3];
         i += AT_ONCE;
     }
-    Body { last: l, next: i }
+    read_rest(h, l, part, i)
 }
 
 // Reads the alternatives and entries that stand from index `at` on and are right: of such words there are most.

@@ -6,12 +6,13 @@ use native.Mathlib.Omega.{arith}
 use Prim.Native.Nat.{_-_, _≤_}
 use lib.ListN.{length}
 use Rattle.rules.specs.Quick.{withLast}
-use Rattle.reader.proofs.Walk.{Fours, read-start, fours-turn}
+use Rattle.reader.proofs.Walk.{Fours, read-start, fours-turn, fours-on}
 use Rattle.reader.proofs.check.read_fours.Statement.{statement}
 use Rattle.reader.proofs.check.read_fours.Tie as tie
 use Rattle.reader.proofs.check.read_fours.Reads as reads
 use Rattle.reader.proofs.check.read_fours.Lts as lts
 use Rattle.reader.proofs.check.four_right.Reads as four-right-reads
+use Rattle.reader.proofs.check.read_rest.Reads as read-rest-reads
 
 abbrev Inv-loop : tie.InvT-loop
 Inv-loop h last part at l₀ i₀ l i = (i ≤ length part) × Fours h part last at l i
@@ -36,9 +37,16 @@ sub-loop c = search needs
 four-right-requires : tie.Need-four-right-requires Inv-loop μ-loop
 four-right-requires c κs = search needs
 
+read-rest-requires : tie.Need-read-rest-requires Inv-loop μ-loop
+read-rest-requires c κs =
+    let at-loop = c .before .before .before in
+    (at-loop .loop .inv .0, at-loop .before .before .pre .1, at-loop .loop .inv .1 .follows)
+
 returns : tie.Need-returns Inv-loop μ-loop
 returns c =
-    c .before .before .before .loop .inv .1 .read
+    let at-loop = c .before .before .before .before in
+    let a = at-loop .before .before .args in
+    fours-on (a .h) (a .part .now) (a .last) (a .at) (at-loop .loop .l) (at-loop .loop .i) _ (at-loop .loop .inv .1) (c .read-rest .ensures)
 
 add-l : tie.Need-add-l Inv-loop μ-loop
 add-l c = search needs
@@ -66,9 +74,16 @@ loop-again c =
           (four .four-right .ensures (not-false _ (c .before .if1 .left))) (at-loop .loop .inv .1),
     )
 
+read-rest-requires-2 : tie.Need-read-rest-requires-2 Inv-loop μ-loop
+read-rest-requires-2 c κs =
+    let at-loop = c .before in
+    (at-loop .loop .inv .0, at-loop .before .before .pre .1, at-loop .loop .inv .1 .follows)
+
 returns-2 : tie.Need-returns-2 Inv-loop μ-loop
 returns-2 c =
-    c .before .loop .inv .1 .read
+    let at-loop = c .before .before in
+    let a = at-loop .before .before .args in
+    fours-on (a .h) (a .part .now) (a .last) (a .at) (at-loop .loop .l) (at-loop .loop .i) _ (at-loop .loop .inv .1) (c .read-rest2 .ensures)
 
 pub read-fours-spec : {M : Type 1} → statement M
 read-fours-spec =
@@ -79,6 +94,7 @@ read-fours-spec =
     loop-holds
     sub-loop
     four-right-requires
+    read-rest-requires
     returns
     add-l
     mul-l
@@ -86,4 +102,5 @@ read-fours-spec =
     add-i
     loop-less
     loop-again
+    read-rest-requires-2
     returns-2)
