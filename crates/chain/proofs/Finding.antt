@@ -20,7 +20,7 @@ use Rattle.walk.specs.Walk.{alternativesAt}
 use Rattle.general.specs.Tests.{All}
 use Rattle.library.specs.Accepted.{SequenceWord, Counted}
 use Rattle.image.specs.declared.answer.Head.{Head}
-use Rattle.library.proofs.Accepted.{faultless, parts, counted}
+use Rattle.library.proofs.Accepted.{faultless, parts, counted, sequence-entry}
 use Rattle.library.proofs.Rows.{all-at}
 use Rattle.general.specs.Numbers.{Zeros}
 use Rattle.settling.specs.Settling.{Scheduled}
@@ -178,7 +178,7 @@ module _ {h : Head} {image ms₀ ps₀ ms ps callers order : List ℕ} (accepted
               let low = faultless image h accepted .facts-high in
               let w = all-at (SequenceWord h) part (subst (All (SequenceWord h)) (sym sequences) (parts image h accepted .sequences)) 0 i l in
               record {
-                high = λ k. ⊎-elim (λ six. absurd (omega arith)) (λ more. ⊎-elim (λ seven. absurd (omega arith)) (λ entry. entry) more) (w .among);
+                high = sequence-entry _ w;
                 step = λ k. omega (arith, w .step k);
                 check = λ k. (omega (arith, w .check k), omega (arith, w .check k));
                 sequence = λ k. (omega (arith, w .sequence k), omega (arith, w .sequence k));

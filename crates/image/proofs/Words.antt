@@ -1,7 +1,7 @@
 -- The kinds of fact words and of entries.
 -- Assumes nothing.
 use Prim.Native.Nat.{ℕ, zero, suc, _/_, _%_, _^_, _≤_, _<_}
-use lib.Dec.{eqb}
+use lib.Dec.{eqb, leb}
 use native.Mathlib.Omega.{arith}
 use mathlib.Core.Path.{_≡_, refl}
 use mathlib.Core.Bool.{Bool, true, false, _||_}
@@ -43,6 +43,10 @@ entry-kinds w e step check = ⊎-elim (λ k. absurd (step k)) (λ k. ⊎-elim (�
 
 pub entry-high : (w : ℕ) → isEntry w ≡ true → 8 ≤ kind w
 entry-high w e = ⊎-elim (λ k. omega arith) (λ k. ⊎-elim (λ l. omega arith) (λ l. omega arith) k) (entry-cases w e)
+
+-- of the kinds of entries that of steps is the least and that of checks the greatest
+pub kinds-between : (w : ℕ) → isEntry w ≡ true → (leb (kind w) 8 ≡ isKind 8 w) × (leb 13 (kind w) ≡ isKind 13 w)
+kinds-between w e = ⊎-elim (λ k. rw k (refl, refl)) (λ s. ⊎-elim (λ k. rw k (refl, refl)) (λ k. rw k (refl, refl)) s) (entry-cases w e)
 
 -- the kinds of entries as the bits of a number
 kind-bit : (k : ℕ) → k < 16 → eqb (0x2300 / 2 ^ k % 2) 1 ≡ (eqb k 8 || eqb k 9 || eqb k 13)

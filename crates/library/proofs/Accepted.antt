@@ -24,7 +24,7 @@ use Rattle.rules.specs.Checked.{scan, allButLast, between, firstWord, lastWord,
 use Rattle.rules.specs.Walk.{walk, opening}
 use Rattle.library.specs.Library.{step, check, item, call, entryOf, factsFrom, stepsFrom, alternativesFrom, sequencesFrom, beforeSequences, fromSequences, stepsPart, sequencesPart, libraryOf}
 use Rattle.general.specs.Tests.{All}
-use Rattle.library.specs.Accepted.{Faultless, StepWord, SequenceWord, Parts, Named, Below, Counted}
+use Rattle.library.specs.Accepted.{Faultless, StepWord, SequenceWord, Parts, Named, Below, Counted, HighEntry}
 use Rattle.image.specs.declared.answer.Head.{Head}
 use Rattle.image.specs.declared.answer.Refusal.the-variants.{Length, SumWord, HeadWord}
 use Rattle.image.specs.declared.answer.Checked.the-variants.{Accepted}
@@ -102,6 +102,10 @@ sequence-word h e w f late =
     go (sequence-opener t a) (inr l) = inl t
     go (alternative-opener t a) (inr l) = inr (inl t)
     go (entry-word t a) (inr l) = inr (inr t)
+
+-- it is an entry if its kind is 8 or above
+pub sequence-entry : {h : Head} (w : ℕ) → SequenceWord h w → HighEntry w
+sequence-entry w word k = ⊎-elim (λ six. absurd (omega arith)) (λ more. ⊎-elim (λ seven. absurd (omega arith)) (λ entry. entry) more) (word .among)
 
 sequence-high : {h : Head} (w : ℕ) → SequenceWord h w → 6 ≤ kind w
 sequence-high w word = ⊎-elim (λ k. omega arith) (λ k. ⊎-elim (λ l. omega arith) (λ l. omega (arith, entry-high w l)) k) (word .among)

@@ -7,11 +7,12 @@
 use Prim.Native.Nat.{ℕ, zero, suc, _+_, _≤_, _<_}
 use native.Mathlib.Nat.{le-of-suc-le-suc, zero-add}
 use native.Mathlib.Numerals.{one-add}
+use native.Mathlib.Decide.{decLt}
 use native.Mathlib.Omega.{arith}
 use mathlib.Core.Path.{_≡_, refl, sym, ap, _∙_, subst}
 use mathlib.Core.Bool.{Bool, true, false, cond, or-false}
 use mathlib.Core.List.{List, [], _∷_, _++_}
-use lib.ListN.{length, getD, take, drop}
+use lib.ListN.{length, getD, take, drop, List·getD-eq-default}
 use lib.Dec.{eqb, leb}
 use borrow.Author.Tests.{eq-eqb, ne-eqb, eqb-true, le-leb, leb-true}
 use mir.Val.{boolByte}
@@ -41,6 +42,14 @@ entry-opens-none w e = is-not 7 w (λ q. omega (arith, entry-high w e))
 pub entry-part : (w : ℕ) → HighEntry w → leb 8 (kind w) ≡ isEntry w
 entry-part w high =
     both-ways (leb 8 (kind w)) (isEntry w) (λ e. high (leb-true 8 (kind w) e)) (λ e. le-leb 8 (kind w) (entry-high w e))
+
+-- the words of a part that are such, and 0, which stands past them
+pub high-at : (part : List ℕ) → ((i : ℕ) → i < length part → HighEntry (getD part i 0)) → (i : ℕ) → HighEntry (getD part i 0)
+high-at part each i =
+    elim (decLt i (length part)) [
+      | yes l ↦ each i l
+      | no l ↦ λ k. absurd (omega (arith, List·getD-eq-default part 0 {n = i} (omega arith)))
+    ]
 
 -- ---- the entry that a word names, by its kind
 

@@ -1,13 +1,13 @@
 // The choice of a link: "Among equally good choices a link takes the highest alternative, then the lowest position."
 use image::word::payload_of;
+use rank::read::greatest_depth;
+use slot::entry::passes;
+use slot::entry::traits_of;
 use walk::sequence::alternatives_of;
 use walk::sequence::opener_before;
 use walk::sequence::part_entry;
 use walk::sequence::selected_index;
 use walk::sequence::word_at;
-use slot::entry::passes;
-use slot::entry::traits_of;
-use rank::read::greatest_depth;
 ghost use mathlib.Core.Path.{_≡_};
 ghost use Prim.Native.Nat.{_+_, _≤_, _<_};
 ghost use lib.ListN.{length, drop};

@@ -13,7 +13,7 @@ use Rattle.image.specs.Word.{payload}
 use Rattle.image.specs.declared.answer.Head.{Head}
 use Rattle.library.specs.Library.{Library, sequencesPart, libraryOf}
 use Rattle.library.specs.Accepted.{Below, SequenceWord, Counted}
-use Rattle.library.proofs.Accepted.{faultless, parts, counted}
+use Rattle.library.proofs.Accepted.{faultless, parts, counted, sequence-entry}
 use Rattle.library.proofs.Lookup.{mask-low}
 use Rattle.library.proofs.Rows.{all-at}
 use Rattle.runs.specs.Domain.{noStep}
@@ -119,6 +119,7 @@ module _ {h : Head} {image ms₀ ps₀ callers₀ order₀ rs₀ table : List �
         readable = λ i l.
             let w = all-at (SequenceWord h) part words-are 0 i l in
             record {
+              high = sequence-entry _ w;
               step = λ k. omega (arith, w .step k, asked .rows-room);
               run = λ k. omega (arith, ap (λ (r : Row). r .run) (rowed .written (payload (getD part i 0)) (w .step k)), all-some);
               sequence = λ k. omega (arith, w .sequence k, table-long);

@@ -39,7 +39,7 @@ module _ (all : ℕ) (steps part places : List ℕ) where
 pub visitable-at : {n : ℕ} {steps part places t : List ℕ} (s : List ℕ) → length s ≡ length t → RowsVisitable n steps part places t → RowsVisitable n steps part places s
 visitable-at s e v =
     record {
-      readable = λ i l. let w = v .readable i l in record { step = w .step; run = w .run; sequence = λ k. omega (arith, w .sequence k); check = w .check };
+      readable = λ i l. let w = v .readable i l in record { high = w .high; step = w .step; run = w .run; sequence = λ k. omega (arith, w .sequence k); check = w .check };
       rows = omega (arith, v .rows);
       placed = v .placed;
       within = v .within;

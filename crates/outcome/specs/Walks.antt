@@ -8,20 +8,23 @@ use lib.ListN.{length, getD, drop, replicate}
 use lib.Dec.{ltb}
 use Rattle.image.specs.Word.{kind, payload, mostFacts}
 use Rattle.library.specs.Library.{Entry, step, check, item, call, Alternative, entriesFrom, alternativesFrom}
+use Rattle.library.specs.Accepted.{HighEntry}
 use Rattle.walk.specs.Walk.{namesNone, walkEnd}
 use Rattle.row.specs.Words.{rowWords, startRow, stepRow, checkRow, joinRows, orRows, liveRow, rowIn}
 use Rattle.row.specs.declared.words.Row.{Row}
 use Rattle.outcome.specs.declared.read.Read.{Read}
 use Rattle.library.specs.Tables.{maskWords}
 
--- an entry names a row of the steps' table, in which a run is found, one of the table of outcomes, or a fact that there is
+-- a word of the sequences' part; an entry names a row of the steps' table, in which a run is found, one of the table of outcomes, or a fact that
+-- there is
 pub record RowWithin (steps table : List ℕ) (w : ℕ) : Type 0 where
+  pub high : HighEntry w
   pub step : kind w ≡ 8 → rowWords * payload w + rowWords ≤ length steps
   pub run : kind w ≡ 8 → 0 < rowIn steps (payload w) .run
   pub sequence : kind w ≡ 9 → rowWords * payload w + rowWords ≤ length table
   pub check : kind w ≡ 13 → payload w < mostFacts
 
--- each entry among the words does
+-- each of the words is one
 abbrev pub RowsReadable : List ℕ → List ℕ → List ℕ → Type 0
 RowsReadable steps table part = (i : ℕ) → i < length part → RowWithin steps table (getD part i 0)
 

@@ -1,12 +1,9 @@
 // One walk over the words of a sequence: its alternatives, each folded from left to right for all facts at once.
 use image::word::KIND_ALTERNATIVE;
-use image::word::KIND_CHECK;
 use image::word::KIND_STEP_ENTRY;
 use image::word::is_entry;
 use image::word::is_kind;
 use image::word::payload_of;
-use walk::sequence::rest_end;
-use walk::sequence::word_at;
 use row::words::Row;
 use row::words::joined;
 use row::words::live;
@@ -15,6 +12,10 @@ use row::words::of_check;
 use row::words::row_at;
 use row::words::start;
 use row::words::united;
+use walk::sequence::is_check;
+use walk::sequence::part_entry;
+use walk::sequence::rest_end;
+use walk::sequence::word_at;
 ghost use mathlib.Core.Path.{_≡_};
 ghost use mathlib.Core.Bool.{true, false};
 ghost use Prim.Native.Nat.{_≤_, _<_};
@@ -71,13 +72,13 @@ fn read_alternative(all: u64, steps: &[u64], table: &[u64], part: &[u32], at: us
     let mut i = at;
     loop {
         let w = word_at(part, i);
-        if !is_entry(w) {
+        if !part_entry(w) {
             return Read {
                 row: live(x),
                 ended: i,
             };
         }
-        if is_kind(KIND_CHECK, w) {
+        if is_check(w) {
             x = joined(x, check_row(w));
             i += 1;
         } else {

@@ -1,16 +1,16 @@
 // What an alternative comes to by the ranks as they stand, and the rank of a sequence lowered by its alternatives.
+use image::word::KIND_ALTERNATIVE;
+use image::word::is_kind;
+use question::asked::Asked;
+use question::asked::RUN_MARK;
+use question::asked::UNTOUCHED_MARK;
 use slot::entry::Traits;
 use slot::entry::choose;
 use slot::entry::passes;
 use slot::entry::rank_of;
 use slot::entry::traits_of;
-use image::word::KIND_ALTERNATIVE;
-use image::word::is_kind;
 use walk::sequence::part_entry;
 use walk::sequence::word_at;
-use question::asked::Asked;
-use question::asked::RUN_MARK;
-use question::asked::UNTOUCHED_MARK;
 ghost use mathlib.Core.Path.{_≡_};
 ghost use mathlib.Core.Bool.{cond};
 ghost use Prim.Native.Nat.{_+_, _≤_, min, max};

@@ -8,7 +8,6 @@ use mathlib.Core.Logic.{⊎-elim}
 use mathlib.Core.Bool.{Bool, true, false, cond}
 use mathlib.Core.List.{List}
 use lib.ListN.{length, getD, set, drop, length-set}
-use lib.Dec.{leb}
 use lib.Seq.{getD-take, getD-drop, getD-set-same, getD-set-other}
 use Rattle.image.specs.Word.{mostFacts, kind, payload, isKind, isEntry}
 use Rattle.library.specs.Library.{step, check, Entry, item, call, entryOf}
@@ -32,10 +31,6 @@ entry-number w = go (isKind 8 w) (isKind 13 w)
 pub cond-low : (b : Bool) (x y n : ℕ) → x ≤ n → y ≤ n → cond b x y ≤ n
 cond-low true x y n l m = l
 cond-low false x y n l m = m
-
--- of the kinds of entries that of steps is the least and that of checks the greatest
-pub kinds-between : (w : ℕ) → isEntry w ≡ true → (leb (kind w) 8 ≡ isKind 8 w) × (leb 13 (kind w) ≡ isKind 13 w)
-kinds-between w e = ⊎-elim (λ k. rw k (refl, refl)) (λ s. ⊎-elim (λ k. rw k (refl, refl)) (λ k. rw k (refl, refl)) s) (entry-cases w e)
 
 module _ (none w : ℕ) (T : List ℕ) (within : RankWithin none T w) (e : isEntry w ≡ true) where
   -- by the kind of the word

@@ -1,15 +1,16 @@
 // The words of a sequence: walked from left to right, and back from one alternative to the one before it.
 use image::word::AT_ONCE;
 use image::word::KIND_ALTERNATIVE;
+use image::word::KIND_CHECK;
 use image::word::KIND_STEP_ENTRY;
 use image::word::PAYLOADS;
 use image::word::is_entry;
 use image::word::is_kind;
 ghost use mathlib.Core.Path.{_≡_};
-ghost use mathlib.Core.Bool.{cond, _&&_};
+ghost use mathlib.Core.Bool.{true, cond, _&&_};
 ghost use Prim.Native.Nat.{_≤_};
 ghost use lib.ListN.{length, getD};
-ghost use Rattle.image.specs.Word.{mostWords, isEntry};
+ghost use Rattle.image.specs.Word.{mostWords, isKind, isEntry};
 ghost use Rattle.library.specs.Accepted.{HighEntry};
 ghost use Rattle.walk.specs.Walk.{entriesEnd, AllBefore, openerBefore};
 
@@ -35,6 +36,14 @@ pub fn part_entry(w: u32) -> bool
     ensures { λ r. ⌜ r ≡ isEntry w ⌝ }
 {
     KIND_STEP_ENTRY <= w / PAYLOADS
+}
+
+// Whether an entry is a check: of the kinds of entries that is the greatest.
+pub fn is_check(w: u32) -> bool
+    requires { ⌜ isEntry w ≡ true ⌝ }
+    ensures { λ r. ⌜ r ≡ isKind 13 w ⌝ }
+{
+    KIND_CHECK <= w / PAYLOADS
 }
 
 // The index after the entries that stand from index `at` on.

@@ -9,7 +9,7 @@ use Prim.Native.Nat.{ℕ, _-_, _<_}
 use lib.ListN.{length, getD, drop}
 use lib.Dec.{ltb}
 use Rattle.image.specs.Word.{kind, payload, isKind, isEntry}
-use Rattle.library.proofs.Decode.{check-entry}
+use Rattle.library.proofs.Decode.{high-at, check-entry}
 use Rattle.library.specs.Library.{entriesFrom}
 use Rattle.library.specs.Library.{entryOf}
 use Rattle.walk.proofs.Walking.{tested, folding-inside, folding-out, Leaving, leaving-start, leaving-turn, leaving-dead, leaving-rest, leaving-out}
@@ -30,7 +30,7 @@ abbrev μ-loop : tie.MeasureT-loop
 -- an entry stands there
 entry : (c : tie.Else1 Inv-loop μ-loop)
     → isEntry (getD (c .before .before .before .before .before .before .before .before .args .part .now) (c .before .before .before .loop .i) 0) ≡ true
-entry c = tested isEntry (c .before .before .word-at .ensures) (c .before .is-entry .ensures) (not-false _ (c .if1 .left))
+entry c = tested isEntry (c .before .before .word-at .ensures) (c .before .part-entry .ensures) (not-false _ (c .if1 .left))
 
 -- it is one of the words
 inside : (c : tie.Else1 Inv-loop μ-loop)
@@ -38,10 +38,10 @@ inside : (c : tie.Else1 Inv-loop μ-loop)
 inside c = folding-inside (c .before .before .before .loop .inv .folding) (entry c)
 
 -- the word is a check, or none
-check-told : (c : tie.After-is-kind Inv-loop μ-loop) (b : Bool) → c .is-kind .result ≡ b
+check-told : (c : tie.After-is-check Inv-loop μ-loop) (b : Bool) → c .is-check .result ≡ b
     → let at-loop = c .before .before .before .before in
     isKind 13 (getD (at-loop .before .before .before .before .before .args .part .now) (at-loop .loop .i) 0) ≡ b
-check-told c b told = tested (isKind 13) (c .before .before .before .word-at .ensures) (c .is-kind .ensures) told
+check-told c b told = tested (isKind 13) (c .before .before .before .word-at .ensures) (c .is-check .ensures) told
 
 -- the row of a step or a sequence
 row-is : (c : tie.After-named-row Inv-loop μ-loop)
@@ -75,8 +75,11 @@ loop-holds c = rw (c .start .ensures) (leaving-start (c .before .before .before 
 word-at-requires : tie.Need-word-at-requires Inv-loop μ-loop
 word-at-requires c κs = search needs
 
-is-entry-requires : tie.Need-is-entry-requires Inv-loop μ-loop
-is-entry-requires c κs = search needs
+part-entry-requires : tie.Need-part-entry-requires Inv-loop μ-loop
+part-entry-requires c κs =
+    let at-loop = c .before in
+    let start = at-loop .before .before .before .before .before in
+    rw (c .word-at .ensures) (high-at (start .args .part .now) (λ j l. start .pre .0 j l .high) (at-loop .loop .i))
 
 live-requires : tie.Need-live-requires Inv-loop μ-loop
 live-requires c κs = search needs
@@ -86,11 +89,11 @@ unfolding joinedFrom
 returns c =
     let word = c .before .before .before in
     let here = word .before .loop .inv in
-    let e = tested isEntry (word .word-at .ensures) (c .before .before .is-entry .ensures) (not-true _ (c .before .if1 .taken)) in
+    let e = tested isEntry (word .word-at .ensures) (c .before .before .part-entry .ensures) (not-true _ (c .before .if1 .taken)) in
     record { row = c .live .ensures ∙ ap liveRow (folding-out (here .folding) e); ended = leaving-out here e }
 
-is-kind-requires : tie.Need-is-kind-requires Inv-loop μ-loop
-is-kind-requires c κs = search needs
+is-check-requires : tie.Need-is-check-requires Inv-loop μ-loop
+is-check-requires c κs = rw (c .before .before .word-at .ensures) (entry c)
 
 -- a check: its row, and it is not dead
 check-kind : (c : tie.Then2 Inv-loop μ-loop)
@@ -188,10 +191,10 @@ read-alternative-spec =
     start-requires
     loop-holds
     word-at-requires
-    is-entry-requires
+    part-entry-requires
     live-requires
     returns
-    is-kind-requires
+    is-check-requires
     check-row-requires
     joined-requires
     add-i

@@ -4,7 +4,8 @@ use native.Mathlib.Omega.{arith}
 use lib.Dec.{leb}
 use Rattle.image.specs.Word.{kind}
 use Rattle.slot.specs.Slots.{firstStep}
-use Rattle.slot.proofs.Slots.{cond-low, kinds-between}
+use Rattle.image.proofs.Words.{kinds-between}
+use Rattle.slot.proofs.Slots.{cond-low}
 use borrow.Author.Needs.{needs}
 use Rattle.slot.proofs.entry.slot_of.Statement.{statement}
 use Rattle.slot.proofs.entry.slot_of.Tie as tie
