@@ -63,7 +63,7 @@ extern "C" {
  * takes no memory from the heap.
  */
 #define DULIMOVEN_STACK_CHECK 1024
-#define DULIMOVEN_STACK_CARDS 131072
+#define DULIMOVEN_STACK_CARDS 163840
 #define DULIMOVEN_STACK_CHAIN 65536
 
 /*
