@@ -4,14 +4,15 @@ use Prim.Native.Nat.{ℕ, _+_, _-_, _*_, _≤_}
 use native.Mathlib.Omega.{arith}
 use native.Mathlib.Decide.{ℕ-discrete}
 use mathlib.Core.Path.{_≡_, refl, sym, ap, ap₂, _∙_, subst}
-use mathlib.Core.Bool.{true, false, false≢true}
+use mathlib.Core.Bool.{Bool, true, false, cond, not, false≢true}
 use mathlib.Core.List.{List, [], _∷_}
 use lib.ListN.{length}
-use Rattle.row.specs.Words.{rowWords, noRow, startRow, orRows, joinRows, liveRow, rowIn, withRow}
-use Rattle.library.specs.Library.{Entry, Alternative}
+use Rattle.row.specs.Words.{rowWords, noRow, startRow, orRows, joinRows, rowIn, withRow}
+use Rattle.library.specs.Library.{Entry, item, call, Alternative}
+use lib.Dec.{ltb}
 use Rattle.walk.specs.Walk.{alternativesAt}
 use Rattle.general.specs.Tests.{All}
-use Rattle.outcome.specs.Walks.{entryIn, joinedFrom, alternativeIn, unitedFrom}
+use Rattle.outcome.specs.Walks.{isDead, entryIn, joinedFrom, alternativeIn, unitedFrom}
 use Rattle.outcome.specs.Visited.{visitedRow, visited}
 use Rattle.callers.specs.Callers.{calls}
 use Rattle.row.specs.declared.words.Row.{Row}
@@ -26,17 +27,23 @@ module _ (all : ℕ) (steps t t′ : List ℕ) where
   abbrev Same : Entry → Type 0
   Same e = entryIn steps t e ≡ entryIn steps t′ e
 
+  -- and is dead by both or by neither
+  same-dead : (e : Entry) → Same e → isDead t e ≡ isDead t′ e
+  same-dead (item x) same = refl
+  same-dead (call d) same = ap (λ (r : Row). not (ltb 0 (r .run))) same
+
   joined-local : (X : Row) (es : List Entry) → All Same es → joinedFrom steps t X es ≡ joinedFrom steps t′ X es
   unfolding joinedFrom
   joined-local X [] a = refl
   joined-local X (e ∷ es) a =
-      ap (λ (r : Row). joinedFrom steps t (joinRows X r) es) (a .0) ∙ joined-local (joinRows X (entryIn steps t′ e)) es (a .1)
+      ap₂ (λ (b : Bool) (r : Row). cond b noRow (joinedFrom steps t (joinRows X r) es)) (same-dead e (a .0)) (a .0)
+      ∙ ap (cond (isDead t′ e) noRow) (joined-local (joinRows X (entryIn steps t′ e)) es (a .1))
 
   united-local : (X : Row) (alts : List Alternative) → All (All Same) alts → unitedFrom all steps t X alts ≡ unitedFrom all steps t′ X alts
   unfolding unitedFrom
   united-local X [] a = refl
   united-local X (es ∷ alts) a =
-      ap (λ (r : Row). unitedFrom all steps t (orRows X (liveRow r)) alts) (joined-local (startRow all) es (a .0))
+      ap (λ (r : Row). unitedFrom all steps t (orRows X r) alts) (joined-local (startRow all) es (a .0))
       ∙ united-local (orRows X (alternativeIn all steps t′ es)) alts (a .1)
 
 -- ---- a visit depends on those that are called

@@ -81,10 +81,17 @@ module _ {h : Head} {image ms₀ ps₀ callers₀ order₀ rs₀ table : List �
     words-are : All (SequenceWord h) part
     words-are = subst (All (SequenceWord h)) (sym sequences) (parts image h (asked .tables .accepted) .sequences)
 
+    -- there is a fact
+    all-some : 0 < all
+    all-some =
+        let right = faultless image h (asked .tables .accepted) in
+        omega (arith, ones, pow-mono {i = 1} {j = h .facts} (right .facts-low))
+
     fill-given : Given L h rs part ps
     fill-given =
         record {
           narrow = omega (arith, has .facts, faultless image h (asked .tables .accepted) .facts-high);
+          some = omega (arith, all-some, facts-are);
           facts = has .facts;
           counted = has .steps;
           sequences = has .sequences;
@@ -104,12 +111,6 @@ module _ {h : Head} {image ms₀ ps₀ callers₀ order₀ rs₀ table : List �
               subst (LowRow n) (sym (step-is a l)) (step-low n _ _ _ (mask-low n _ (b .0)) (mask-low n _ (b .1)) (mask-low n _ (b .2)))
           | no l ↦ subst (LowRow (L .facts)) (sym (rowed .stays a (omega (arith, has .steps)) ∙ blank-row rs₀ (asked .rows-blank) a)) (none-low (L .facts))
         ]
-
-    -- there is a fact
-    all-some : 0 < all
-    all-some =
-        let right = faultless image h (asked .tables .accepted) in
-        omega (arith, ones, pow-mono {i = 1} {j = h .facts} (right .facts-low))
 
     -- what the passes ask
     pub settle-asked : RowsVisitable (h .sequences) rs part ps (take (rowWords * h .sequences) table)

@@ -2,6 +2,7 @@ pub mod Bridge
 pub mod Stores
 pub mod Visited
 pub mod Low
+pub mod Whole
 pub mod Settled
 pub mod Filled
 pub mod Fill

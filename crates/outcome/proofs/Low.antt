@@ -5,6 +5,7 @@ use native.Mathlib.Decide.{ℕ-discrete}
 use native.Mathlib.Nat.{lt-of-le-of-lt}
 use native.Mathlib.Omega.{arith}
 use mathlib.Core.Path.{sym, subst}
+use mathlib.Core.Bool.{Bool, true, false, cond}
 use mathlib.Core.List.{List, [], _∷_}
 use lib.ListN.{length}
 use lib.Bits.{bitAnd, bitOr, and-le-l, and-le-r, or-lt}
@@ -13,8 +14,8 @@ use Rattle.column.specs.Column.{withFact}
 use Rattle.column.specs.Sets.{difference}
 use Rattle.library.specs.Library.{Entry, step, check, item, call, Alternative}
 use Rattle.walk.specs.Walk.{alternativesAt}
-use Rattle.row.specs.Words.{rowWords, allFacts, allBits, noRow, startRow, notWord, stepMarks, stepRow, checkRow, laterMarks, joinRows, orMarks, orRows, liveRow, rowIn}
-use Rattle.outcome.specs.Walks.{entryIn, joinedFrom, alternativeIn, unitedFrom}
+use Rattle.row.specs.Words.{rowWords, allFacts, allBits, noRow, startRow, notWord, stepMarks, stepRow, checkRow, laterMarks, joinRows, orMarks, orRows, rowIn}
+use Rattle.outcome.specs.Walks.{isDead, entryIn, joinedFrom, alternativeIn, unitedFrom}
 use Rattle.outcome.specs.Visited.{visited}
 use Rattle.settling.specs.Settling.{Reached, here, next}
 use Rattle.row.specs.declared.words.Marks.{Marks}
@@ -79,7 +80,7 @@ module _ (n : ℕ) where
   unfolding LowMarks
   join-low x y a b =
       record {
-        run = and-low (x .run) (y .run) (a .run);
+        run = a .run;
         empty = and-low (x .empty) (y .empty) (a .empty);
         last = later-low (x .last) (y .last) (a .last) (b .last);
         first = later-low (y .first) (x .first) (b .first) (a .first);
@@ -95,7 +96,7 @@ module _ (n : ℕ) where
       let others = difference 64 allBits fact in
       let kept : (b c : ℕ) → b < 2 ^ n → bitOr (bitAnd b c) 0 < 2 ^ n = λ b c l. or-low (bitAnd b c) 0 (and-low b c l) (pow-pos n) in
       record {
-        run = and-low (x .run) allBits (a .run);
+        run = a .run;
         empty = and-low (x .empty) allBits (a .empty);
         last = (kept (x .last .present) allBits (a .last .0), kept (x .last .absent) allBits (a .last .1), and-low (x .last .untouched) allBits (a .last .2));
         first = (
@@ -124,17 +125,9 @@ module _ (n : ℕ) where
         unmentioned = or-low (x .unmentioned) (y .unmentioned) (a .unmentioned) (b .unmentioned);
       }
 
-  live-low : (x : Row) → LowRow x → LowRow (liveRow x)
-  live-low x a =
-      let low : (b : ℕ) → bitAnd (x .run) b < 2 ^ n = λ b. and-low (x .run) b (a .run) in
-      record {
-        run = low (x .run);
-        empty = low (x .empty);
-        last = (low (x .last .present), low (x .last .absent), low (x .last .untouched));
-        first = (low (x .first .present), low (x .first .absent), low (x .first .untouched));
-        cleared = low (x .cleared);
-        unmentioned = low (x .unmentioned);
-      }
+  cond-low : (b : Bool) (r : Row) → LowRow r → LowRow (cond b noRow r)
+  cond-low true r a = none-low
+  cond-low false r a = a
 
   -- ---- entries and alternatives
 
@@ -147,13 +140,13 @@ module _ (n : ℕ) where
     joined-low : (es : List Entry) (X : Row) → LowRow X → LowRow (joinedFrom steps table X es)
     unfolding joinedFrom
     joined-low [] X a = a
-    joined-low (e ∷ es) X a = joined-low es (joinRows X (entryIn steps table e)) (entry-low e X a)
+    joined-low (e ∷ es) X a = cond-low (isDead table e) _ (joined-low es (joinRows X (entryIn steps table e)) (entry-low e X a))
 
     united-low : (alts : List Alternative) (X : Row) → LowRow X → LowRow (unitedFrom (allFacts n) steps table X alts)
     unfolding unitedFrom
     united-low [] X a = a
     united-low (es ∷ alts) X a =
-        united-low alts (orRows X (alternativeIn (allFacts n) steps table es)) (union-low X _ a (live-low _ (joined-low es (startRow (allFacts n)) start-low)))
+        united-low alts (orRows X (alternativeIn (allFacts n) steps table es)) (union-low X _ a (joined-low es (startRow (allFacts n)) start-low))
 
   -- ---- a table
 

@@ -8,6 +8,7 @@ use native.Mathlib.Numerals.{add-one}
 use native.Mathlib.Omega.{arith}
 use mathlib.Core.Path.{_≡_, refl, sym, ap, ap₂, _∙_, subst, fun-ext}
 use mathlib.Core.Bool.{Bool, true, false, _||_}
+use mathlib.Core.Logic.{inl}
 use mathlib.Core.List.{List, [], _∷_, List·Memᴰ, List·Memᴰ·head, List·Memᴰ·tail}
 use lib.ListN.{length, getD, drop, List·getD-eq-default}
 use Rattle.library.specs.Library.{Library, Sequence, Alternative, Entry, alternativesFrom, sequencesFrom}
@@ -27,14 +28,15 @@ use Rattle.outcome.specs.Walks.{unitedFrom}
 use Rattle.outcome.specs.Visited.{visited}
 use Rattle.settling.specs.Settling.{Reached, here, next, Settled}
 use Rattle.row.specs.declared.words.Row as words
-use Rattle.outcome.proofs.Bridge.{Stepped, tableBits, united-bits}
-use Rattle.runs.proofs.Rows.{by-column, columnNumber-below, none-good, or-good, read-good, rows-possible}
+use Rattle.outcome.proofs.Bridge.{Stepped, none-row, tableBits, united-bits}
+use Rattle.outcome.proofs.Whole.{Whole, reached-whole}
+use Rattle.runs.proofs.Rows.{columnNumber-below, none-good, or-good, read-good, rows-possible}
 use Rattle.outcome.proofs.Stores.{row-same, row-other}
 use Rattle.general.proofs.Bools.{or-right}
 use Rattle.general.proofs.Tests.{some-intro}
 use Rattle.outcome.proofs.Visited.{visits-lower}
 use Rattle.settling.proofs.Visits.{reached-length}
-use Rattle.row.proofs.Bits.{or-bits, none-set}
+use Rattle.row.proofs.Bits.{or-bits}
 
 -- rows that agree are good together
 good-agree : (L : Library) (f c : ℕ) (r r′ : Row) → ((j : ℕ) → j < rowWords → r j ≡ r′ j) → GoodRow L f c r → GoodRow L f c r′
@@ -53,18 +55,6 @@ union-good : (L : Library) (f c : ℕ) (B : ℕ → Row) (alts : List Alternativ
 unfolding some
 union-good L f c B [] each = none-good L f c
 union-good L f c B (es ∷ alts) each = or-good L f c (readRow L f B es) _ (each 0 (omega arith)) (union-good L f c B alts (λ i l. each (suc i) (omega arith)))
-
--- a blank row has nothing
-none-row : (f j : ℕ) → j < rowWords → bitRow noRow f j ≡ false
-none-row f = by-column (λ (j : ℕ). bitRow noRow f j ≡ false) (none-set f) (none-set f) side (none-set f) (none-set f)
-  where
-    side : (s : Side) (m : Mark) → bitRow noRow f (columnNumber s m) ≡ false
-    side last present = none-set f
-    side last absent = none-set f
-    side last untouched = none-set f
-    side first present = none-set f
-    side first absent = none-set f
-    side first untouched = none-set f
 
 pub blank-row : (t : List ℕ) → ((k : ℕ) → getD t k 0 ≡ 0) → (c : ℕ) → rowIn t c ≡ noRow
 blank-row t blank c i =
@@ -85,6 +75,7 @@ member (es ∷ alts) (suc i) l = List·Memᴰ·tail (member alts i (le-of-suc-le
 -- what the tables of an accepted image say: the rows of the steps, and places
 pub record Given (L : Library) (h : Head) (steps part places : List ℕ) : Type 0 where
   pub narrow : L .facts ≤ 64
+  pub some : 0 < allFacts (L .facts)
   pub facts : L .facts ≡ h .facts
   pub counted : length (L .steps) ≡ h .steps
   pub sequences : length (L .sequences) ≡ h .sequences
@@ -102,8 +93,12 @@ module _ (L : Library) (h : Head) (steps part places : List ℕ) (given : Given 
   visit : List ℕ → ℕ → List ℕ
   visit t c = visited (allFacts (L .facts)) steps part places t c
 
+  -- a run is found for all facts or for none
+  abbrev WholeTable : List ℕ → Type 0
+  WholeTable t = (c : ℕ) → Whole (allFacts (L .facts)) (rowIn t c)
+
   -- the bits of a row after a visit
-  module _ (t : List ℕ) (room : rowWords * h .sequences ≤ length t) (c : ℕ) (l : c < h .sequences) (f : ℕ) (below : f < L .facts) where
+  module _ (t : List ℕ) (room : rowWords * h .sequences ≤ length t) (whole : WholeTable t) (c : ℕ) (l : c < h .sequences) (f : ℕ) (below : f < L .facts) where
     gives : Row
     gives j = some (λ (es : List Entry). readRow L f (tableBits t f) es j) (alternativesOf (L .sequences) c)
 
@@ -118,7 +113,7 @@ module _ (L : Library) (h : Head) (steps part places : List ℕ) (given : Given 
         ap (λ (r : words.Row). bitRow r f j) (row-same t c (orRows (rowIn t c) y) (omega arith))
         ∙ or-bits (rowIn t c) y f j k
         ∙ ap (λ (b : Bool). tableBits t f c j || b)
-        (united-bits L h steps t (given .narrow) (given .facts) (given .counted) (given .stepped) f below (alternativesFrom rest)
+        (united-bits L h steps t (given .narrow) (given .facts) (given .counted) (given .stepped) whole (given .some) f below (alternativesFrom rest)
         (alternatives-named h rest (all-drop h (p + 1) part (given .words))) noRow j k
         ∙ ap₂ _||_ (none-row f j k) (ap (λ (alts′ : List Alternative). some (λ (es : List Entry). readRow L f (tableBits t f) es j) alts′) alts))
 
@@ -142,6 +137,12 @@ module _ (L : Library) (h : Head) (steps part places : List ℕ) (given : Given 
         ap (λ (s : List ℕ). tableBits s f c j) (sym same) ∙ visit-bits j u
         ∙ or-right (tableBits t f c j) (gives j) (some-intro (λ (es : List Entry). readRow L f (tableBits t f) es j) (member alts i k) e)
 
+  -- from a blank table a run is found for all facts or for none
+  blank-whole : {t₀ t : List ℕ} → rowWords * h .sequences ≤ length t₀ → ((k : ℕ) → getD t₀ k 0 ≡ 0)
+      → Reached (visited (allFacts (L .facts)) steps part places) (h .sequences) t₀ t → WholeTable t
+  blank-whole {t₀} room blank reached =
+      reached-whole (allFacts (L .facts)) steps part places (h .sequences) room (λ c. inl (ap (λ (r : words.Row). r .run) (blank-row t₀ blank c))) reached
+
   -- from a blank table every row stays good
   reached-good : {t₀ t : List ℕ} → rowWords * h .sequences ≤ length t₀ → ((k : ℕ) → getD t₀ k 0 ≡ 0)
       → Reached (visited (allFacts (L .facts)) steps part places) (h .sequences) t₀ t → (f : ℕ) → f < L .facts → GoodRows L f (tableBits t f)
@@ -149,14 +150,15 @@ module _ (L : Library) (h : Head) (steps part places : List ℕ) (given : Given 
   reached-good {t₀} room blank here f below = λ c.
       good-agree L f c (λ (j : ℕ). false) (tableBits t₀ f c) (λ j k. sym (ap (λ (r : words.Row). bitRow r f j) (blank-row t₀ blank c) ∙ none-row f j k)) (none-good L f c)
   reached-good room blank (next {table = s} c l r) f below =
-      good-visit s (omega (arith, reached-length (visits-lower (allFacts (L .facts)) steps part places (h .sequences)) r)) c l f below (reached-good room blank r f below)
+      good-visit s (omega (arith, reached-length (visits-lower (allFacts (L .facts)) steps part places (h .sequences)) r)) (blank-whole room blank r) c l f below
+      (reached-good room blank r f below)
 
-  settled-closed : (t : List ℕ) → rowWords * h .sequences ≤ length t → Settled (visited (allFacts (L .facts)) steps part places) (h .sequences) t
+  settled-closed : (t : List ℕ) → rowWords * h .sequences ≤ length t → WholeTable t → Settled (visited (allFacts (L .facts)) steps part places) (h .sequences) t
       → (f : ℕ) → f < L .facts → ClosedRows L f (tableBits t f)
   unfolding visit
-  settled-closed t room settled f below c i k j u e =
+  settled-closed t room whole settled f below c i k j u e =
       elim (decLt c (h .sequences)) [
-        | yes l ↦ settled-covers t room c l f below (settled c l) i k j u e
+        | yes l ↦ settled-covers t room whole c l f below (settled c l) i k j u e
         | no l ↦ absurd (omega (arith, ap (λ (alts : List Alternative). length alts) (List·getD-eq-default (L .sequences) [] {n = c} (omega (arith, given .sequences)))))
       ]
 
@@ -166,4 +168,5 @@ module _ (L : Library) (h : Head) (steps part places : List ℕ) (given : Given 
       → (f : ℕ) → f < L .facts → (j : ℕ) → j < rowWords → (c : ℕ) → tableBits t f c j ≡ columnPossible L j c f
   settled-bits t₀ t room blank reached settled f below =
       rows-possible L f (tableBits t f) (reached-good room blank reached f below)
-      (settled-closed t (omega (arith, reached-length (visits-lower (allFacts (L .facts)) steps part places (h .sequences)) reached)) settled f below)
+      (settled-closed t (omega (arith, reached-length (visits-lower (allFacts (L .facts)) steps part places (h .sequences)) reached)) (blank-whole room blank reached) settled
+      f below)

@@ -1,4 +1,4 @@
--- The rows that the loops over a sequence's words make: an alternative with a dead entry, and alternatives without entries.
+-- The rows that the loops over a sequence's words make: which entries are dead, by their rows, and alternatives without entries.
 -- Assumes nothing.
 use Prim.Native.Nat.{ℕ, zero, suc, _+_, _-_, _≤_}
 use native.Mathlib.Omega.{arith}
@@ -6,31 +6,17 @@ use mathlib.Core.Path.{_≡_, refl, sym, ap, _∙_}
 use mathlib.Core.Bool.{Bool, true, false, cond, not}
 use mathlib.Core.List.{List, [], _∷_, _++_}
 use lib.ListN.{length, getD, drop, replicate}
-use lib.Bits.{and-zero-l, and-zero-r}
 use lib.Dec.{ltb}
 use borrow.Author.Tests.{eqb-true, lt-ltb}
 use Rattle.image.specs.Word.{kind, payload, isKind, isEntry}
 use Rattle.library.specs.Library.{Entry, step, check, item, call, entryOf, Alternative, alternativesFrom}
 use Rattle.walk.proofs.Walking.{opener-inside, entries-at, alternatives-at, Walking, walking-here}
-use Rattle.row.specs.Words.{noRow, startRow, joinRows, orRows, liveRow, rowIn}
+use Rattle.row.specs.Words.{noRow, startRow, joinRows, orRows, rowIn}
 use Rattle.outcome.specs.Walks.{RowWithin, isDead, entryIn, joinedFrom, unitedFrom, EmptiesEnd}
 use Rattle.row.specs.declared.words.Row.{Row}
 use Rattle.outcome.proofs.Stores.{rows-again}
 
--- an alternative of which what stands before has no run
-pub dead-fold : (steps table : List ℕ) (X : Row) (es : List Entry) → X .run ≡ 0 → liveRow (joinedFrom steps table X es) ≡ noRow
-unfolding joinedFrom
-dead-fold steps table X [] none = rw none (simp and-zero-l)
-dead-fold steps table X (e ∷ es) none =
-    dead-fold steps table (joinRows X (entryIn steps table e)) es (rw none (and-zero-l (entryIn steps table e .run)))
-
--- an alternative with an entry in whose row no run is found
-pub dead-entry : (steps table : List ℕ) (X : Row) (e : Entry) (es : List Entry) → entryIn steps table e .run ≡ 0
-    → liveRow (joinedFrom steps table X (e ∷ es)) ≡ noRow
-unfolding joinedFrom
-dead-entry steps table X e es none = dead-fold steps table (joinRows X (entryIn steps table e)) es (rw none (and-zero-r (X .run)))
-
--- such an entry names a sequence, since a run is found in the row of a step and in that of a check
+-- an entry in whose row no run is found names a sequence, since a run is found in the row of a step and in that of a check
 pub dead-is : (steps table : List ℕ) (w : ℕ) → RowWithin steps table w → isEntry w ≡ true
     → isDead table (entryOf w) ≡ not (ltb 0 (entryIn steps table (entryOf w) .run))
 dead-is steps table w within e = go (isKind 8 w) (isKind 13 w) refl refl
@@ -41,6 +27,16 @@ dead-is steps table w within e = go (isKind 8 w) (isKind 13 w) refl refl
     go true b k m = sym (ap not (lt-ltb 0 (rowIn steps (payload w) .run) (within .run (eqb-true (kind w) 8 k))))
     go false true k m = refl
     go false false k m = refl
+
+-- an entry joined to what stands before it, where it is not dead, and nothing where it is
+module _ (steps table : List ℕ) (X : Row) (e : Entry) (es : List Entry) where
+  pub joined-live : isDead table e ≡ false → joinedFrom steps table X (e ∷ es) ≡ joinedFrom steps table (joinRows X (entryIn steps table e)) es
+  unfolding joinedFrom
+  joined-live live = ap (λ (b : Bool). cond b noRow (joinedFrom steps table (joinRows X (entryIn steps table e)) es)) live
+
+  pub joined-dead : isDead table e ≡ true → joinedFrom steps table X (e ∷ es) ≡ noRow
+  unfolding joinedFrom
+  joined-dead dead = ap (λ (b : Bool). cond b noRow (joinedFrom steps table (joinRows X (entryIn steps table e)) es)) dead
 
 -- ---- alternatives without entries
 
@@ -75,20 +71,20 @@ empties-turn {part} {at} {i} here e none =
 
 module _ (all : ℕ) (steps table : List ℕ) where
   abbrev empty : Row
-  empty = liveRow (startRow all)
+  empty = startRow all
 
   -- a row that has the empty alternative's already
   united-empties : (X : Row) (n : ℕ) (alts : List Alternative) → orRows X empty ≡ X
       → unitedFrom all steps table X (replicate n [] ++ alts) ≡ unitedFrom all steps table X alts
-  unfolding unitedFrom
+  unfolding unitedFrom joinedFrom
   united-empties X zero alts has = refl
   united-empties X (suc n) alts has =
       ap (λ (Y : Row). unitedFrom all steps table Y (replicate n [] ++ alts)) has ∙ united-empties X n alts has
 
   -- an alternative without entries, and those after it
   pub uniting-empties : {part : List ℕ} {whole : Row} (x : Row) {i r : ℕ} → Walking part whole (unitedFrom all steps table x) i → isKind 7 (getD part i 0) ≡ true
-      → isEntry (getD part (i + 1) 0) ≡ false → EmptiesEnd part (i + 1) r → Walking part whole (unitedFrom all steps table (orRows x (liveRow (startRow all)))) r
-  unfolding unitedFrom
+      → isEntry (getD part (i + 1) 0) ≡ false → EmptiesEnd part (i + 1) r → Walking part whole (unitedFrom all steps table (orRows x (startRow all))) r
+  unfolding unitedFrom joinedFrom
   uniting-empties {part} x {i} {r} here e none ends =
       let y = orRows x empty in
       record {

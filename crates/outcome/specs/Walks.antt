@@ -2,7 +2,7 @@
 -- the alternatives of a sequence are united. What each gives for a fact is what `Rows` says, which `proofs/` shows.
 use Prim.Native.Nat.{ℕ, _+_, _-_, _*_, _≤_, _<_}
 use mathlib.Core.Path.{_≡_}
-use mathlib.Core.Bool.{Bool}
+use mathlib.Core.Bool.{Bool, cond}
 use mathlib.Core.List.{List, [], _∷_, _++_}
 use lib.ListN.{length, getD, drop, replicate}
 use lib.Dec.{ltb}
@@ -10,7 +10,7 @@ use Rattle.image.specs.Word.{kind, payload, mostFacts}
 use Rattle.library.specs.Library.{Entry, step, check, item, call, Alternative, entriesFrom, alternativesFrom}
 use Rattle.library.specs.Accepted.{HighEntry}
 use Rattle.walk.specs.Walk.{namesNone, walkEnd}
-use Rattle.row.specs.Words.{rowWords, startRow, stepRow, checkRow, joinRows, orRows, liveRow, rowIn}
+use Rattle.row.specs.Words.{rowWords, noRow, startRow, stepRow, checkRow, joinRows, orRows, rowIn}
 use Rattle.row.specs.declared.words.Row.{Row}
 use Rattle.outcome.specs.declared.read.Read.{Read}
 use Rattle.library.specs.Tables.{maskWords}
@@ -39,15 +39,15 @@ module _ (steps table : List ℕ) where
   entryIn (item (check f)) = checkRow f
   entryIn (call d) = rowIn table d
 
-  -- the row after the entries from here on, where that of those before is X
+  -- the row after the entries from here on, where that of those before is X: nothing where one of them is dead
   unfoldable pub joinedFrom : Row → List Entry → Row
   joinedFrom X [] = X
-  joinedFrom X (e ∷ es) = joinedFrom (joinRows X (entryIn e)) es
+  joinedFrom X (e ∷ es) = cond (isDead table e) noRow (joinedFrom (joinRows X (entryIn e)) es)
 
 module _ (all : ℕ) (steps table : List ℕ) where
   -- the row of an alternative
   abbrev pub alternativeIn : Alternative → Row
-  alternativeIn es = liveRow (joinedFrom steps table (startRow all) es)
+  alternativeIn es = joinedFrom steps table (startRow all) es
 
   -- X with the rows of the alternatives from here on
   unfoldable pub unitedFrom : Row → List Alternative → Row

@@ -6,7 +6,6 @@ use image::word::is_kind;
 use image::word::payload_of;
 use row::words::Row;
 use row::words::joined;
-use row::words::live;
 use row::words::none;
 use row::words::of_check;
 use row::words::row_at;
@@ -73,10 +72,7 @@ fn read_alternative(all: u64, steps: &[u64], table: &[u64], part: &[u32], at: us
     loop {
         let w = word_at(part, i);
         if !part_entry(w) {
-            return Read {
-                row: live(x),
-                ended: i,
-            };
+            return Read { row: x, ended: i };
         }
         if is_check(w) {
             x = joined(x, check_row(w));
@@ -128,7 +124,7 @@ pub fn read_sequence(all: u64, steps: &[u64], table: &[u64], part: &[u32], at: u
             x = united(x, row);
             i = r.ended;
         } else {
-            x = united(x, live(start(all)));
+            x = united(x, start(all));
             i = empties_end(part, i);
         }
     }

@@ -4,7 +4,7 @@ use Prim.Native.Nat.{ℕ, zero, suc, _+_, _-_, _/_, _^_, _≤_, _<_, max, min}
 use native.Mathlib.Nat.{sub-zero}
 use native.Mathlib.Omega.{arith}
 use mathlib.Core.Path.{_≡_, refl, sym, ap, _∙_}
-use mathlib.Core.Bool.{Bool, true, false, not, _&&_, _||_, or-false}
+use mathlib.Core.Bool.{Bool, true, false, not, _&&_, _||_, and-true, or-false}
 use lib.Bits.{bitAnd, bitOr, or-lt}
 use lib.Dec.{eqb}
 use lib.Pow.{ones-split, high, ones-lt, pow-pos, pow-lt}
@@ -15,7 +15,7 @@ use Rattle.column.proofs.Bits.{bit-le, bit-or, bit-and, bit-not, bit-none, bit-
 use Rattle.runs.specs.Touch.{Mark, present, absent, untouched, Side, last, first}
 use Rattle.runs.specs.Rows as rows
 use Rattle.runs.specs.Rows.{columnNumber, joinRow, touchRow}
-use Rattle.row.specs.Words.{rowWords, allFacts, allBits, startRow, notWord, stepRow, checkRow, joinRows, orRows, liveRow, isSet, bitRow}
+use Rattle.row.specs.Words.{rowWords, allFacts, allBits, startRow, notWord, stepRow, checkRow, joinRows, orRows, isSet, bitRow}
 use Rattle.row.specs.declared.words.Row.{Row}
 use Rattle.runs.proofs.Rows.{by-column}
 
@@ -79,27 +79,15 @@ or-bits x y f =
     side first absent = or-set (x .first .absent) (y .first .absent) f
     side first untouched = or-set (x .first .untouched) (y .first .untouched) f
 
--- the row where it has a run
-pub live-bits : (x : Row) (f j : ℕ) → j < rowWords → bitRow (liveRow x) f j ≡ (bitRow x f 0 && bitRow x f j)
-live-bits x f =
-    by-column (λ (j : ℕ). bitRow (liveRow x) f j ≡ (bitRow x f 0 && bitRow x f j)) (and-set (x .run) (x .run) f) (and-set (x .run) (x .empty) f) side
-    (and-set (x .run) (x .cleared) f) (and-set (x .run) (x .unmentioned) f)
-  where
-    side : (s : Side) (m : Mark) → bitRow (liveRow x) f (columnNumber s m) ≡ (bitRow x f 0 && bitRow x f (columnNumber s m))
-    side last present = and-set (x .run) (x .last .present) f
-    side last absent = and-set (x .run) (x .last .absent) f
-    side last untouched = and-set (x .run) (x .last .untouched) f
-    side first present = and-set (x .run) (x .first .present) f
-    side first absent = and-set (x .run) (x .first .absent) f
-    side first untouched = and-set (x .run) (x .first .untouched) f
-
--- one list followed by another
+-- one list followed by another that has a run
 later-set : (a b c f : ℕ) → isSet (bitOr (bitAnd a b) c) f ≡ (isSet a f && isSet b f || isSet c f)
 later-set a b c f = or-set (bitAnd a b) c f ∙ ap (λ (t : Bool). t || isSet c f) (and-set a b f)
 
-pub join-bits : (x y : Row) (f j : ℕ) → j < rowWords → bitRow (joinRows x y) f j ≡ joinRow (bitRow x f) (bitRow y f) j
-join-bits x y f =
-    by-column (λ (j : ℕ). bitRow (joinRows x y) f j ≡ joinRow (bitRow x f) (bitRow y f) j) (and-set (x .run) (y .run) f)
+pub join-bits : (x y : Row) (f : ℕ) → isSet (y .run) f ≡ true → (j : ℕ) → j < rowWords
+    → bitRow (joinRows x y) f j ≡ joinRow (bitRow x f) (bitRow y f) j
+join-bits x y f runs =
+    by-column (λ (j : ℕ). bitRow (joinRows x y) f j ≡ joinRow (bitRow x f) (bitRow y f) j)
+    (sym (ap (λ (t : Bool). isSet (x .run) f && t) runs ∙ and-true (isSet (x .run) f)))
     (and-set (x .empty) (y .empty) f) side (later-set (x .cleared) (y .unmentioned) (y .cleared) f) (and-set (x .unmentioned) (y .unmentioned) f)
   where
     side : (s : Side) (m : Mark) → bitRow (joinRows x y) f (columnNumber s m) ≡ joinRow (bitRow x f) (bitRow y f) (columnNumber s m)

@@ -69,7 +69,7 @@ checkRow f =
       unmentioned = difference 64 allBits (withFact 0 f);
     }
 
--- one list followed by another
+-- one list followed by another, of which a run is found: there is a run of both where there is one of the first
 abbrev pub laterMarks : Marks → Marks → Marks
 laterMarks x y =
     record {
@@ -81,7 +81,7 @@ laterMarks x y =
 abbrev pub joinRows : Row → Row → Row
 joinRows x y =
     record {
-      run = bitAnd (x .run) (y .run);
+      run = x .run;
       empty = bitAnd (x .empty) (y .empty);
       last = laterMarks (x .last) (y .last);
       first = laterMarks (y .first) (x .first);
@@ -107,26 +107,6 @@ orRows x y =
       first = orMarks (x .first) (y .first);
       cleared = bitOr (x .cleared) (y .cleared);
       unmentioned = bitOr (x .unmentioned) (y .unmentioned);
-    }
-
--- the row where it has a run
-abbrev pub liveMarks : ℕ → Marks → Marks
-liveMarks run x =
-    record {
-      present = bitAnd run (x .present);
-      absent = bitAnd run (x .absent);
-      untouched = bitAnd run (x .untouched);
-    }
-
-abbrev pub liveRow : Row → Row
-liveRow x =
-    record {
-      run = bitAnd (x .run) (x .run);
-      empty = bitAnd (x .run) (x .empty);
-      last = liveMarks (x .run) (x .last);
-      first = liveMarks (x .run) (x .first);
-      cleared = bitAnd (x .run) (x .cleared);
-      unmentioned = bitAnd (x .run) (x .unmentioned);
     }
 
 abbrev pub sameMarks : Marks → Marks → Bool

@@ -7,7 +7,7 @@ ghost use mathlib.Core.Path.{_≡_};
 ghost use Prim.Native.Nat.{_+_, _-_, _*_, _≤_, _<_};
 ghost use lib.ListN.{length};
 ghost use Rattle.image.specs.Word.{mostFacts};
-ghost use Rattle.row.specs.Words.{rowWords, allFacts, noRow, startRow, stepMarks, stepRow, checkRow, laterMarks, joinRows, orMarks, orRows, liveMarks, liveRow, sameMarks, sameRows, rowIn, withRow};
+ghost use Rattle.row.specs.Words.{rowWords, allFacts, noRow, startRow, stepMarks, stepRow, checkRow, laterMarks, joinRows, orMarks, orRows, sameMarks, sameRows, rowIn, withRow};
 
 // The words of a row in a table, in their order.
 pub const RUN: usize = 0;
@@ -169,7 +169,7 @@ fn later(x: Marks, y: Marks) -> Marks
     }
 }
 
-// The row of one list followed by another.
+// The row of one list followed by another, of which a run is found.
 pub fn joined(x: Row, y: Row) -> Row
     ensures { λ r. ⌜ r ≡ joinRows x y ⌝ }
 {
@@ -178,7 +178,7 @@ pub fn joined(x: Row, y: Row) -> Row
     let x_first = x.first;
     let y_first = y.first;
     Row {
-        run: x.run & y.run,
+        run: x.run,
         empty: x.empty & y.empty,
         last: later(x_last, y_last),
         first: later(y_first, x_first),
@@ -212,33 +212,6 @@ pub fn united(x: Row, y: Row) -> Row
         first: either(x_first, y_first),
         cleared: x.cleared | y.cleared,
         unmentioned: x.unmentioned | y.unmentioned,
-    }
-}
-
-fn live_marks(run: u64, x: Marks) -> Marks
-    ensures { λ r. ⌜ r ≡ liveMarks run x ⌝ }
-{
-    Marks {
-        present: run & x.present,
-        absent: run & x.absent,
-        untouched: run & x.untouched,
-    }
-}
-
-// The row where it has a run, and nothing where it has none.
-pub fn live(x: Row) -> Row
-    ensures { λ r. ⌜ r ≡ liveRow x ⌝ }
-{
-    let run = x.run;
-    let last = x.last;
-    let first = x.first;
-    Row {
-        run: run & run,
-        empty: run & x.empty,
-        last: live_marks(run, last),
-        first: live_marks(run, first),
-        cleared: run & x.cleared,
-        unmentioned: run & x.unmentioned,
     }
 }
 

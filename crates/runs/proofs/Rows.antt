@@ -333,3 +333,7 @@ fold-agree L f B [] X X′ agree = agree
 fold-agree L f B (e ∷ es) X X′ agree =
     fold-agree L f B es (joinRow X (entryRow L f B e)) (joinRow X′ (entryRow L f B e))
     (join-agree X X′ (entryRow L f B e) (entryRow L f B e) agree (λ j lt. refl))
+
+-- where what stands before has no run, nothing has one with it
+pub fold-dead : (L : Library) (f : ℕ) (B : ℕ → Row) (X : Row) (es : List Entry) → X 0 ≡ false → foldRow L f B X es 0 ≡ false
+fold-dead L f B X es none = fold-run L f B X es ∙ ap (λ (b : Bool). b && allRun (λ d. B d 0) es) none

@@ -13,10 +13,10 @@ use Rattle.library.proofs.Decode.{high-at, check-entry}
 use Rattle.library.specs.Library.{entriesFrom}
 use Rattle.library.specs.Library.{entryOf}
 use Rattle.walk.proofs.Walking.{tested, folding-inside, folding-out, Leaving, leaving-start, leaving-turn, leaving-dead, leaving-rest, leaving-out}
-use Rattle.row.specs.Words.{startRow, checkRow, liveRow}
+use Rattle.row.specs.Words.{startRow, checkRow}
 use Rattle.row.specs.declared.words.Row.{Row}
 use Rattle.outcome.specs.Walks.{isDead, entryIn, joinedFrom}
-use Rattle.outcome.proofs.Walks.{dead-entry, dead-is}
+use Rattle.outcome.proofs.Walks.{dead-is, joined-live, joined-dead}
 use Rattle.outcome.proofs.read.read_alternative.Statement.{statement}
 use Rattle.outcome.proofs.read.read_alternative.Tie as tie
 
@@ -81,16 +81,13 @@ part-entry-requires c κs =
     let start = at-loop .before .before .before .before .before in
     rw (c .word-at .ensures) (high-at (start .args .part .now) (λ j l. start .pre .0 j l .high) (at-loop .loop .i))
 
-live-requires : tie.Need-live-requires Inv-loop μ-loop
-live-requires c κs = search needs
-
 returns : tie.Need-returns Inv-loop μ-loop
 unfolding joinedFrom
 returns c =
-    let word = c .before .before .before in
+    let word = c .before .before in
     let here = word .before .loop .inv in
-    let e = tested isEntry (word .word-at .ensures) (c .before .before .part-entry .ensures) (not-true _ (c .before .if1 .taken)) in
-    record { row = c .live .ensures ∙ ap liveRow (folding-out (here .folding) e); ended = leaving-out here e }
+    let e = tested isEntry (word .word-at .ensures) (c .before .part-entry .ensures) (not-true _ (c .if1 .taken)) in
+    record { row = folding-out (here .folding) e; ended = leaving-out here e }
 
 is-check-requires : tie.Need-is-check-requires Inv-loop μ-loop
 is-check-requires c κs = rw (c .before .before .word-at .ensures) (entry c)
@@ -130,15 +127,14 @@ check-is c =
     ∙ sym (ap (entryIn (a .steps .now) (a .table .now)) (check-entry (getD (a .part .now) (word .before .loop .i) 0) (check-kind (c .before))))
 
 loop-again : tie.Need-loop-again Inv-loop μ-loop
-unfolding joinedFrom
 loop-again c =
     let row = c .before in
     let test = row .before .before .before in
     let at-loop = test .before .before .before in
     let a = at-loop .before .before .before .before .before .args in
+    let is = ap (isDead (a .table .now)) (check-entry (getD (a .part .now) (at-loop .loop .i) 0) (check-kind (row .before))) in
     rw (c .joined .ensures, check-is row)
-    (leaving-turn (at-loop .loop .inv) (entry test)
-    (ap (isDead (a .table .now)) (check-entry (getD (a .part .now) (at-loop .loop .i) 0) (check-kind (row .before)))) refl)
+    (leaving-turn (at-loop .loop .inv) (entry test) is (joined-live _ _ _ _ _ is))
 
 named-row-requires : tie.Need-named-row-requires Inv-loop μ-loop
 named-row-requires c κs =
@@ -156,11 +152,11 @@ returns-2 c =
     let row = left .before .before in
     let test = row .before .before .before in
     let here = test .before .before .before .loop .inv in
+    let is = dead row _ (ap (λ (n : ℕ). not (ltb 0 n)) (left .if3 .taken)) in
     record {
       row =
-          c .left-at .ensures .0 ∙ sym (dead-entry _ _ _ _ _ (ap (λ (r : Row). r .run) (sym (row-is row)) ∙ left .if3 .taken))
-          ∙ ap liveRow (leaving-rest here (entry test));
-      ended = c .left-at .ensures .1 ∙ leaving-dead here (entry test) (dead row _ (ap (λ (n : ℕ). not (ltb 0 n)) (left .if3 .taken)));
+          c .left-at .ensures .0 ∙ sym (joined-dead _ _ _ _ _ is) ∙ leaving-rest here (entry test);
+      ended = c .left-at .ensures .1 ∙ leaving-dead here (entry test) is;
     }
 
 joined-requires-2 : tie.Need-joined-requires-2 Inv-loop μ-loop
@@ -175,12 +171,11 @@ loop-less-2 : tie.Need-loop-less-2 Inv-loop μ-loop
 loop-less-2 c = omega (arith, inside (c .before .before .before .before .before .before))
 
 loop-again-2 : tie.Need-loop-again-2 Inv-loop μ-loop
-unfolding joinedFrom
 loop-again-2 c =
     let row = c .before .before .before in
     let test = row .before .before .before in
-    rw (c .joined2 .ensures, row-is row)
-    (leaving-turn (test .before .before .before .loop .inv) (entry test) (dead row _ (ap not (lt-ltb 0 (row .named-row .result .run) (omega (arith, c .before .if3 .left))))) refl)
+    let is = dead row _ (ap not (lt-ltb 0 (row .named-row .result .run) (omega (arith, c .before .if3 .left)))) in
+    rw (c .joined2 .ensures, row-is row) (leaving-turn (test .before .before .before .loop .inv) (entry test) is (joined-live _ _ _ _ _ is))
 
 pub read-alternative-spec : {M : Type 1} → statement M
 read-alternative-spec =
@@ -192,7 +187,6 @@ read-alternative-spec =
     loop-holds
     word-at-requires
     part-entry-requires
-    live-requires
     returns
     is-check-requires
     check-row-requires

@@ -103,29 +103,26 @@ loop-again-2 c =
 start-requires : tie.Need-start-requires Inv-loop μ-loop
 start-requires c κs = search needs
 
-live-requires : tie.Need-live-requires Inv-loop μ-loop
-live-requires c κs = search needs
-
 united-requires-2 : tie.Need-united-requires-2 Inv-loop μ-loop
 united-requires-2 c κs = search needs
 
 empties-end-requires : tie.Need-empties-end-requires Inv-loop μ-loop
 empties-end-requires c κs =
-    let test = c .before .before .before .before .before .before in
+    let test = c .before .before .before .before .before in
     omega (arith, walking-opener-inside (test .before .before .before .before .before .loop .inv) (opener test))
 
 loop-less-3 : tie.Need-loop-less-3 Inv-loop μ-loop
 loop-less-3 c =
-    let test = c .before .before .before .before .before .before .before in
+    let test = c .before .before .before .before .before .before in
     omega (arith, c .empties-end .ensures .low, walking-opener-inside (test .before .before .before .before .before .loop .inv) (opener test))
 
 loop-again-3 : tie.Need-loop-again-3 Inv-loop μ-loop
 loop-again-3 c =
-    let live = c .before .before in
-    let none = live .before .before in
+    let start = c .before .before in
+    let none = start .before in
     let word = none .before .before in
     let test = word .before in
-    rw (c .before .united2 .ensures, live .live .ensures, live .before .start .ensures)
+    rw (c .before .united2 .ensures, start .start .ensures)
     (uniting-empties _ _ _ _ (test .before .before .before .before .before .loop .inv) (opener test)
     (tested isEntry (word .word-at2 .ensures) (none .before .is-entry2 .ensures) (none .if3 .left)) (c .empties-end .ensures))
 
@@ -152,7 +149,6 @@ read-sequence-spec =
     loop-less-2
     loop-again-2
     start-requires
-    live-requires
     united-requires-2
     empties-end-requires
     loop-less-3
