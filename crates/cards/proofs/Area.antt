@@ -66,5 +66,5 @@ cards-unique L words others one two =
     let low : i / cardWords < length (L .sequences) = omega arith in
     ap (λ (j : ℕ). getD words j 0) place
     ∙ card-unique L (i / cardWords) (partWord words (i / cardWords)) (partWord others (i / cardWords)) (one .card (i / cardWords) low)
-    (two .card (i / cardWords) low) (i % cardWords) (mod-lt i (zero-lt-suc 7))
+    (two .card (i / cardWords) low) (i % cardWords) (mod-lt i (zero-lt-suc 12))
     ∙ ap (λ (j : ℕ). getD others j 0) (sym place))

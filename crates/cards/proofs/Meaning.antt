@@ -10,6 +10,7 @@ use mathlib.Core.Logic.{_↔_, _≢_, ⊎-elim, Iff·trans}
 use mathlib.Core.Bool.{Bool, true, false, not, _&&_, _||_, true≢false}
 use mathlib.Core.List.{List}
 use mir.Val.{boolByte}
+use borrow.Author.Count.{below-none, below-more}
 use Rattle.column.specs.Column.{bit}
 use Rattle.column.specs.Sets.{inColumn, countBelow}
 use Rattle.column.proofs.Bits.{bit-zero, bit-suc, bit-none, bit-high, column-same, column-none}
@@ -17,7 +18,6 @@ use Rattle.column.proofs.Operations.{bit-one, bit-null, in-column, column-high,
 use Rattle.library.specs.Library.{Library, Item}
 use Rattle.runs.specs.Run.{Run}
 use Rattle.runs.specs.Domain.{domainOf}
-use Rattle.runs.specs.Standing.{EndsStanding}
 use Rattle.runs.specs.Execution.{Fact, State, Executes}
 use Rattle.runs.specs.Touch.{Mark, present, absent, untouched, last, first, lastSet, lastCleared}
 use Rattle.runs.specs.View.{View, touches, standing, viewOutcome}
@@ -27,68 +27,93 @@ use Rattle.runs.proofs.Outcome.{present≢untouched, absent≢untouched}
 use Rattle.runs.proofs.Columns.{view-iff, hasRun-iff, hasEmptyRun-iff, blank-columns, always-iff, missing-iff}
 use Rattle.runs.proofs.Published.{PublishedColumns, published-columns}
 use Rattle.runs.proofs.Execution.{needed-stood, set-stands, cleared-falls, gained-set, lost-cleared, Stood, end-standing}
-use Rattle.runs.proofs.Standing.{standing-iff}
+use Rattle.runs.proofs.Standing.{standing-iff, ends-cleared-iff, unmentioned-iff}
 use Rattle.cards.specs.Layout.{CardColumn, always-needed, may-need, may-set, may-clear, always-set, always-cleared, always-stands}
+use Rattle.cards.specs.Layout.{may-first-set, may-first-untouched, may-last-untouched, may-end-cleared, may-end-unmentioned}
 use Rattle.cards.specs.Layout.{place, cardWords}
-use Rattle.cards.specs.Card.{may, always, changeable, flags, card, maySet, mayClear}
-use Rattle.cards.specs.Card.{cardWord}
-use Rattle.cards.specs.Meaning.{Lacks, HasRun, NoRun, Columns, Flags, Blank, Card, Kept, Changed, Always, needed, set, cleared, columnOf, Missing, Runs}
+use Rattle.cards.specs.Card.{Claim, some-run, every-run, claim, claimed, claimWord, columnWord, changeable, flags, card, cardWord}
+use Rattle.cards.specs.Meaning.{Lacks, HasRun, NoRun, SomeRun, puts, Columns, Flags, Blank, Card, Kept, Changed, Always, needed, set, cleared, columnOf, Missing, Runs}
+
+-- ---- the words of a card
+
+-- what holds of the flags' word and of each column's holds of every word of a card
+pub by-word : (P : ℕ → Type 0) → P 0 → ((k : CardColumn) → P (place k)) → (j : ℕ) → j < cardWords → P j
+by-word P zeroth column =
+    let need = below-more P 2 (below-more P 1 (below-more P 0 (below-none P) zeroth) (column always-needed)) (column may-need) in
+    let may = below-more P 4 (below-more P 3 need (column may-set)) (column may-clear) in
+    let always = below-more P 7 (below-more P 6 (below-more P 5 may (column always-set)) (column always-cleared)) (column always-stands) in
+    let first = below-more P 9 (below-more P 8 always (column may-first-set)) (column may-first-untouched) in
+    below-more P 12 (below-more P 11 (below-more P 10 first (column may-last-untouched)) (column may-end-cleared)) (column may-end-unmentioned)
+
+-- a column's word stands in its place
+pub card-column : (L : Library) (c : ℕ) (k : CardColumn) → cardWord L c (place k) ≡ columnWord L k c
+unfolding card
+card-column L c always-needed = refl
+card-column L c may-need = refl
+card-column L c may-set = refl
+card-column L c may-clear = refl
+card-column L c always-set = refl
+card-column L c always-cleared = refl
+card-column L c always-stands = refl
+card-column L c may-first-set = refl
+card-column L c may-first-untouched = refl
+card-column L c may-last-untouched = refl
+card-column L c may-end-cleared = refl
+card-column L c may-end-unmentioned = refl
 
 -- ---- a word, one fact at a time
 
-may-holds : (L : Library) (v : View) (m : Mark) (c : ℕ) (f : Fact L) → (bit (may L v m c) (f .0) ≡ 1) ↔ (possibleIn L v m c (f .0) ≡ true)
-unfolding may
-may-holds L v m c f = bit-one (L .facts) (λ (g : ℕ). possibleIn L v m c g) (f .0) (f .1)
+module _ (L : Library) (p : Claim) (c : ℕ) where
+  claim-holds : (f : Fact L) → (bit (claimWord L p c) (f .0) ≡ 1) ↔ (claimed L p c (f .0) ≡ true)
+  unfolding claimWord
+  claim-holds f = bit-one (L .facts) (λ (g : ℕ). claimed L p c g) (f .0) (f .1)
 
-always-holds : (L : Library) (v : View) (m : Mark) (c : ℕ) (f : Fact L) → (bit (always L v m c) (f .0) ≡ 1) ↔ (alwaysIn L v m c (f .0) ≡ true)
-unfolding always
-always-holds L v m c f = bit-one (L .facts) (λ (g : ℕ). alwaysIn L v m c g) (f .0) (f .1)
+  claim-lacks : (f : Fact L) → (bit (claimWord L p c) (f .0) ≡ 0) ↔ (claimed L p c (f .0) ≡ false)
+  unfolding claimWord
+  claim-lacks f = bit-null (L .facts) (λ (g : ℕ). claimed L p c g) (f .0) (f .1)
 
-always-lacks : (L : Library) (v : View) (m : Mark) (c : ℕ) (f : Fact L) → (bit (always L v m c) (f .0) ≡ 0) ↔ (alwaysIn L v m c (f .0) ≡ false)
-unfolding always
-always-lacks L v m c f = bit-null (L .facts) (λ (g : ℕ). alwaysIn L v m c g) (f .0) (f .1)
+  claim-high : (f : ℕ) → L .facts ≤ f → bit (claimWord L p c) f ≡ 0
+  unfolding claimWord
+  claim-high f u = column-high (L .facts) (λ (g : ℕ). claimed L p c g) f u
 
 -- ---- demand 2
 
 columns-right : (L : Library) (c : ℕ) → HasRun L c → (f : Fact L) → Columns L c (cardWord L c) f
-unfolding card
-columns-right L c run f = go
+columns-right L c run f k = rw (card-column L c k) (Iff·trans (claim-holds L (claim k) c f) (go k))
   where
     p : PublishedColumns L c f
     p = published-columns L c f (hasRun-iff L c .1 run)
 
-    go : Columns L c (cardWord L c) f
-    go always-needed = Iff·trans (always-holds L (touches first) present c f) (p .always-needed)
-    go may-need = Iff·trans (may-holds L (touches first) present c f) (p .may-need)
-    go may-set = Iff·trans (may-holds L (touches last) present c f) (p .may-set)
-    go may-clear = Iff·trans (may-holds L (touches last) absent c f) (p .may-clear)
-    go always-set = Iff·trans (always-holds L (touches last) present c f) (p .always-set)
-    go always-cleared = Iff·trans (always-holds L (touches last) absent c f) (p .always-cleared)
-    go always-stands = Iff·trans (always-holds L standing present c f) stands
-      where
-        stands : (alwaysIn L standing present c (f .0) ≡ true) ↔ ((w : List Item) → Run L c w → EndsStanding L (f .0) w)
-        stands = (
-          (λ e w r. standing-iff L (f .0) w .0 (always-iff L standing present c (f .0) present≢untouched .0 e .1 w r)),
-          λ h. always-iff L standing present c (f .0) present≢untouched .1 (run, λ w r. standing-iff L (f .0) w .1 (h w r)),
-        )
+    -- a claim of some run, by what the run's mark says
+    some-iff : {P : List Item → Type 0} (v : View) (m : Mark) → ((w : List Item) → (viewOutcome L v (f .0) w ≡ m) ↔ P w)
+        → (possibleIn L v m c (f .0) ≡ true) ↔ SomeRun L c P
+    some-iff v m says =
+        Iff·trans (view-iff L v m c (f .0))
+        ((λ (w, r, o). (w, r, says w .0 o)), λ (w, r, o). (w, r, says w .1 o))
 
-may-high : (L : Library) (v : View) (m : Mark) (c f : ℕ) → L .facts ≤ f → bit (may L v m c) f ≡ 0
-unfolding may
-may-high L v m c f u = column-high (L .facts) (λ (g : ℕ). possibleIn L v m c g) f u
+    every-iff : {P : List Item → Type 0} (v : View) (m : Mark) → m ≢ untouched → ((w : List Item) → (viewOutcome L v (f .0) w ≡ m) ↔ P w)
+        → (alwaysIn L v m c (f .0) ≡ true) ↔ ((w : List Item) → Run L c w → P w)
+    every-iff v m touch says = (
+      (λ e w r. says w .0 (always-iff L v m c (f .0) touch .0 e .1 w r)),
+      λ h. always-iff L v m c (f .0) touch .1 (run, λ w r. says w .1 (h w r)),
+    )
 
-always-high : (L : Library) (v : View) (m : Mark) (c f : ℕ) → L .facts ≤ f → bit (always L v m c) f ≡ 0
-unfolding always
-always-high L v m c f u = column-high (L .facts) (λ (g : ℕ). alwaysIn L v m c g) f u
+    go : (k : CardColumn) → (claimed L (claim k) c (f .0) ≡ true) ↔ puts k L c f
+    go always-needed = p .always-needed
+    go may-need = p .may-need
+    go may-set = p .may-set
+    go may-clear = p .may-clear
+    go always-set = p .always-set
+    go always-cleared = p .always-cleared
+    go always-stands = every-iff standing present present≢untouched (standing-iff L (f .0))
+    go may-first-set = view-iff L (touches first) absent c (f .0)
+    go may-first-untouched = view-iff L (touches first) untouched c (f .0)
+    go may-last-untouched = view-iff L (touches last) untouched c (f .0)
+    go may-end-cleared = some-iff standing absent (ends-cleared-iff L (f .0))
+    go may-end-unmentioned = some-iff standing untouched (unmentioned-iff L (f .0))
 
 facts-only : (L : Library) (c : ℕ) (k : CardColumn) (f : ℕ) → L .facts ≤ f → Lacks (cardWord L c) k f
-unfolding card
-facts-only L c always-needed f u = always-high L (touches first) present c f u
-facts-only L c may-need f u = may-high L (touches first) present c f u
-facts-only L c may-set f u = may-high L (touches last) present c f u
-facts-only L c may-clear f u = may-high L (touches last) absent c f u
-facts-only L c always-set f u = always-high L (touches last) present c f u
-facts-only L c always-cleared f u = always-high L (touches last) absent c f u
-facts-only L c always-stands f u = always-high L standing present c f u
+facts-only L c k f u = rw (card-column L c k) (claim-high L (claim k) c f u)
 
 byte-bound : (b : Bool) → boolByte b ≤ 1
 byte-bound true = omega arith
@@ -112,8 +137,8 @@ middle-bits a b n (suc (suc (suc (suc (suc (suc (suc zero))))))) p q l u = omega
 middle-bits a b n (suc (suc (suc (suc (suc (suc (suc (suc k)))))))) p q l u = absurd (omega arith)
 
 changeable-count : (L : Library) (c : ℕ)
-    → changeable L c ≡ countBelow (L .facts) (λ (f : ℕ). inColumn (maySet L c) f || inColumn (mayClear L c) f)
-unfolding changeable may
+    → changeable L c ≡ countBelow (L .facts) (λ (f : ℕ). inColumn (columnWord L may-set c) f || inColumn (columnWord L may-clear c) f)
+unfolding changeable claimWord
 changeable-count L c =
     count-same (L .facts) (λ (f : ℕ). possibleOutcome L lastSet c f || possibleOutcome L lastCleared c f) _
     (λ f l. ap₂ _||_ (sym (in-column (L .facts) (λ (g : ℕ). possibleOutcome L lastSet c g) f l))
@@ -145,17 +170,14 @@ flags-right L high c =
 -- ---- the blank card
 
 module _ (L : Library) (c : ℕ) (none : hasRun L c ≡ false) where
-  may-blank : (v : View) (m : Mark) → may L v m c ≡ 0
-  unfolding may
-  may-blank v m =
-      column-same (L .facts) (λ (f : ℕ). possibleIn L v m c f) (λ (f : ℕ). false) (λ f l. blank-columns (viewColumn v m) L c f none)
-      ∙ column-none (L .facts)
+  claim-blank : (p : Claim) (f : ℕ) → claimed L p c f ≡ false
+  claim-blank (some-run v m) f = blank-columns (viewColumn v m) L c f none
+  claim-blank (every-run v m) f = ap (λ (b : Bool). b && not (brokenIn L v m c f)) none
 
-  always-blank : (v : View) (m : Mark) → always L v m c ≡ 0
-  unfolding always
-  always-blank v m =
-      column-same (L .facts) (λ (f : ℕ). alwaysIn L v m c f) (λ (f : ℕ). false) (λ f l. ap (λ (b : Bool). b && not (brokenIn L v m c f)) none)
-      ∙ column-none (L .facts)
+  word-blank : (p : Claim) → claimWord L p c ≡ 0
+  unfolding claimWord
+  word-blank p =
+      column-same (L .facts) (λ (f : ℕ). claimed L p c f) (λ (f : ℕ). false) (λ f l. claim-blank p f) ∙ column-none (L .facts)
 
   flags-blank : flags L c ≡ 0
   unfolding flags changeable
@@ -167,17 +189,9 @@ module _ (L : Library) (c : ℕ) (none : hasRun L c ≡ false) where
       ∙ count-none (L .facts) in
       omega (arith, ap boolByte none, ap boolByte empty, count)
 
-  card-blank : Blank (cardWord L c)
+  pub card-blank : Blank (cardWord L c)
   unfolding card
-  card-blank zero l = flags-blank
-  card-blank (suc zero) l = always-blank (touches first) present
-  card-blank (suc (suc zero)) l = may-blank (touches first) present
-  card-blank (suc (suc (suc zero))) l = may-blank (touches last) present
-  card-blank (suc (suc (suc (suc zero)))) l = may-blank (touches last) absent
-  card-blank (suc (suc (suc (suc (suc zero))))) l = always-blank (touches last) present
-  card-blank (suc (suc (suc (suc (suc (suc zero)))))) l = always-blank (touches last) absent
-  card-blank (suc (suc (suc (suc (suc (suc (suc zero))))))) l = always-blank standing present
-  card-blank (suc (suc (suc (suc (suc (suc (suc (suc k)))))))) l = absurd (omega arith)
+  card-blank = by-word (λ j. cardWord L c j ≡ 0) flags-blank (λ k. card-column L c k ∙ word-blank (claim k))
 
 no-run : (L : Library) (c : ℕ) → NoRun L c → hasRun L c ≡ false
 no-run L c none =
@@ -200,12 +214,13 @@ card-right L high c =
 -- ---- demand 3 over the words of a card
 
 module _ (L : Library) (c : ℕ) where
-  always-run : (v : View) (m : Mark) → m ≢ untouched → (w : List Item) → Run L c w → (f : Fact L) → bit (always L v m c) (f .0) ≡ 1
-      → viewOutcome L v (f .0) w ≡ m
-  always-run v m touch w r f e = always-iff L v m c (f .0) touch .0 (always-holds L v m c f .0 e) .1 w r
+  always-run : (v : View) (m : Mark) → m ≢ untouched → (w : List Item) → Run L c w → (f : Fact L)
+      → bit (claimWord L (every-run v m) c) (f .0) ≡ 1 → viewOutcome L v (f .0) w ≡ m
+  always-run v m touch w r f e = always-iff L v m c (f .0) touch .0 (claim-holds L (every-run v m) c f .0 e) .1 w r
 
-  may-run : (v : View) (m : Mark) (w : List Item) → Run L c w → (f : Fact L) → viewOutcome L v (f .0) w ≡ m → bit (may L v m c) (f .0) ≡ 1
-  may-run v m w r f o = may-holds L v m c f .1 (view-iff L v m c (f .0) .1 (w, r, o))
+  may-run : (v : View) (m : Mark) (w : List Item) → Run L c w → (f : Fact L) → viewOutcome L v (f .0) w ≡ m
+      → bit (claimWord L (some-run v m) c) (f .0) ≡ 1
+  may-run v m w r f o = claim-holds L (some-run v m) c f .1 (view-iff L v m c (f .0) .1 (w, r, o))
 
   runs-kept : (w : List Item) → Run L c w → (s : State L) → Executes L w s → (f : Fact L) → Kept L (cardWord L c) w s f
   unfolding card
@@ -227,9 +242,11 @@ module _ (L : Library) (c : ℕ) where
 
   missing-right : (a : Always) (f : Fact L) → Missing L c (cardWord L c) a f
   unfolding card
-  missing-right needed f = Iff·trans (always-lacks L (touches first) present c f) (missing-iff L (touches first) present c (f .0) present≢untouched)
-  missing-right set f = Iff·trans (always-lacks L (touches last) present c f) (missing-iff L (touches last) present c (f .0) present≢untouched)
-  missing-right cleared f = Iff·trans (always-lacks L (touches last) absent c f) (missing-iff L (touches last) absent c (f .0) absent≢untouched)
+  missing-right needed f =
+      Iff·trans (claim-lacks L (claim always-needed) c f) (missing-iff L (touches first) present c (f .0) present≢untouched)
+  missing-right set f = Iff·trans (claim-lacks L (claim always-set) c f) (missing-iff L (touches last) present c (f .0) present≢untouched)
+  missing-right cleared f =
+      Iff·trans (claim-lacks L (claim always-cleared) c f) (missing-iff L (touches last) absent c (f .0) absent≢untouched)
 
   pub runs-right : Runs L c (cardWord L c)
   runs-right = record { kept = runs-kept; changed = runs-changed; missing = missing-right }
@@ -244,6 +261,11 @@ place-low may-clear = omega arith
 place-low always-set = omega arith
 place-low always-cleared = omega arith
 place-low always-stands = omega arith
+place-low may-first-set = omega arith
+place-low may-first-untouched = omega arith
+place-low may-last-untouched = omega arith
+place-low may-end-cleared = omega arith
+place-low may-end-unmentioned = omega arith
 
 module _ (L : Library) (c : ℕ) (word : ℕ → ℕ) (same : (k : ℕ) → k < cardWords → word k ≡ cardWord L c k) where
   same-column : (k : CardColumn) → word (place k) ≡ cardWord L c (place k)

@@ -15,9 +15,9 @@ use Rattle.library.specs.Library.{Library}
 use Rattle.runs.specs.Possible.{hasRun}
 use Rattle.general.proofs.Bools.{passes-or-not}
 use Rattle.runs.proofs.Columns.{hasRun-iff}
-use Rattle.cards.specs.Layout.{CardColumn, always-needed, may-need, may-set, may-clear, always-set, always-cleared, always-stands}
-use Rattle.cards.specs.Layout.{place, cardWords}
+use Rattle.cards.specs.Layout.{CardColumn, may-set, may-clear, place, cardWords}
 use Rattle.cards.specs.Meaning.{HasRun, NoRun, Card}
+use Rattle.cards.proofs.Meaning.{by-word}
 
 low-pow : (n : ℕ) → n < 2 ^ n
 low-pow zero = omega arith
@@ -57,18 +57,6 @@ module _ (L : Library) (c : ℕ) (word other : ℕ → ℕ) (one : Card L c word
         (λ low. bit-iff (word (place k)) (other (place k)) f (Iff·trans (one .columns run (f, low) k) (turn (two .columns run (f, low) k))))
         (λ high. one .facts-only k f (omega arith) ∙ sym (two .facts-only k f (omega arith))))
 
-    -- every word but the flags is a column's
-    words-fixed : (j : ℕ) → 1 ≤ j → j < cardWords → word j ≡ other j
-    words-fixed zero l m = absurd (omega arith)
-    words-fixed (suc zero) l m = column-fixed always-needed
-    words-fixed (suc (suc zero)) l m = column-fixed may-need
-    words-fixed (suc (suc (suc zero))) l m = column-fixed may-set
-    words-fixed (suc (suc (suc (suc zero)))) l m = column-fixed may-clear
-    words-fixed (suc (suc (suc (suc (suc zero))))) l m = column-fixed always-set
-    words-fixed (suc (suc (suc (suc (suc (suc zero)))))) l m = column-fixed always-cleared
-    words-fixed (suc (suc (suc (suc (suc (suc (suc zero))))))) l m = column-fixed always-stands
-    words-fixed (suc (suc (suc (suc (suc (suc (suc (suc j)))))))) l m = absurd (omega arith)
-
     counts-fixed : word 0 / 2 ^ 8 ≡ other 0 / 2 ^ 8
     counts-fixed =
         let set = column-fixed may-set in
@@ -93,5 +81,4 @@ module _ (L : Library) (c : ℕ) (word other : ℕ → ℕ) (one : Card L c word
       (passes-or-not (hasRun L c))
     where
       live : HasRun L c → (j : ℕ) → j < cardWords → word j ≡ other j
-      live run zero m = all-bits (word 0) (other 0) (flags-fixed run)
-      live run (suc j) m = words-fixed run (suc j) (omega arith) m
+      live run = by-word (λ j. word j ≡ other j) (all-bits (word 0) (other 0) (flags-fixed run)) (column-fixed run)

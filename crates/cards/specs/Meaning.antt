@@ -12,10 +12,11 @@ use Rattle.library.specs.Library.{Library, Item}
 use Rattle.runs.specs.Run.{Run, Empty}
 use Rattle.runs.specs.Domain.{domainOf}
 use Rattle.runs.specs.Execution.{Fact, State, Executes, end}
-use Rattle.runs.specs.Touch.{Question, HasOutcome, lastSet, lastCleared, firstNeeded}
-use Rattle.runs.specs.Standing.{EndsStanding}
+use Rattle.runs.specs.Touch.{Question, HasOutcome, lastSet, lastCleared, lastUntouched, firstNeeded, firstSet, firstUntouched}
+use Rattle.runs.specs.Standing.{EndsStanding, EndsCleared, Unmentioned}
 use Rattle.runs.specs.Published.{prec∅, poss-prec∅, eff*∅+, eff*∅-, poss-eff*∅+, poss-eff*∅-}
 use Rattle.cards.specs.Layout.{CardColumn, always-needed, may-need, may-set, may-clear, always-set, always-cleared, always-stands}
+use Rattle.cards.specs.Layout.{may-first-set, may-first-untouched, may-last-untouched, may-end-cleared, may-end-unmentioned}
 use Rattle.cards.specs.Layout.{place, cardWords}
 
 -- "fact f is bit f": the column holds the fact, or the fact is missing from it
@@ -32,6 +33,10 @@ HasRun L c = (w : List Item) × Run L c w
 abbrev pub NoRun : Library → ℕ → Type 0
 NoRun L c = (w : List Item) → ¬ Run L c w
 
+-- some run of the sequence is such
+abbrev pub SomeRun : Library → ℕ → (List Item → Type 0) → Type 0
+SomeRun L c P = (w : List Item) × Run L c w × P w
+
 -- what puts a fact into a column: the published definition that it stands for (001). "Demand 2 judges a column that a request adds by that
 -- request's words": a run exists, and "in every run the last item that sets, clears, needs or checks the fact is there and does not clear it"
 -- (document 02, request 4)
@@ -43,6 +48,13 @@ puts may-clear L c f = poss-eff*∅- (domainOf L) c f
 puts always-set L c f = eff*∅+ (domainOf L) c f
 puts always-cleared L c f = eff*∅- (domainOf L) c f
 puts always-stands L c f = (w : List Item) → Run L c w → EndsStanding L (f .0) w
+-- request 5: "some run first sets it; some run leaves it untouched on the first side; on the last side"
+puts may-first-set L c f = SomeRun L c (HasOutcome L firstSet (f .0))
+puts may-first-untouched L c f = SomeRun L c (HasOutcome L firstUntouched (f .0))
+puts may-last-untouched L c f = SomeRun L c (HasOutcome L lastUntouched (f .0))
+-- "some run's last item under Item 4's rule clears it; some run has no such item"
+puts may-end-cleared L c f = SomeRun L c (EndsCleared L (f .0))
+puts may-end-unmentioned L c f = SomeRun L c (Unmentioned L (f .0))
 
 -- Demand 2: "each card's columns hold a fact if the published definition of relaxed preconditions and effects puts it there, and only
 -- then, over all finite runs"

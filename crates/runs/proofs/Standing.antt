@@ -1,11 +1,12 @@
 -- What stands at the end: the outcome of the view `standing` is what request 4's words say of a run, and of the rows of a library the two
 -- columns of that view are what is possible. A row has no column for "the last such item leaves the fact standing", so this view is read apart
 -- from the sides.
--- It has: `standing-iff`; of a table that has what the rows have, that it can reach what reading adds to the two columns (`cleared-reached`,
--- `unmentioned-reached`), and of one that has nothing else, that reading adds what it can reach (`cleared-covered`, `unmentioned-covered`).
+-- It has: `standing-iff`, `ends-cleared-iff` and `unmentioned-iff`; of a table that has what the rows have, that it can reach what reading adds
+-- to the two columns (`cleared-reached`, `unmentioned-reached`), and of one that has nothing else, that reading adds what it can reach
+-- (`cleared-covered`, `unmentioned-covered`).
 use Prim.Native.Nat.{ℕ}
 use mathlib.Core.Path.{_≡_, refl, sym, _∙_, ap, subst}
-use mathlib.Core.Logic.{_⊎_, inl, inr, ⊎-elim, _↔_}
+use mathlib.Core.Logic.{_⊎_, inl, inr, ⊎-elim, _↔_, _≢_}
 use mathlib.Core.Bool.{Bool, true, false, cond, _&&_, _||_, false≢true, true≢false}
 use mathlib.Core.List.{List, [], _∷_}
 use lib.Dec.{eqb}
@@ -15,12 +16,12 @@ use Rattle.general.proofs.Bools.{and-parts, and-both, or-cases, or-left, or-rig
 use Rattle.runs.specs.Domain.{actionOf}
 use Rattle.runs.specs.Touch.{Mark, present, absent, untouched, last}
 use Rattle.runs.specs.View.{standing, viewMark, viewOutcome}
-use Rattle.runs.specs.Standing.{mentions, clears, EndsStanding}
+use Rattle.runs.specs.Standing.{mentions, clears, LastItem, EndsStanding, EndsCleared, Unmentioned}
 use Rattle.runs.specs.Algebra.{sideAlgebra, joinMarks, sameMark, sameMark-refl, sameMark-eq}
 use Rattle.runs.specs.Possible.{Table, can}
 use Rattle.runs.specs.Reading.{entryOutcomes}
 use Rattle.runs.specs.Rows.{Row, clearedColumn, unmentionedColumn, joinRow, startRow, entryRow, foldRow, readRow}
-use Rattle.runs.proofs.Outcome.{decider-iff, present≢untouched, orElse-cases, orElse-none}
+use Rattle.runs.proofs.Outcome.{decider-iff, untouched-iff, present≢untouched, absent≢untouched, orElse-cases, orElse-none}
 use Rattle.runs.proofs.Reading.{can-entry, entry-can}
 
 -- ---- by the words
@@ -32,6 +33,14 @@ marks-present sets true needs = ((λ e. absurd (false≢true (ap (sameMark prese
 marks-present true false needs = ((λ e. (refl, refl)), λ p. refl)
 marks-present false false true = ((λ e. (refl, refl)), λ p. refl)
 marks-present false false false = ((λ e. absurd (false≢true (ap (sameMark present) e))), λ p. absurd (false≢true (p .0)))
+
+marks-absent : (sets clears needs : Bool) → (cond clears absent (cond (sets || needs) present untouched) ≡ absent)
+    ↔ ((sets || (clears || needs) ≡ true) × (clears ≡ true))
+marks-absent true true needs = ((λ e. (refl, refl)), λ p. refl)
+marks-absent false true needs = ((λ e. (refl, refl)), λ p. refl)
+marks-absent true false needs = ((λ e. absurd (false≢true (ap (sameMark absent) e))), λ p. absurd (false≢true (p .1)))
+marks-absent false false true = ((λ e. absurd (false≢true (ap (sameMark absent) e))), λ p. absurd (false≢true (p .1)))
+marks-absent false false false = ((λ e. absurd (false≢true (ap (sameMark absent) e))), λ p. absurd (false≢true (p .1)))
 
 marks-none : (sets clears needs : Bool) → (cond clears absent (cond (sets || needs) present untouched) ≡ untouched)
     ↔ (sets || (clears || needs) ≡ false)
@@ -45,6 +54,10 @@ check-present : (b : Bool) → (cond b present untouched ≡ present) ↔ ((b �
 check-present true = ((λ e. (refl, refl)), λ p. refl)
 check-present false = ((λ e. absurd (false≢true (ap (sameMark present) e))), λ p. absurd (false≢true (p .0)))
 
+check-absent : (b : Bool) → (cond b present untouched ≡ absent) ↔ ((b ≡ true) × (false ≡ true))
+check-absent true = ((λ e. absurd (false≢true (ap (sameMark absent) e))), λ p. absurd (false≢true (p .1)))
+check-absent false = ((λ e. absurd (false≢true (ap (sameMark absent) e))), λ p. absurd (false≢true (p .1)))
+
 check-none : (b : Bool) → (cond b present untouched ≡ untouched) ↔ (b ≡ false)
 check-none true = ((λ e. absurd (false≢true (ap (sameMark untouched) e))), λ p. absurd (true≢false p))
 check-none false = ((λ e. refl), λ p. refl)
@@ -56,38 +69,61 @@ module _ (L : Library) (f : ℕ) where
       marks-present (has f (s .sets)) (has f (s .clears)) (has f (s .needs))
   item-present (check g) = rw (has-none f, has-one f g) (check-present (eqb g f))
 
+  item-absent : (x : Item) → (viewMark L standing f x ≡ absent) ↔ ((mentions L f x ≡ true) × (clears L f x ≡ true))
+  item-absent (step a) =
+      let s = actionOf L (step a) in
+      marks-absent (has f (s .sets)) (has f (s .clears)) (has f (s .needs))
+  item-absent (check g) = rw (has-none f, has-one f g) (check-absent (eqb g f))
+
   item-none : (x : Item) → (viewMark L standing f x ≡ untouched) ↔ (mentions L f x ≡ false)
   item-none (step a) =
       let s = actionOf L (step a) in
       marks-none (has f (s .sets)) (has f (s .clears)) (has f (s .needs))
   item-none (check g) = rw (has-none f, has-one f g) (check-none (eqb g f))
 
-  -- a run's outcome is that the fact stands exactly where "the last item that sets, clears, needs or checks the fact is there and does not clear
-  -- it"
-  pub standing-iff : (w : List Item) → (viewOutcome L standing f w ≡ present) ↔ EndsStanding L f w
-  standing-iff w = (
+  -- a run's outcome is a touch exactly where the last item that mentions the fact is there and gives it
+  last-iff : (m : Mark) (clearing : Bool) → m ≢ untouched
+      → ((x : Item) → (viewMark L standing f x ≡ m) ↔ ((mentions L f x ≡ true) × (clears L f x ≡ clearing))) → (w : List Item)
+      → (viewOutcome L standing f w ≡ m) ↔ LastItem L f clearing w
+  last-iff m clearing touch marked w = (
     (λ e.
-        let d = decider-iff last (viewMark L standing f) present w present≢untouched .0 e in
-        let m = item-present (d .item) .0 (d .touches) in
+        let d = decider-iff last (viewMark L standing f) m w touch .0 e in
+        let given = marked (d .item) .0 (d .touches) in
         record {
           before = d .before;
           item = d .item;
           after = d .after;
           there = d .split;
-          mentioned = m .0;
+          mentioned = given .0;
           last = λ x at. item-none x .0 (d .stays x at);
-          kept = m .1;
+          effect = given .1;
         }),
-    λ e. decider-iff last (viewMark L standing f) present w present≢untouched .1
+    λ e. decider-iff last (viewMark L standing f) m w touch .1
         (record {
           before = e .before;
           item = e .item;
           after = e .after;
           split = e .there;
-          touches = item-present (e .item) .1 (e .mentioned, e .kept);
+          touches = marked (e .item) .1 (e .mentioned, e .effect);
           stays = λ x at. item-none x .1 (e .last x at);
         }),
   )
+
+  -- that the fact stands: "the last item that sets, clears, needs or checks the fact is there and does not clear it"
+  pub standing-iff : (w : List Item) → (viewOutcome L standing f w ≡ present) ↔ EndsStanding L f w
+  standing-iff w = last-iff present false present≢untouched item-present w
+
+  -- that it does not: that "last item .. clears it"
+  pub ends-cleared-iff : (w : List Item) → (viewOutcome L standing f w ≡ absent) ↔ EndsCleared L f w
+  ends-cleared-iff w = last-iff absent true absent≢untouched item-absent w
+
+  -- and neither: the run "has no such item"
+  pub unmentioned-iff : (w : List Item) → (viewOutcome L standing f w ≡ untouched) ↔ Unmentioned L f w
+  unmentioned-iff w =
+      let none = untouched-iff last (viewMark L standing f) w in (
+        (λ e x at. item-none x .0 (none .0 e x at)),
+        λ e. none .1 (λ x at. item-none x .1 (e x at)),
+      )
 
 -- ---- by rows
 
