@@ -15,11 +15,12 @@ use Rattle.writer.specs.Card.{rowCard, rowAt, tableCards}
 -- ---- one card
 
 -- a store for each word of a part leaves just what was stored
-pub all-stores : (l : List ℕ) (a b c d e f g h : ℕ) → length l ≡ cardWords
-    → set (set (set (set (set (set (set (set l 0 a) 1 b) 2 c) 3 d) 4 e) 5 f) 6 g) 7 h ≡ a ∷ b ∷ c ∷ d ∷ e ∷ f ∷ g ∷ h ∷ []
-all-stores l a b c d e f g h n =
-    sets-eq (a ∷ b ∷ c ∷ d ∷ e ∷ f ∷ g ∷ h ∷ []) l 0 (omega arith)
-    ∙ ap (λ (r : List ℕ). a ∷ b ∷ c ∷ d ∷ e ∷ f ∷ g ∷ h ∷ r) (drop-of-length-le l {i = cardWords} (omega arith))
+pub all-stores : (l : List ℕ) (a b c d e f g h i j k m n : ℕ) → length l ≡ cardWords
+    → set (set (set (set (set (set (set (set (set (set (set (set (set l 0 a) 1 b) 2 c) 3 d) 4 e) 5 f) 6 g) 7 h) 8 i) 9 j) 10 k) 11 m) 12 n
+    ≡ a ∷ b ∷ c ∷ d ∷ e ∷ f ∷ g ∷ h ∷ i ∷ j ∷ k ∷ m ∷ n ∷ []
+all-stores l a b c d e f g h i j k m n long =
+    sets-eq (a ∷ b ∷ c ∷ d ∷ e ∷ f ∷ g ∷ h ∷ i ∷ j ∷ k ∷ m ∷ n ∷ []) l 0 (omega arith)
+    ∙ ap (λ (r : List ℕ). a ∷ b ∷ c ∷ d ∷ e ∷ f ∷ g ∷ h ∷ i ∷ j ∷ k ∷ m ∷ n ∷ r) (drop-of-length-le l {i = cardWords} (omega arith))
 
 -- ---- all cards
 

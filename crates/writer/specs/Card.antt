@@ -5,7 +5,8 @@ use lib.ListN.{getD, take, drop}
 use lib.Bits.{bitOr}
 use lib.Count.{ones}
 use Rattle.column.specs.Sets.{difference}
-use Rattle.runs.specs.Rows.{clearedColumn, unmentionedColumn}
+use Rattle.runs.specs.Touch.{present, absent, untouched, last, first}
+use Rattle.runs.specs.Rows.{columnNumber, clearedColumn, unmentionedColumn}
 use Rattle.row.specs.Words.{rowWords}
 
 -- the flags from the columns "a run exists", "an empty run exists", "last set" and "last cleared"
@@ -14,17 +15,22 @@ flagsOf run empty set cleared = run % 2 + 2 * (empty % 2) + 256 * ones (bitOr se
 
 -- an "always" column from the columns "a run exists" and of its two rival outcomes
 abbrev pub alwaysOf : ℕ → ℕ → ℕ → ℕ
-alwaysOf run rival untouched = difference 64 run (bitOr rival untouched)
+alwaysOf run rival none = difference 64 run (bitOr rival none)
 
 -- the card of a row
 unfoldable pub rowCard : List ℕ → List ℕ
 rowCard row =
     let run = getD row 0 0 in
-    let set = getD row 2 0 in
-    let cleared = getD row 3 0 in
-    let untouched = getD row 4 0 in
-    flagsOf run (getD row 1 0) set cleared ∷ alwaysOf run (getD row 6 0) (getD row 7 0) ∷ getD row 5 0 ∷ set ∷ cleared
-    ∷ alwaysOf run cleared untouched ∷ alwaysOf run set untouched ∷ alwaysOf run (getD row clearedColumn 0) (getD row unmentionedColumn 0) ∷ []
+    let set = getD row (columnNumber last present) 0 in
+    let cleared = getD row (columnNumber last absent) 0 in
+    let last-untouched = getD row (columnNumber last untouched) 0 in
+    let first-set = getD row (columnNumber first absent) 0 in
+    let first-untouched = getD row (columnNumber first untouched) 0 in
+    let end-cleared = getD row clearedColumn 0 in
+    let unmentioned = getD row unmentionedColumn 0 in
+    flagsOf run (getD row 1 0) set cleared ∷ alwaysOf run first-set first-untouched ∷ getD row (columnNumber first present) 0 ∷ set ∷ cleared
+    ∷ alwaysOf run cleared last-untouched ∷ alwaysOf run set last-untouched ∷ alwaysOf run end-cleared unmentioned ∷ first-set ∷ first-untouched
+    ∷ last-untouched ∷ end-cleared ∷ unmentioned ∷ []
 
 -- row c of a table
 abbrev pub rowAt : List ℕ → ℕ → List ℕ

@@ -39,7 +39,18 @@ pub const ALWAYS_CLEARED: usize = 6;
 
 pub const ALWAYS_STANDS: usize = 7;
 
-pub const CARD_WORDS: usize = 8;
+pub const MAY_FIRST_SET: usize = 8;
+
+pub const MAY_FIRST_UNTOUCHED: usize = 9;
+
+pub const MAY_LAST_UNTOUCHED: usize = 10;
+
+// Of what stands: some run's last item that sets, clears, needs or checks the fact clears it; some run has no such item.
+pub const MAY_END_CLEARED: usize = 11;
+
+pub const MAY_END_UNMENTIONED: usize = 12;
+
+pub const CARD_WORDS: usize = 13;
 
 // The words of all cards, for every image.
 pub const MOST_CARD_WORDS: usize = CARD_WORDS * MOST_SEQUENCES as usize;
@@ -50,7 +61,7 @@ const EMPTY_FROM: u64 = 0x2;
 const COUNT_FROM: u64 = 0x100;
 
 // The flags word: a run exists, an empty run exists, and the number of facts that some run sets or clears last.
-fn flags(run: u64, empty: u64, set: u64, cleared: u64) -> u64
+pub fn flags(run: u64, empty: u64, set: u64, cleared: u64) -> u64
     ensures { λ r. ⌜ r ≡ flagsOf run empty set cleared ⌝ }
 {
     let changeable = count(union(set, cleared));
@@ -73,14 +84,23 @@ pub fn write_card(row: &[u64], part: &mut [u64])
     let set = row[LAST_SET];
     let cleared = row[LAST_CLEARED];
     let untouched = row[LAST_UNTOUCHED];
+    let first_set = row[FIRST_SET];
+    let first_untouched = row[FIRST_UNTOUCHED];
+    let end_cleared = row[CLEARED];
+    let unmentioned = row[UNMENTIONED];
     part[FLAGS] = flags(run, row[EMPTY_RUN], set, cleared);
-    part[ALWAYS_NEEDED] = always(run, row[FIRST_SET], row[FIRST_UNTOUCHED]);
+    part[ALWAYS_NEEDED] = always(run, first_set, first_untouched);
     part[MAY_NEED] = row[FIRST_NEEDED];
     part[MAY_SET] = set;
     part[MAY_CLEAR] = cleared;
     part[ALWAYS_SET] = always(run, cleared, untouched);
     part[ALWAYS_CLEARED] = always(run, set, untouched);
-    part[ALWAYS_STANDS] = always(run, row[CLEARED], row[UNMENTIONED]);
+    part[ALWAYS_STANDS] = always(run, end_cleared, unmentioned);
+    part[MAY_FIRST_SET] = first_set;
+    part[MAY_FIRST_UNTOUCHED] = first_untouched;
+    part[MAY_LAST_UNTOUCHED] = untouched;
+    part[MAY_END_CLEARED] = end_cleared;
+    part[MAY_END_UNMENTIONED] = unmentioned;
 }
 
 // Writes the cards of the first `n` sequences, sequence 0 first. Words past them stay.

@@ -25,6 +25,18 @@ shared-slice-read-cleared c = search needs
 shared-slice-read-untouched : tie.Need-shared-slice-read-untouched
 shared-slice-read-untouched c = search needs
 
+shared-slice-read-first-set : tie.Need-shared-slice-read-first-set
+shared-slice-read-first-set c = search needs
+
+shared-slice-read-first-untouched : tie.Need-shared-slice-read-first-untouched
+shared-slice-read-first-untouched c = search needs
+
+shared-slice-read-end-cleared : tie.Need-shared-slice-read-end-cleared
+shared-slice-read-end-cleared c = search needs
+
+shared-slice-read-unmentioned : tie.Need-shared-slice-read-unmentioned
+shared-slice-read-unmentioned c = search needs
+
 shared-slice-read-flags : tie.Need-shared-slice-read-flags
 shared-slice-read-flags c = search needs
 
@@ -33,12 +45,6 @@ flags-requires c κs = search needs
 
 slice-write-part : tie.Need-slice-write-part
 slice-write-part c = search needs
-
-shared-slice-read-always : tie.Need-shared-slice-read-always
-shared-slice-read-always c = search needs
-
-shared-slice-read-always-2 : tie.Need-shared-slice-read-always-2
-shared-slice-read-always-2 c = search needs
 
 always-requires : tie.Need-always-requires
 always-requires c κs = search needs
@@ -70,17 +76,26 @@ always-requires-3 c κs = search needs
 slice-write-part-7 : tie.Need-slice-write-part-7
 slice-write-part-7 c = simp length-set (omega arith)
 
-shared-slice-read-always-3 : tie.Need-shared-slice-read-always-3
-shared-slice-read-always-3 c = search needs
-
-shared-slice-read-always-4 : tie.Need-shared-slice-read-always-4
-shared-slice-read-always-4 c = search needs
-
 always-requires-4 : tie.Need-always-requires-4
 always-requires-4 c κs = search needs
 
 slice-write-part-8 : tie.Need-slice-write-part-8
 slice-write-part-8 c = simp length-set (omega arith)
+
+slice-write-part-9 : tie.Need-slice-write-part-9
+slice-write-part-9 c = simp length-set (omega arith)
+
+slice-write-part-10 : tie.Need-slice-write-part-10
+slice-write-part-10 c = simp length-set (omega arith)
+
+slice-write-part-11 : tie.Need-slice-write-part-11
+slice-write-part-11 c = simp length-set (omega arith)
+
+slice-write-part-12 : tie.Need-slice-write-part-12
+slice-write-part-12 c = simp length-set (omega arith)
+
+slice-write-part-13 : tie.Need-slice-write-part-13
+slice-write-part-13 c = simp length-set (omega arith)
 
 same-length : tie.Need-same-length
 same-length c = simp length-set
@@ -88,15 +103,15 @@ same-length c = simp length-set
 returns : tie.Need-returns
 unfolding rowCard
 returns c =
-    let third = c .before .before .before in
-    let start = third .before .before .before .before .before .before .before .before .before .before .before .before .before .before in
-    let row = start .args .row .now in
-    all-stores (start .args .part .now) _ _ _ _ _ _ _ _ (start .pre .1)
+    let first = c .before .before .before .before in
+    let flagged = first .before in
+    let start = flagged .before .before .before .before .before .before .before .before .before .before .before .before in
+    all-stores (start .args .part .now) _ _ _ _ _ _ _ _ _ _ _ _ _ (start .pre .1)
     ∙ simp (
-      third .before .before .before .before .before .before .flags .ensures,
-      third .before .before .before .always .ensures,
-      third .before .always2 .ensures,
-      third .always3 .ensures,
+      flagged .flags .ensures,
+      first .always .ensures,
+      c .before .before .always2 .ensures,
+      c .before .always3 .ensures,
       c .always4 .ensures,
     )
 
@@ -108,11 +123,13 @@ write-card-spec =
     shared-slice-read-set
     shared-slice-read-cleared
     shared-slice-read-untouched
+    shared-slice-read-first-set
+    shared-slice-read-first-untouched
+    shared-slice-read-end-cleared
+    shared-slice-read-unmentioned
     shared-slice-read-flags
     flags-requires
     slice-write-part
-    shared-slice-read-always
-    shared-slice-read-always-2
     always-requires
     slice-write-part-2
     shared-slice-read-part
@@ -123,9 +140,12 @@ write-card-spec =
     slice-write-part-6
     always-requires-3
     slice-write-part-7
-    shared-slice-read-always-3
-    shared-slice-read-always-4
     always-requires-4
     slice-write-part-8
+    slice-write-part-9
+    slice-write-part-10
+    slice-write-part-11
+    slice-write-part-12
+    slice-write-part-13
     same-length
     returns)
