@@ -1,2 +1,6 @@
+pub mod Rule
+pub mod Rows
+pub mod Words
+pub mod Card
 pub mod Loops
 pub mod Written

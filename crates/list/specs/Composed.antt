@@ -91,16 +91,19 @@ unfoldable pub listFlags : ℕ → List ℕ → List ℕ → ℕ
 unfolding listCount inColumn every
 listFlags facts area ms = boolByte (every (hasRun area) ms) + 2 * boolByte (every (hasEmptyRun area) ms) + 2 ^ 8 * listCount facts area ms
 
+-- the words in their order
+unfoldable pub composedCard : ℕ → List ℕ → List ℕ → List ℕ
+unfolding listFlags listColumn
+composedCard facts area ms =
+    listFlags facts area ms ∷ listColumn facts area ms always-needed ∷ listColumn facts area ms may-need ∷ listColumn facts area ms may-set
+    ∷ listColumn facts area ms may-clear ∷ listColumn facts area ms always-set ∷ listColumn facts area ms always-cleared
+    ∷ listColumn facts area ms always-stands ∷ listColumn facts area ms may-first-set ∷ listColumn facts area ms may-first-untouched
+    ∷ listColumn facts area ms may-last-untouched ∷ listColumn facts area ms may-end-cleared ∷ listColumn facts area ms may-end-unmentioned ∷ []
+
 abbrev pub blankCard : List ℕ
 blankCard = 0 ∷ 0 ∷ 0 ∷ 0 ∷ 0 ∷ 0 ∷ 0 ∷ 0 ∷ 0 ∷ 0 ∷ 0 ∷ 0 ∷ 0 ∷ []
 
 -- "blank unless every member has a run". "The empty list has just the empty run": the rule says so
 unfoldable pub listCard : ℕ → List ℕ → List ℕ → List ℕ
-unfolding listFlags listColumn inColumn every
-listCard facts area ms =
-    cond (every (hasRun area) ms)
-    (listFlags facts area ms ∷ listColumn facts area ms always-needed ∷ listColumn facts area ms may-need ∷ listColumn facts area ms may-set
-    ∷ listColumn facts area ms may-clear ∷ listColumn facts area ms always-set ∷ listColumn facts area ms always-cleared
-    ∷ listColumn facts area ms always-stands ∷ listColumn facts area ms may-first-set ∷ listColumn facts area ms may-first-untouched
-    ∷ listColumn facts area ms may-last-untouched ∷ listColumn facts area ms may-end-cleared ∷ listColumn facts area ms may-end-unmentioned ∷ [])
-    blankCard
+unfolding composedCard inColumn every
+listCard facts area ms = cond (every (hasRun area) ms) (composedCard facts area ms) blankCard
