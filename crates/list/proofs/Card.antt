@@ -18,6 +18,7 @@ use Rattle.cards.specs.Layout.{CardColumn, may-need, may-set, may-clear}
 use Rattle.cards.specs.Layout.{may-first-set, may-first-untouched, may-last-untouched, may-end-cleared, may-end-unmentioned}
 use Rattle.cards.specs.Layout.{always-needed, always-set, always-cleared, always-stands}
 use Rattle.row.specs.Words.{noRow, isSet}
+use Rattle.row.specs.declared.words.Row.{Row}
 use Rattle.writer.specs.Card.{flagsOf, alwaysOf, rowCard}
 use Rattle.list.specs.Composed.{hasRun, listHas, kept, listColumn, listCount, listFlags, composedCard, blankCard, listCard}
 use Rattle.list.specs.Fold.{rowWritten}
@@ -119,3 +120,25 @@ module _ (facts : ℕ) (area ms : List ℕ) where
   pub card-blank : every (hasRun area) ms ≡ false → rowWritten noRow 0 ≡ listCard facts area ms
   unfolding rowCard listCard ones
   card-blank none = sym (ap (λ (b : Bool). cond b (composedCard facts area ms) blankCard) none)
+
+-- ---- the two ways of the composition
+
+no-run : (b : Bool) → boolByte b ≡ 0 → b ≡ false
+no-run true e = absurd (omega arith)
+no-run false e = refl
+
+some-run : (b : Bool) → (boolByte b ≡ 0 → ⊥) → b ≡ true
+some-run true e = refl
+some-run false e = absurd (e refl)
+
+module _ (facts : ℕ) (area ms : List ℕ) (x : Row) (same : x ≡ listRow area ms) where
+  pub blank-written : x .run % 2 ≡ 0 → (r : Row) (after : List ℕ) → r ≡ noRow → after ≡ rowWritten r 0 → after ≡ listCard facts area ms
+  blank-written none r after e w =
+      w ∙ ap (λ (y : Row). rowWritten y 0) e
+      ∙ card-blank facts area ms (no-run (every (hasRun area) ms) (sym (list-run area ms) ∙ ap (λ (y : Row). y .run % 2) (sym same) ∙ none))
+
+  pub card-written : (x .run % 2 ≡ 0 → ⊥) → (all : ℕ) (after : List ℕ) → all ≡ allBelow facts → after ≡ rowWritten x all → after ≡ listCard facts area ms
+  card-written runs all after e w =
+      w ∙ ap₂ rowWritten same e
+      ∙ card-composed facts area ms
+      (some-run (every (hasRun area) ms) (λ z. runs (ap (λ (y : Row). y .run % 2) same ∙ list-run area ms ∙ z)))

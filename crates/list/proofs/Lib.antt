@@ -4,3 +4,4 @@ pub mod Words
 pub mod Card
 pub mod Loops
 pub mod Written
+pub mod Called

@@ -1,4 +1,7 @@
+-- `list::compose::compose` meets its contract: blank, or the card of the list's row.
+-- Assumes nothing.
 use borrow.Author.Needs.{needs}
+use Rattle.list.proofs.Card.{blank-written, card-written}
 use Rattle.list.proofs.compose.compose.Statement.{statement}
 use Rattle.list.proofs.compose.compose.Tie as tie
 use Rattle.list.proofs.compose.compose.Reads as reads
@@ -21,7 +24,13 @@ same-length : tie.Need-same-length
 same-length c = search needs
 
 returns : tie.Need-returns
-returns c = search needs
+returns c =
+    let wrote = c .before .before in
+    let made = wrote .before .before in
+    let row = made .before .before .before in
+    let a = row .before .before .before .before .args in
+    blank-written (a .facts) (a .cards .now) (a .list .now) _ (row .folded .ensures) (made .before .if1 .taken) _ _ (made .none .ensures)
+    (wrote .write-row .ensures)
 
 all-below-requires : tie.Need-all-below-requires
 all-below-requires c κs = search needs
@@ -33,7 +42,13 @@ same-length-2 : tie.Need-same-length-2
 same-length-2 c = search needs
 
 returns-2 : tie.Need-returns-2
-returns-2 c = search needs
+returns-2 c =
+    let wrote = c .before .before in
+    let made = wrote .before .before in
+    let row = made .before .before .before in
+    let a = row .before .before .before .before .args in
+    card-written (a .facts) (a .cards .now) (a .list .now) _ (row .folded .ensures) (made .before .if1 .left) _ _ (made .all-below .ensures)
+    (wrote .write-row2 .ensures)
 
 pub compose-spec : {M : Type 1} → statement M
 compose-spec =
