@@ -1,4 +1,5 @@
 pub mod Rule
+pub mod Empty
 pub mod Rows
 pub mod Words
 pub mod Card
