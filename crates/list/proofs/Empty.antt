@@ -1,13 +1,12 @@
 -- "The empty list has just the empty run" (document 02, request 5), for every F and every area: a run and an empty run, and every fact below F
 -- untouched on both sides and in no item.
 -- Assumes nothing.
-use Prim.Native.Nat.{ℕ, _+_, _*_, _^_}
+use Prim.Native.Nat.{ℕ}
 use native.Mathlib.Omega.{arith}
 use mathlib.Core.Path.{_≡_}
-use mathlib.Core.Bool.{Bool, true, false}
+use mathlib.Core.Bool.{true, false}
 use mathlib.Core.List.{List, [], _∷_}
 use Rattle.column.specs.Column.{column, allBelow}
-use Rattle.column.specs.Sets.{countBelow}
 use Rattle.column.proofs.Bits.{column-none}
 use Rattle.column.proofs.Operations.{column-all, count-none}
 use Rattle.general.specs.Scan.{every}
