@@ -1,5 +1,5 @@
 -- The library with one sequence more, whose one alternative names a list of sequences (document 02, request 5), and what is said of the
--- library before it: that every entry names a sequence of the library.
+-- library before: that each sequence which an entry names is one of the library's.
 use Prim.Native.Nat.{ℕ, _<_}
 use mathlib.Core.List.{List, [], _∷_, _++_, map}
 use lib.ListN.{length}
@@ -15,11 +15,11 @@ withList L ms = record { facts = L .facts; steps = L .steps; sequences = L .sequ
 abbrev pub addedTo : Library → ℕ
 addedTo L = length (L .sequences)
 
--- the entry names a sequence below n, if it names one
+-- an entry that names a sequence names one below n
 abbrev pub CallsBelow : ℕ → Entry → Type 0
 CallsBelow n (item x) = Unit {0}
 CallsBelow n (call c) = c < n
 
--- every entry names a sequence of the library, as in each that an image holds (`whole-counted`, proofs/Added)
+-- each sequence which an entry names is one of the library's: so it is with an accepted image's (`whole-counted`, proofs/Added)
 abbrev pub Whole : Library → Type 0
 Whole L = All (All (All (CallsBelow (length (L .sequences))))) (L .sequences)
