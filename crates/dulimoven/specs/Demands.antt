@@ -66,7 +66,7 @@ pub record Demand1 (e : Engine) : Type 0 where
 abbrev pub count : Library → ℕ
 count L = length (L .sequences)
 
--- "For every accepted library", with a card area that has room: "8 × C words" (document 02, request 4)
+-- "For every accepted library", with a card area that has room: 13 × C words (document 02, request 5)
 pub record Ready (image area : List ℕ) : Type 0 where
   pub head : Head
   pub accepted : checked image ≡ Checked.Accepted head
@@ -78,7 +78,7 @@ pub record Demand2 (e : Engine) : Type 0 where
   -- sequence's own part of the area
   pub card : (image area : List ℕ) → Ready image area → (c : ℕ) → c < count (libraryOf image)
       → Card (libraryOf image) c (partWord (e .cards image area .area) c)
-  -- "words past 7 × C stay", 8 × C by request 4
+  -- "words past 7 × C stay", 13 × C by request 5
   pub past : (image area : List ℕ) → Ready image area → (i : ℕ) → cardWords * count (libraryOf image) ≤ i
       → getD (e .cards image area .area) i 0 ≡ getD area i 0
   pub long : (image area : List ℕ) → Ready image area → length (e .cards image area .area) ≡ length area
