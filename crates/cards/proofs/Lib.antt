@@ -1,3 +1,5 @@
 pub mod Meaning
 pub mod Unique
 pub mod Area
+pub mod Composed
+pub mod Added

@@ -1,0 +1,231 @@
+-- "Over an area that the card call filled, with that library's F and C, the list's card equals that of an added sequence, limits aside, whose
+-- one alternative names the list" (document 02, request 5).
+-- It has: `card-kept`, that no other card moves; `list-added`; and of the shortest lists `list-one` and `list-none`.
+-- Assumes nothing.
+use Prim.Native.Nat.{ℕ, zero, suc, _+_, _*_, _-_, _^_, _≤_, _<_, min}
+use native.Mathlib.Omega.{arith}
+use mathlib.Core.Path.{_≡_, refl, sym, ap, ap₂, _∙_}
+use mathlib.Core.Logic.{⊎-elim}
+use mathlib.Core.Bool.{Bool, true, false, cond, not, _&&_, _||_, and-self, and-comm}
+use mathlib.Core.List.{List, [], _∷_, _++_, map}
+use lib.ListN.{length, getD, List·getD-append}
+use lib.Seq.{ext-getD}
+use mir.Val.{boolByte}
+use Rattle.general.specs.Scan.{every}
+use Rattle.general.specs.Tests.{All}
+use Rattle.general.proofs.Numbers.{zeros}
+use Rattle.general.proofs.Bools.{passes-or-not}
+use Rattle.column.specs.Column.{column}
+use Rattle.column.specs.Sets.{inColumn, countBelow}
+use Rattle.column.proofs.Bits.{column-same}
+use Rattle.column.proofs.Operations.{in-column, count-same}
+use Rattle.library.specs.Library.{Library, call}
+use Rattle.runs.specs.Added.{withList, addedTo, Whole}
+use Rattle.runs.specs.Touch.{last, first, Mark, present, absent, untouched, otherTouch}
+use Rattle.runs.specs.View.{View, touches, standing}
+use Rattle.runs.specs.Possible as possible
+use Rattle.runs.specs.Possible.{columnCount, columnPossible, possibleIn, brokenIn}
+use Rattle.runs.specs.Rows.{Row, columnNumber, joinRow, startRow}
+use Rattle.runs.proofs.Added.{possible-kept, possible-added}
+use Rattle.cards.specs.Layout.{CardColumn, always-needed, may-need, may-set, may-clear, always-set, always-cleared, always-stands}
+use Rattle.cards.specs.Layout.{may-first-set, may-first-untouched, may-last-untouched, may-end-cleared, may-end-unmentioned}
+use Rattle.cards.specs.Layout.{place, cardWords}
+use Rattle.cards.specs.Card.{every-run, claim, claimed, claimWord, columnWord, changeable, flags, card, cardWord, cards}
+use Rattle.cards.specs.Area.{partWord}
+use Rattle.cards.specs.Composed.{hasRun, hasEmptyRun, has, oneThenAll, allThenOne, listHas, listColumn, listCount, listFlags, listWords, blankCard, listCard, kept}
+use Rattle.cards.proofs.Meaning.{by-word, card-column, card-blank, place-low, run-flag, empty-flag}
+use Rattle.cards.proofs.Area.{length-cards, card-words}
+use Rattle.cards.proofs.Composed.{every-same, one-then-same, all-then-same, afterMembers, fold-all, fold-last, fold-first}
+
+-- what holds of each element follows for a list of them
+all-from : {A : Type 0} {P Q : A → Type 0} → ((x : A) → P x → Q x) → (xs : List A) → All P xs → All Q xs
+all-from k [] each = tt
+all-from k (x ∷ xs) each = (k x (each .0), all-from k xs (each .1))
+
+blank-word : (j : ℕ) → getD blankCard j 0 ≡ 0
+blank-word j = zeros cardWords j
+
+module _ (L : Library) (ms rest : List ℕ) (whole : Whole L) (below : All (λ (m : ℕ). m < length (L .sequences)) ms) where
+  abbrev C : ℕ
+  C = length (L .sequences)
+
+  abbrev L′ : Library
+  L′ = withList L ms
+
+  abbrev area : List ℕ
+  area = cards L ++ rest
+
+  -- ---- the members' bits
+
+  -- a word of a member's card, where the library's cards stand in front
+  member-word : (m k : ℕ) → m < C → k < cardWords → partWord area m k ≡ cardWord L m k
+  member-word m k l u = List·getD-append (cards L) rest 0 (cardWords * m + k) (omega (arith, length-cards L)) ∙ card-words L m k l u
+
+  member-has : (f : ℕ) → f < L .facts → (k : CardColumn) (m : ℕ) → m < C → has area f k m ≡ claimed L (claim k) m f
+  unfolding claimWord
+  member-has f low k m l =
+      ap (λ (n : ℕ). inColumn n f) (member-word m (place k) l (place-low k) ∙ card-column L m k)
+      ∙ in-column (L .facts) (λ (g : ℕ). claimed L (claim k) m g) f low
+
+  members-have : (f : ℕ) → f < L .facts → (k : CardColumn) → All (λ (m : ℕ). has area f k m ≡ claimed L (claim k) m f) ms
+  members-have f low k = all-from (member-has f low k) ms below
+
+  members-run : every (hasRun area) ms ≡ every (possible.hasRun L) ms
+  members-run =
+      every-same (hasRun area) (possible.hasRun L) ms
+      (all-from (λ m l. ap (λ (n : ℕ). inColumn n 0) (member-word m 0 l (omega arith)) ∙ run-flag L m) ms below)
+
+  members-empty : every (hasEmptyRun area) ms ≡ every (possible.hasEmptyRun L) ms
+  members-empty =
+      every-same (hasEmptyRun area) (possible.hasEmptyRun L) ms
+      (all-from (λ m l. ap (λ (n : ℕ). inColumn n 1) (member-word m 0 l (omega arith)) ∙ empty-flag L m) ms below)
+
+  -- ---- the added sequence's columns
+
+  abbrev rows : ℕ → ℕ → Row
+  rows f m j = columnPossible L j m f
+
+  all-run : (f : ℕ) → afterMembers L f (rows f) startRow ms 0 ≡ every (possible.hasRun L) ms
+  all-run f = fold-all L f (rows f) 0 (λ X Y. refl) startRow ms
+
+  added-run : possible.hasRun L′ C ≡ every (possible.hasRun L) ms
+  added-run = possible-added L ms whole below 0 0 (omega arith) ∙ and-self (afterMembers L 0 (rows 0) startRow ms 0) ∙ all-run 0
+
+  module _ (live : every (possible.hasRun L) ms ≡ true) where
+    -- where every member has a run
+    added-column : (f j : ℕ) → j < columnCount → columnPossible L′ j C f ≡ afterMembers L f (rows f) startRow ms j
+    added-column f j u =
+        possible-added L ms whole below f j u ∙ ap (λ (b : Bool). b && afterMembers L f (rows f) startRow ms j) (all-run f ∙ live)
+
+    added-empty : possible.hasEmptyRun L′ C ≡ every (possible.hasEmptyRun L) ms
+    added-empty = added-column 0 1 (omega arith) ∙ fold-all L 0 (rows 0) 1 (λ X Y. refl) startRow ms
+
+    module _ (f : ℕ) (low : f < L .facts) where
+      -- a "some" column of a card is column j of a row
+      abbrev IsColumn : CardColumn → ℕ → Type 0
+      IsColumn k j = (K : Library) (m : ℕ) → claimed K (claim k) m f ≡ columnPossible K j m f
+
+      members-agree : (k : CardColumn) (j : ℕ) → IsColumn k j → All (λ (m : ℕ). has area f k m ≡ rows f m j) ms
+      members-agree k j is = all-from (λ m e. e ∙ is L m) ms (members-have f low k)
+
+      added-claim : (k : CardColumn) (j : ℕ) → j < columnCount → IsColumn k j → claimed L′ (claim k) C f ≡ afterMembers L f (rows f) startRow ms j
+      added-claim k j u is = is L′ C ∙ added-column f j u
+
+      -- "where all members have it"
+      all-have : (k : CardColumn) (j : ℕ) → j < columnCount → IsColumn k j → startRow j ≡ true → ((X Y : Row) → joinRow X Y j ≡ (X j && Y j))
+          → every (has area f k) ms ≡ claimed L′ (claim k) C f
+      all-have k j u is starts both =
+          every-same (has area f k) (λ (m : ℕ). rows f m j) ms (members-agree k j is)
+          ∙ sym
+          (added-claim k j u is ∙ fold-all L f (rows f) j both startRow ms ∙ ap (λ (b : Bool). b && every (λ (m : ℕ). rows f m j) ms) starts)
+
+      -- "where one has it and every later member .."
+      one-has : (k : CardColumn) (j : ℕ) (n : CardColumn) (i : ℕ) → j < columnCount → IsColumn k j → IsColumn n i → startRow j ≡ false
+          → ((X Y : Row) → joinRow X Y j ≡ (X j && Y i || Y j)) → oneThenAll (has area f k) (has area f n) ms ≡ claimed L′ (claim k) C f
+      one-has k j n i u is alone starts later =
+          let all = every (λ (m : ℕ). rows f m i) ms in
+          let one = oneThenAll (λ (m : ℕ). rows f m j) (λ (m : ℕ). rows f m i) ms in
+          one-then-same (has area f k) (λ (m : ℕ). rows f m j) (has area f n) (λ (m : ℕ). rows f m i) ms (members-agree k j is) (members-agree n i alone)
+          ∙ sym (added-claim k j u is ∙ fold-last L f (rows f) j i later startRow ms ∙ ap (λ (b : Bool). b && all || one) starts)
+
+      -- "(earlier on the first side)"
+      first-has : (k : CardColumn) (j : ℕ) → j < columnCount → IsColumn k j → startRow j ≡ false
+          → ((X Y : Row) → joinRow X Y j ≡ (Y j && X (columnNumber first untouched) || X j))
+          → allThenOne (has area f k) (has area f may-first-untouched) ms ≡ claimed L′ (claim k) C f
+      first-has k j u is starts earlier =
+          let i = columnNumber first untouched in
+          let one = allThenOne (λ (m : ℕ). rows f m j) (λ (m : ℕ). rows f m i) ms in
+          all-then-same (has area f k) (λ (m : ℕ). rows f m j) (has area f may-first-untouched) (λ (m : ℕ). rows f m i) ms (members-agree k j is)
+          (members-agree may-first-untouched i (λ K m. refl))
+          ∙ sym
+          (added-claim k j u is ∙ fold-first L f (rows f) j i earlier (λ X Y. refl) startRow ms ∙ ap (λ (b : Bool). b || one) starts)
+
+      -- "where no rival outcome holds"
+      no-rival : (v : View) (m : Mark) (one none : Bool) → one ≡ possibleIn L′ v (otherTouch m) C f → none ≡ possibleIn L′ v untouched C f
+          → not (one || none) ≡ claimed L′ (every-run v m) C f
+      no-rival v m one none e n =
+          ap₂ (λ (a b : Bool). not (a || b)) e n ∙ ap (λ (b : Bool). b && not (brokenIn L′ v m C f)) (sym (added-run ∙ live))
+
+      set-last : oneThenAll (has area f may-set) (has area f may-last-untouched) ms ≡ claimed L′ (claim may-set) C f
+      set-last = one-has may-set 2 may-last-untouched 4 (omega arith) (λ K m. refl) (λ K m. refl) refl (λ X Y. refl)
+
+      cleared-last : oneThenAll (has area f may-clear) (has area f may-last-untouched) ms ≡ claimed L′ (claim may-clear) C f
+      cleared-last = one-has may-clear 3 may-last-untouched 4 (omega arith) (λ K m. refl) (λ K m. refl) refl (λ X Y. refl)
+
+      untouched-last : every (has area f may-last-untouched) ms ≡ claimed L′ (claim may-last-untouched) C f
+      untouched-last = all-have may-last-untouched 4 (omega arith) (λ K m. refl) refl (λ X Y. refl)
+
+      set-first : allThenOne (has area f may-first-set) (has area f may-first-untouched) ms ≡ claimed L′ (claim may-first-set) C f
+      set-first = first-has may-first-set 6 (omega arith) (λ K m. refl) refl (λ X Y. refl)
+
+      untouched-first : every (has area f may-first-untouched) ms ≡ claimed L′ (claim may-first-untouched) C f
+      untouched-first = all-have may-first-untouched 7 (omega arith) (λ K m. refl) refl (λ X Y. and-comm (Y 7) (X 7))
+
+      cleared-end : oneThenAll (has area f may-end-cleared) (has area f may-end-unmentioned) ms ≡ claimed L′ (claim may-end-cleared) C f
+      cleared-end = one-has may-end-cleared 8 may-end-unmentioned 9 (omega arith) (λ K m. refl) (λ K m. refl) refl (λ X Y. refl)
+
+      unmentioned : every (has area f may-end-unmentioned) ms ≡ claimed L′ (claim may-end-unmentioned) C f
+      unmentioned = all-have may-end-unmentioned 9 (omega arith) (λ K m. refl) refl (λ X Y. refl)
+
+      -- each bit of the list's card is one of the added sequence's
+      listed : (k : CardColumn) → listHas area ms f k ≡ claimed L′ (claim k) C f
+      listed always-needed = no-rival (touches first) present _ _ set-first untouched-first
+      listed may-need = first-has may-need 5 (omega arith) (λ K m. refl) refl (λ X Y. refl)
+      listed may-set = set-last
+      listed may-clear = cleared-last
+      listed always-set = no-rival (touches last) present _ _ cleared-last untouched-last
+      listed always-cleared = no-rival (touches last) absent _ _ set-last untouched-last
+      listed always-stands = no-rival standing present _ _ cleared-end unmentioned
+      listed may-first-set = set-first
+      listed may-first-untouched = untouched-first
+      listed may-last-untouched = untouched-last
+      listed may-end-cleared = cleared-end
+      listed may-end-unmentioned = unmentioned
+
+    -- the words, for at most as many facts as a column has room for
+    module _ (few : L .facts ≤ 64) where
+      all-kept : kept (L .facts) ≡ L .facts
+      all-kept = omega arith
+
+      column-listed : (k : CardColumn) → listColumn (L .facts) area ms k ≡ columnWord L′ k C
+      unfolding listColumn claimWord
+      column-listed k =
+          ap (λ (n : ℕ). column n (λ (f : ℕ). listHas area ms f k)) all-kept
+          ∙ column-same (L .facts) (λ (f : ℕ). listHas area ms f k) (λ (f : ℕ). claimed L′ (claim k) C f) (λ f low. listed f low k)
+
+      count-listed : listCount (L .facts) area ms ≡ changeable L′ C
+      unfolding listCount changeable
+      count-listed =
+          ap (λ (n : ℕ). countBelow n (λ (f : ℕ). listHas area ms f may-set || listHas area ms f may-clear)) all-kept
+          ∙ count-same (L .facts) (λ (f : ℕ). listHas area ms f may-set || listHas area ms f may-clear)
+          (λ (f : ℕ). claimed L′ (claim may-set) C f || claimed L′ (claim may-clear) C f)
+          (λ f low. ap₂ _||_ (listed f low may-set) (listed f low may-clear))
+
+      flags-listed : listFlags (L .facts) area ms ≡ flags L′ C
+      unfolding listFlags flags
+      flags-listed =
+          let run : every (hasRun area) ms ≡ possible.hasRun L′ C = members-run ∙ sym added-run in
+          let empty : every (hasEmptyRun area) ms ≡ possible.hasEmptyRun L′ C = members-empty ∙ sym added-empty in
+          omega (arith, ap boolByte run, ap boolByte empty, count-listed)
+
+      words-listed : listWords (L .facts) area ms ≡ card L′ C
+      unfolding listWords card
+      words-listed i =
+          flags-listed i ∷ column-listed always-needed i ∷ column-listed may-need i ∷ column-listed may-set i ∷ column-listed may-clear i
+          ∷ column-listed always-set i ∷ column-listed always-cleared i ∷ column-listed always-stands i ∷ column-listed may-first-set i
+          ∷ column-listed may-first-untouched i ∷ column-listed may-last-untouched i ∷ column-listed may-end-cleared i
+          ∷ column-listed may-end-unmentioned i ∷ []
+
+      listed-live : listCard (L .facts) area ms ≡ card L′ C
+      unfolding listCard
+      listed-live = ap (λ (b : Bool). cond b (listWords (L .facts) area ms) blankCard) (members-run ∙ live) ∙ words-listed
+
+  -- without a run of a member both are blank
+  listed-blank : every (possible.hasRun L) ms ≡ false → listCard (L .facts) area ms ≡ card L′ C
+  unfolding listCard card
+  listed-blank none =
+      ap (λ (b : Bool). cond b (listWords (L .facts) area ms) blankCard) (members-run ∙ none)
+      ∙ ext-getD 0 blankCard (card L′ C) refl (λ j u. blank-word j ∙ sym (card-blank L′ C (added-run ∙ none) j u))
+
+  pub list-added : L .facts ≤ 64 → listCard (L .facts) area ms ≡ card L′ (addedTo L)
+  list-added few = ⊎-elim (λ live. listed-live live few) listed-blank (passes-or-not (every (possible.hasRun L) ms))
