@@ -6,7 +6,7 @@ use Prim.Native.Nat.{ℕ, zero, suc, _+_, _*_, _-_, _^_, _≤_, _<_, min}
 use native.Mathlib.Omega.{arith}
 use mathlib.Core.Path.{_≡_, refl, sym, ap, ap₂, _∙_}
 use mathlib.Core.Logic.{⊎-elim}
-use mathlib.Core.Bool.{Bool, true, false, cond, not, _&&_, _||_, and-self, and-comm}
+use mathlib.Core.Bool.{Bool, true, false, cond, not, _&&_, _||_, and-self, and-comm, and-true, true≢false}
 use mathlib.Core.List.{List, [], _∷_, _++_, map}
 use lib.ListN.{length, getD, List·getD-append}
 use lib.Seq.{ext-getD}
@@ -14,18 +14,20 @@ use mir.Val.{boolByte}
 use Rattle.general.specs.Scan.{every}
 use Rattle.general.specs.Tests.{All}
 use Rattle.general.proofs.Numbers.{zeros}
-use Rattle.general.proofs.Bools.{passes-or-not}
-use Rattle.column.specs.Column.{column}
+use Rattle.general.proofs.Bools.{passes-or-not, and-implied}
+use Rattle.column.specs.Column.{column, allBelow}
 use Rattle.column.specs.Sets.{inColumn, countBelow}
-use Rattle.column.proofs.Bits.{column-same}
-use Rattle.column.proofs.Operations.{in-column, count-same}
+use Rattle.column.proofs.Bits.{column-same, column-none}
+use Rattle.column.proofs.Operations.{in-column, column-all, count-same, count-none}
 use Rattle.library.specs.Library.{Library, call}
 use Rattle.runs.specs.Added.{withList, addedTo, Whole}
-use Rattle.runs.specs.Touch.{last, first, Mark, present, absent, untouched, otherTouch}
+use Rattle.runs.specs.Touch.{Side, last, first, Mark, present, absent, untouched, otherTouch}
 use Rattle.runs.specs.View.{View, touches, standing}
 use Rattle.runs.specs.Possible as possible
-use Rattle.runs.specs.Possible.{columnCount, columnPossible, possibleIn, brokenIn}
-use Rattle.runs.specs.Rows.{Row, columnNumber, joinRow, startRow}
+use Rattle.runs.specs.Possible.{columnOf, columnCount, columnPossible, possibleIn, brokenIn}
+use Rattle.runs.specs.Rows.{Row, columnNumber, joinRow, startRow, foldRow}
+use Rattle.runs.proofs.Columns.{blank-columns}
+use Rattle.runs.proofs.Rows.{by-column}
 use Rattle.runs.proofs.Added.{possible-kept, possible-added}
 use Rattle.cards.specs.Layout.{CardColumn, always-needed, may-need, may-set, may-clear, always-set, always-cleared, always-stands}
 use Rattle.cards.specs.Layout.{may-first-set, may-first-untouched, may-last-untouched, may-end-cleared, may-end-unmentioned}
@@ -34,7 +36,7 @@ use Rattle.cards.specs.Card.{every-run, claim, claimed, claimWord, colum
 use Rattle.cards.specs.Area.{partWord}
 use Rattle.cards.specs.Composed.{hasRun, hasEmptyRun, has, oneThenAll, allThenOne, listHas, listColumn, listCount, listFlags, listWords, blankCard, listCard, kept}
 use Rattle.cards.proofs.Meaning.{by-word, card-column, card-blank, place-low, run-flag, empty-flag}
-use Rattle.cards.proofs.Area.{length-cards, card-words}
+use Rattle.cards.proofs.Area.{length-card, length-cards, card-words}
 use Rattle.cards.proofs.Composed.{every-same, one-then-same, all-then-same, afterMembers, fold-all, fold-last, fold-first}
 
 -- what holds of each element follows for a list of them
@@ -229,3 +231,101 @@ module _ (L : Library) (ms rest : List ℕ) (whole : Whole L) (below : All (λ (
 
   pub list-added : L .facts ≤ 64 → listCard (L .facts) area ms ≡ card L′ (addedTo L)
   list-added few = ⊎-elim (λ live. listed-live live few) listed-blank (passes-or-not (every (possible.hasRun L) ms))
+
+-- ---- cards of sequences with the same columns
+
+module _ (K K′ : Library) (c c′ : ℕ) (facts : K .facts ≡ K′ .facts)
+    (same : (j f : ℕ) → j < columnCount → columnPossible K j c f ≡ columnPossible K′ j c′ f) where
+  -- an "always" column, by its rivals' columns
+  every-agrees : (i j f : ℕ) → i < columnCount → j < columnCount
+      → (columnPossible K 0 c 0 && not (columnPossible K i c f || columnPossible K j c f))
+      ≡ (columnPossible K′ 0 c′ 0 && not (columnPossible K′ i c′ f || columnPossible K′ j c′ f))
+  every-agrees i j f l u = ap₂ _&&_ (same 0 0 (omega arith)) (ap₂ (λ (a b : Bool). not (a || b)) (same i f l) (same j f u))
+
+  claim-same : (k : CardColumn) (f : ℕ) → claimed K (claim k) c f ≡ claimed K′ (claim k) c′ f
+  claim-same always-needed f = every-agrees 6 7 f (omega arith) (omega arith)
+  claim-same may-need f = same 5 f (omega arith)
+  claim-same may-set f = same 2 f (omega arith)
+  claim-same may-clear f = same 3 f (omega arith)
+  claim-same always-set f = every-agrees 3 4 f (omega arith) (omega arith)
+  claim-same always-cleared f = every-agrees 2 4 f (omega arith) (omega arith)
+  claim-same always-stands f = every-agrees 8 9 f (omega arith) (omega arith)
+  claim-same may-first-set f = same 6 f (omega arith)
+  claim-same may-first-untouched f = same 7 f (omega arith)
+  claim-same may-last-untouched f = same 4 f (omega arith)
+  claim-same may-end-cleared f = same 8 f (omega arith)
+  claim-same may-end-unmentioned f = same 9 f (omega arith)
+
+  column-agrees : (k : CardColumn) → columnWord K k c ≡ columnWord K′ k c′
+  unfolding claimWord
+  column-agrees k =
+      column-same (K .facts) (λ (f : ℕ). claimed K (claim k) c f) (λ (f : ℕ). claimed K′ (claim k) c′ f) (λ f low. claim-same k f)
+      ∙ ap (λ (n : ℕ). column n (λ (f : ℕ). claimed K′ (claim k) c′ f)) facts
+
+  count-agrees : changeable K c ≡ changeable K′ c′
+  unfolding changeable
+  count-agrees =
+      count-same (K .facts) (λ (f : ℕ). claimed K (claim may-set) c f || claimed K (claim may-clear) c f)
+      (λ (f : ℕ). claimed K′ (claim may-set) c′ f || claimed K′ (claim may-clear) c′ f)
+      (λ f low. ap₂ _||_ (claim-same may-set f) (claim-same may-clear f))
+      ∙ ap (λ (n : ℕ). countBelow n (λ (f : ℕ). claimed K′ (claim may-set) c′ f || claimed K′ (claim may-clear) c′ f)) facts
+
+  flags-agree : flags K c ≡ flags K′ c′
+  unfolding flags
+  flags-agree = omega (arith, ap boolByte (same 0 0 (omega arith)), ap boolByte (same 1 0 (omega arith)), count-agrees)
+
+  card-agrees : card K c ≡ card K′ c′
+  unfolding card
+  card-agrees =
+      ext-getD 0 (card K c) (card K′ c′) (length-card K c ∙ sym (length-card K′ c′))
+      (λ j u. by-word (λ i. cardWord K c i ≡ cardWord K′ c′ i) flags-agree (λ k. card-column K c k ∙ column-agrees k ∙ sym (card-column K′ c′ k)) j
+      (omega (arith, length-card K c)))
+
+-- with the list added, each sequence of the library has the card that it had
+pub card-kept : (L : Library) (ms : List ℕ) → Whole L → (c : ℕ) → c < length (L .sequences) → card (withList L ms) c ≡ card L c
+card-kept L ms whole c low = card-agrees (withList L ms) L c c refl (λ j f u. possible-kept L ms whole c f j low u)
+
+-- ---- the shortest lists
+
+-- nothing before a row leaves it as it is
+start-join : (Y : Row) (j : ℕ) → j < columnCount → joinRow startRow Y j ≡ Y j
+start-join Y = by-column (λ j. joinRow startRow Y j ≡ Y j) refl refl side refl refl
+  where
+    earlier : (b : Bool) → (b && true || false) ≡ b
+    earlier true = refl
+    earlier false = refl
+
+    side : (s : Side) (m : Mark) → joinRow startRow Y (columnNumber s m) ≡ Y (columnNumber s m)
+    side last present = refl
+    side last absent = refl
+    side last untouched = refl
+    side first present = earlier (Y 5)
+    side first absent = earlier (Y 6)
+    side first untouched = and-true (Y 7)
+
+-- the list of one member has that member's card
+pub list-one : (L : Library) (m : ℕ) (rest : List ℕ) → Whole L → m < length (L .sequences) → L .facts ≤ 64
+    → listCard (L .facts) (cards L ++ rest) (m ∷ []) ≡ card L m
+unfolding foldRow
+list-one L m rest whole low few =
+    list-added L (m ∷ []) rest whole (low, tt) few ∙ card-agrees (withList L (m ∷ [])) L (addedTo L) m refl column
+  where
+    column : (j f : ℕ) → j < columnCount → columnPossible (withList L (m ∷ [])) j (addedTo L) f ≡ columnPossible L j m f
+    column j f u =
+        possible-added L (m ∷ []) whole (low, tt) f j u
+        ∙ ap (λ (b : Bool). columnPossible L 0 m f && b) (start-join (λ k. columnPossible L k m f) j u)
+        ∙ and-implied (columnPossible L 0 m f) (columnPossible L j m f)
+        (λ e. ⊎-elim (λ run. run) (λ none. absurd (true≢false (sym e ∙ blank-columns (columnOf j) L m f none))) (passes-or-not (possible.hasRun L m)))
+
+-- "The empty list has just the empty run": it leaves every fact below F untouched on both sides and unmentioned, over any area
+pub list-none : (facts : ℕ) (area : List ℕ)
+    → listCard facts area []
+    ≡ 3 ∷ 0 ∷ 0 ∷ 0 ∷ 0 ∷ 0 ∷ 0 ∷ 0 ∷ 0 ∷ allBelow facts ∷ allBelow facts ∷ 0 ∷ allBelow facts ∷ []
+unfolding listCard listWords listFlags listCount listColumn every oneThenAll allThenOne
+list-none facts area i =
+    let none = column-none (kept facts) in
+    let all = column-all (kept facts) in
+    flag i ∷ none i ∷ none i ∷ none i ∷ none i ∷ none i ∷ none i ∷ none i ∷ none i ∷ all i ∷ all i ∷ none i ∷ all i ∷ []
+  where
+    flag : 1 + 2 * 1 + 2 ^ 8 * countBelow (kept facts) (λ (f : ℕ). false) ≡ 3
+    flag = omega (arith, count-none (kept facts))
