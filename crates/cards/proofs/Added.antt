@@ -34,7 +34,7 @@ use Rattle.cards.specs.Layout.{may-first-set, may-first-untouched, may-l
 use Rattle.cards.specs.Layout.{place, cardWords}
 use Rattle.cards.specs.Card.{every-run, claim, claimed, claimWord, columnWord, changeable, flags, card, cardWord, cards}
 use Rattle.cards.specs.Area.{partWord}
-use Rattle.cards.specs.Composed.{hasRun, hasEmptyRun, has, oneThenAll, allThenOne, listHas, listColumn, listCount, listFlags, listWords, blankCard, listCard, kept}
+use Rattle.cards.specs.Composed.{hasRun, hasEmptyRun, has, oneThenAll, allThenOne, listHas, listColumn, listCount, listFlags, composedCard, blankCard, listCard, kept}
 use Rattle.cards.proofs.Meaning.{by-word, card-column, card-blank, place-low, run-flag, empty-flag}
 use Rattle.cards.proofs.Area.{length-card, length-cards, card-words}
 use Rattle.cards.proofs.Composed.{every-same, one-then-same, all-then-same, afterMembers, fold-all, fold-last, fold-first}
@@ -210,8 +210,8 @@ module _ (L : Library) (ms rest : List ℕ) (whole : Whole L) (below : All (λ (
           let empty : every (hasEmptyRun area) ms ≡ possible.hasEmptyRun L′ C = members-empty ∙ sym added-empty in
           omega (arith, ap boolByte run, ap boolByte empty, count-listed)
 
-      words-listed : listWords (L .facts) area ms ≡ card L′ C
-      unfolding listWords card
+      words-listed : composedCard (L .facts) area ms ≡ card L′ C
+      unfolding composedCard card
       words-listed i =
           flags-listed i ∷ column-listed always-needed i ∷ column-listed may-need i ∷ column-listed may-set i ∷ column-listed may-clear i
           ∷ column-listed always-set i ∷ column-listed always-cleared i ∷ column-listed always-stands i ∷ column-listed may-first-set i
@@ -220,13 +220,13 @@ module _ (L : Library) (ms rest : List ℕ) (whole : Whole L) (below : All (λ (
 
       listed-live : listCard (L .facts) area ms ≡ card L′ C
       unfolding listCard
-      listed-live = ap (λ (b : Bool). cond b (listWords (L .facts) area ms) blankCard) (members-run ∙ live) ∙ words-listed
+      listed-live = ap (λ (b : Bool). cond b (composedCard (L .facts) area ms) blankCard) (members-run ∙ live) ∙ words-listed
 
   -- without a run of a member both are blank
   listed-blank : every (possible.hasRun L) ms ≡ false → listCard (L .facts) area ms ≡ card L′ C
   unfolding listCard card
   listed-blank none =
-      ap (λ (b : Bool). cond b (listWords (L .facts) area ms) blankCard) (members-run ∙ none)
+      ap (λ (b : Bool). cond b (composedCard (L .facts) area ms) blankCard) (members-run ∙ none)
       ∙ ext-getD 0 blankCard (card L′ C) refl (λ j u. blank-word j ∙ sym (card-blank L′ C (added-run ∙ none) j u))
 
   pub list-added : L .facts ≤ 64 → listCard (L .facts) area ms ≡ card L′ (addedTo L)
@@ -321,7 +321,7 @@ list-one L m rest whole low few =
 pub list-none : (facts : ℕ) (area : List ℕ)
     → listCard facts area []
     ≡ 3 ∷ 0 ∷ 0 ∷ 0 ∷ 0 ∷ 0 ∷ 0 ∷ 0 ∷ 0 ∷ allBelow facts ∷ allBelow facts ∷ 0 ∷ allBelow facts ∷ []
-unfolding listCard listWords listFlags listCount listColumn every oneThenAll allThenOne
+unfolding listCard composedCard listFlags listCount listColumn every oneThenAll allThenOne
 list-none facts area i =
     let none = column-none (kept facts) in
     let all = column-all (kept facts) in

@@ -94,10 +94,10 @@ listFlags facts area ms = boolByte (every (hasRun area) ms) + 2 * boolByte (ever
 abbrev pub blankCard : List ℕ
 blankCard = 0 ∷ 0 ∷ 0 ∷ 0 ∷ 0 ∷ 0 ∷ 0 ∷ 0 ∷ 0 ∷ 0 ∷ 0 ∷ 0 ∷ 0 ∷ []
 
--- the words of a list each member of which has a run
-unfoldable pub listWords : ℕ → List ℕ → List ℕ → List ℕ
+-- the words in their order
+unfoldable pub composedCard : ℕ → List ℕ → List ℕ → List ℕ
 unfolding listFlags listColumn
-listWords facts area ms =
+composedCard facts area ms =
     listFlags facts area ms ∷ listColumn facts area ms always-needed ∷ listColumn facts area ms may-need ∷ listColumn facts area ms may-set
     ∷ listColumn facts area ms may-clear ∷ listColumn facts area ms always-set ∷ listColumn facts area ms always-cleared
     ∷ listColumn facts area ms always-stands ∷ listColumn facts area ms may-first-set ∷ listColumn facts area ms may-first-untouched
@@ -105,5 +105,5 @@ listWords facts area ms =
 
 -- "blank unless every member has a run". "The empty list has just the empty run": the rule says so
 unfoldable pub listCard : ℕ → List ℕ → List ℕ → List ℕ
-unfolding listWords inColumn every
-listCard facts area ms = cond (every (hasRun area) ms) (listWords facts area ms) blankCard
+unfolding composedCard inColumn every
+listCard facts area ms = cond (every (hasRun area) ms) (composedCard facts area ms) blankCard
