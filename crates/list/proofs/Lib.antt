@@ -1,0 +1,7 @@
+pub mod Rule
+pub mod Rows
+pub mod Words
+pub mod Card
+pub mod Loops
+pub mod Written
+pub mod Called
