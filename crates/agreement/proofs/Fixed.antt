@@ -53,7 +53,7 @@ module _ (e : Engine) (d : Demand2 e) (image area : List ℕ) (ready : Ready ima
       inside i l =
           let place : i ≡ cardWords * (i / cardWords) + i % cardWords = omega arith in
           ap (λ (j : ℕ). getD (e .cards image area .area) j 0) place
-          ∙ cards-fixed (i / cardWords) (i % cardWords) (omega arith) (mod-lt i (zero-lt-suc 7))
+          ∙ cards-fixed (i / cardWords) (i % cardWords) (omega arith) (mod-lt i (zero-lt-suc 12))
           ∙ ap (λ (j : ℕ). getD (engine .cards image area .area) j 0) (sym place)
 
 -- ---- demand 3

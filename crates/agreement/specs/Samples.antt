@@ -107,6 +107,10 @@ joined (l ∷ ls) = l ++ joined ls
 abbrev pub spare : List ℕ
 spare = 7 ∷ 7 ∷ 7 ∷ 7 ∷ 7 ∷ []
 
+-- the card of a sequence without a run
+abbrev pub blank : List ℕ
+blank = 0 ∷ 0 ∷ 0 ∷ 0 ∷ 0 ∷ 0 ∷ 0 ∷ 0 ∷ 0 ∷ 0 ∷ 0 ∷ 0 ∷ 0 ∷ []
+
 -- "N × 2^32 + P for refusal N at position P, otherwise the head's payload from the check, C from the cards, the number of links from the
 -- chain, 0 there for "none""; F in bits 0 to 6, A in bits 7 to 17, C in bits 18 to 26
 abbrev pub Holds : Sample → Type 0
@@ -125,10 +129,11 @@ abbrev pub starred : List Sample
 starred =
     -- L is read: F = A = C = 3
     accepts L 3 3 3
-    -- "L prints, whole"; document 02, request 4: "L's lines now end in 0, 3 and 0."
+    -- "L prints, whole"; document 02, request 4: "L's lines now end in 0, 3 and 0."; request 5: "L's lines go on with 1 7 7 0 7, 3 4 5 0 4 and
+    -- five zeros."
     ∷ fills L
-    ((0x103 ∷ 0 ∷ 0 ∷ 1 ∷ 0 ∷ 0 ∷ 0 ∷ 0 ∷ []) ∷ (0x201 ∷ 0 ∷ 1 ∷ 3 ∷ 0 ∷ 2 ∷ 0 ∷ 3 ∷ []) ∷ (0 ∷ 0 ∷ 0 ∷ 0 ∷ 0 ∷ 0 ∷ 0 ∷ 0 ∷ []) ∷ [])
-    ∷ prints L "0 103 0 0 1 0 0 0 0\n1 201 0 1 3 0 2 0 3\n2 0 0 0 0 0 0 0 0\n"
+    ((0x103 ∷ 0 ∷ 0 ∷ 1 ∷ 0 ∷ 0 ∷ 0 ∷ 0 ∷ 1 ∷ 7 ∷ 7 ∷ 0 ∷ 7 ∷ []) ∷ (0x201 ∷ 0 ∷ 1 ∷ 3 ∷ 0 ∷ 2 ∷ 0 ∷ 3 ∷ 3 ∷ 4 ∷ 5 ∷ 0 ∷ 4 ∷ []) ∷ blank ∷ [])
+    ∷ prints L "0 103 0 0 1 0 0 0 0 1 7 7 0 7\n1 201 0 1 3 0 2 0 3 3 4 5 0 4\n2 0 0 0 0 0 0 0 0 0 0 0 0 0\n"
     -- "L, sequence 1, question 2, fact 0: 1 link, a0000001 c0000000."
     ∷ chains L 1 2 0 spare 1 (0xa0000001 ∷ 0xc0000000 ∷ 7 ∷ 7 ∷ 7 ∷ [])
     -- "The same, question 0: 2 links, a0000001 b0000000 a0000000 b0000000; an area of 3 words gets 12."
@@ -148,16 +153,18 @@ starred =
     ∷ prints bare ""
     -- "10000000 f0000001 gets 3"
     ∷ refuses (0x10000000 ∷ 0xf0000001 ∷ []) 3 0
-    -- "Alternatives <itself> and <>: flags 3; question 2 names alternative 1."
-    ∷ fills selfCall ((3 ∷ 0 ∷ 0 ∷ 0 ∷ 0 ∷ 0 ∷ 0 ∷ 0 ∷ []) ∷ [])
+    -- "Alternatives <itself> and <>: flags 3; question 2 names alternative 1." The empty run leaves the fact untouched on both sides, and has
+    -- no item
+    ∷ fills selfCall ((3 ∷ 0 ∷ 0 ∷ 0 ∷ 0 ∷ 0 ∷ 0 ∷ 0 ∷ 0 ∷ 1 ∷ 1 ∷ 0 ∷ 1 ∷ []) ∷ [])
     ∷ chains selfCall 0 2 0 spare 1 (0xa0000100 ∷ 0xc0000000 ∷ 7 ∷ 7 ∷ 7 ∷ [])
-    -- "Alternatives <set f, L's kind of endless sequence> and <clear f>: always cleared." It may clear f, so one fact is changeable
-    ∷ fills endlessFirst ((0x101 ∷ 0 ∷ 0 ∷ 0 ∷ 1 ∷ 0 ∷ 1 ∷ 0 ∷ []) ∷ (0 ∷ 0 ∷ 0 ∷ 0 ∷ 0 ∷ 0 ∷ 0 ∷ 0 ∷ []) ∷ [])
+    -- "Alternatives <set f, L's kind of endless sequence> and <clear f>: always cleared." It may clear f, so one fact is changeable.
+    -- On the first side a clear is no touch; the last item that mentions f clears it
+    ∷ fills endlessFirst ((0x101 ∷ 0 ∷ 0 ∷ 0 ∷ 1 ∷ 0 ∷ 1 ∷ 0 ∷ 0 ∷ 1 ∷ 0 ∷ 1 ∷ 0 ∷ []) ∷ blank ∷ [])
     -- the step that clears f takes it away
     ∷ executes endlessFirst 0 (step 1 ∷ []) (0 ∷ []) []
     -- "Alternative <clear f, need f>: always needed, though no run executes." It may need f, and always clears it. The last item that mentions f
     -- needs it, so it always stands. That no run executes from any state is `never-executes` (proofs/Samples)
-    ∷ fills clearThenNeed ((0x101 ∷ 1 ∷ 1 ∷ 0 ∷ 1 ∷ 0 ∷ 1 ∷ 1 ∷ []) ∷ [])
+    ∷ fills clearThenNeed ((0x101 ∷ 1 ∷ 1 ∷ 0 ∷ 1 ∷ 0 ∷ 1 ∷ 1 ∷ 0 ∷ 0 ∷ 0 ∷ 0 ∷ 0 ∷ []) ∷ [])
     ∷ fails clearThenNeed 0 (step 0 ∷ step 1 ∷ []) (0 ∷ [])
     -- "One step sets and clears f": document 02, request 1, "The sample with that step becomes a refused one", "at the clear word"
     ∷ refuses pulse 13 3
@@ -170,8 +177,10 @@ starred =
     ∷ chains L 0 2 1 spare 1 (0xa0000100 ∷ 0xc0000000 ∷ 7 ∷ 7 ∷ 7 ∷ [])
     -- document 02, request 4. Sequence 0 of `skips` has one run, a check: "a run without steps is still called empty" (flags 3), "On the first side
     -- a check counts as a need" (always and may need), it "changes nothing", and leaves the fact standing. Sequence 1 needs it first by that check
-    -- and clears it last: "A step that needs and clears counts as clearing."
-    ∷ fills skips ((3 ∷ 1 ∷ 1 ∷ 0 ∷ 0 ∷ 0 ∷ 0 ∷ 1 ∷ []) ∷ (0x101 ∷ 1 ∷ 1 ∷ 0 ∷ 1 ∷ 0 ∷ 1 ∷ 0 ∷ []) ∷ [])
+    -- and clears it last: "A step that needs and clears counts as clearing." Of the five columns of request 5
+    -- the check leaves the fact untouched on the last side, and sequence 1's last item that mentions it clears it
+    ∷ fills skips
+    ((3 ∷ 1 ∷ 1 ∷ 0 ∷ 0 ∷ 0 ∷ 0 ∷ 1 ∷ 0 ∷ 0 ∷ 1 ∷ 0 ∷ 0 ∷ []) ∷ (0x101 ∷ 1 ∷ 1 ∷ 0 ∷ 1 ∷ 0 ∷ 1 ∷ 0 ∷ 0 ∷ 0 ∷ 0 ∷ 1 ∷ 0 ∷ []) ∷ [])
     -- "a chain may end on one": the step at position 1 comes after the check
     ∷ chains skips 1 3 0 spare 2 (0xa0000001 ∷ 0xb0000000 ∷ 0xa0000000 ∷ 0xb0000000 ∷ 7 ∷ [])
     -- on the last side a check touches nothing

@@ -6,7 +6,7 @@ use Prim.Native.Nat.{ℕ, zero, suc, _+_, _*_, _-_, _^_, _≤_, _<_, min}
 use native.Mathlib.Omega.{arith}
 use mathlib.Core.Path.{_≡_, refl, sym, ap, ap₂, _∙_}
 use mathlib.Core.Logic.{⊎-elim}
-use mathlib.Core.Bool.{Bool, true, false, cond, not, _&&_, _||_, and-self, and-comm, and-true, true≢false}
+use mathlib.Core.Bool.{Bool, true, false, cond, not, _&&_, _||_, and-self, and-true, true≢false}
 use mathlib.Core.List.{List, [], _∷_, _++_, map}
 use lib.ListN.{length, getD, List·getD-append}
 use lib.Seq.{ext-getD}
@@ -37,7 +37,8 @@ use Rattle.cards.specs.Area.{partWord}
 use Rattle.cards.specs.Composed.{hasRun, hasEmptyRun, has, oneThenAll, allThenOne, listHas, listColumn, listCount, listFlags, composedCard, blankCard, listCard, kept}
 use Rattle.cards.proofs.Meaning.{by-word, card-column, card-blank, place-low, run-flag, empty-flag}
 use Rattle.cards.proofs.Area.{length-card, length-cards, card-words}
-use Rattle.cards.proofs.Composed.{every-same, one-then-same, all-then-same, afterMembers, fold-all, fold-last, fold-first}
+use Rattle.cards.proofs.Rule.{every-same, one-then-same, all-then-same}
+use Rattle.cards.proofs.Joined.{Joined, called-rows}
 
 -- what holds of each element follows for a list of them
 all-from : {A : Type 0} {P Q : A → Type 0} → ((x : A) → P x → Q x) → (xs : List A) → All P xs → All Q xs
@@ -87,20 +88,23 @@ module _ (L : Library) (ms rest : List ℕ) (whole : Whole L) (below : All (λ (
   abbrev rows : ℕ → ℕ → Row
   rows f m j = columnPossible L j m f
 
-  all-run : (f : ℕ) → afterMembers L f (rows f) startRow ms 0 ≡ every (possible.hasRun L) ms
-  all-run f = fold-all L f (rows f) 0 (λ X Y. refl) startRow ms
+  -- the row after the members
+  abbrev after : ℕ → Row
+  after f = foldRow L f (rows f) startRow (map call ms)
+
+  by-members : (f : ℕ) → Joined (rows f) ms (after f)
+  by-members f = called-rows (rows f) L f ms
 
   added-run : possible.hasRun L′ C ≡ every (possible.hasRun L) ms
-  added-run = possible-added L ms whole below 0 0 (omega arith) ∙ and-self (afterMembers L 0 (rows 0) startRow ms 0) ∙ all-run 0
+  added-run = possible-added L ms whole below 0 0 (omega arith) ∙ and-self (after 0 0) ∙ by-members 0 .run
 
   module _ (live : every (possible.hasRun L) ms ≡ true) where
     -- where every member has a run
-    added-column : (f j : ℕ) → j < columnCount → columnPossible L′ j C f ≡ afterMembers L f (rows f) startRow ms j
-    added-column f j u =
-        possible-added L ms whole below f j u ∙ ap (λ (b : Bool). b && afterMembers L f (rows f) startRow ms j) (all-run f ∙ live)
+    added-column : (f j : ℕ) → j < columnCount → columnPossible L′ j C f ≡ after f j
+    added-column f j u = possible-added L ms whole below f j u ∙ ap (λ (b : Bool). b && after f j) (by-members f .run ∙ live)
 
     added-empty : possible.hasEmptyRun L′ C ≡ every (possible.hasEmptyRun L) ms
-    added-empty = added-column 0 1 (omega arith) ∙ fold-all L 0 (rows 0) 1 (λ X Y. refl) startRow ms
+    added-empty = added-column 0 1 (omega arith) ∙ by-members 0 .empty
 
     module _ (f : ℕ) (low : f < L .facts) where
       -- a "some" column of a card is column j of a row
@@ -110,37 +114,30 @@ module _ (L : Library) (ms rest : List ℕ) (whole : Whole L) (below : All (λ (
       members-agree : (k : CardColumn) (j : ℕ) → IsColumn k j → All (λ (m : ℕ). has area f k m ≡ rows f m j) ms
       members-agree k j is = all-from (λ m e. e ∙ is L m) ms (members-have f low k)
 
-      added-claim : (k : CardColumn) (j : ℕ) → j < columnCount → IsColumn k j → claimed L′ (claim k) C f ≡ afterMembers L f (rows f) startRow ms j
+      added-claim : (k : CardColumn) (j : ℕ) → j < columnCount → IsColumn k j → claimed L′ (claim k) C f ≡ after f j
       added-claim k j u is = is L′ C ∙ added-column f j u
 
       -- "where all members have it"
-      all-have : (k : CardColumn) (j : ℕ) → j < columnCount → IsColumn k j → startRow j ≡ true → ((X Y : Row) → joinRow X Y j ≡ (X j && Y j))
+      all-have : (k : CardColumn) (j : ℕ) → j < columnCount → IsColumn k j → after f j ≡ every (λ (m : ℕ). rows f m j) ms
           → every (has area f k) ms ≡ claimed L′ (claim k) C f
-      all-have k j u is starts both =
-          every-same (has area f k) (λ (m : ℕ). rows f m j) ms (members-agree k j is)
-          ∙ sym
-          (added-claim k j u is ∙ fold-all L f (rows f) j both startRow ms ∙ ap (λ (b : Bool). b && every (λ (m : ℕ). rows f m j) ms) starts)
+      all-have k j u is folded =
+          every-same (has area f k) (λ (m : ℕ). rows f m j) ms (members-agree k j is) ∙ sym (added-claim k j u is ∙ folded)
 
       -- "where one has it and every later member .."
-      one-has : (k : CardColumn) (j : ℕ) (n : CardColumn) (i : ℕ) → j < columnCount → IsColumn k j → IsColumn n i → startRow j ≡ false
-          → ((X Y : Row) → joinRow X Y j ≡ (X j && Y i || Y j)) → oneThenAll (has area f k) (has area f n) ms ≡ claimed L′ (claim k) C f
-      one-has k j n i u is alone starts later =
-          let all = every (λ (m : ℕ). rows f m i) ms in
-          let one = oneThenAll (λ (m : ℕ). rows f m j) (λ (m : ℕ). rows f m i) ms in
+      later-has : (k : CardColumn) (j : ℕ) (n : CardColumn) (i : ℕ) → j < columnCount → IsColumn k j → IsColumn n i
+          → after f j ≡ oneThenAll (λ (m : ℕ). rows f m j) (λ (m : ℕ). rows f m i) ms
+          → oneThenAll (has area f k) (has area f n) ms ≡ claimed L′ (claim k) C f
+      later-has k j n i u is alone folded =
           one-then-same (has area f k) (λ (m : ℕ). rows f m j) (has area f n) (λ (m : ℕ). rows f m i) ms (members-agree k j is) (members-agree n i alone)
-          ∙ sym (added-claim k j u is ∙ fold-last L f (rows f) j i later startRow ms ∙ ap (λ (b : Bool). b && all || one) starts)
+          ∙ sym (added-claim k j u is ∙ folded)
 
       -- "(earlier on the first side)"
-      first-has : (k : CardColumn) (j : ℕ) → j < columnCount → IsColumn k j → startRow j ≡ false
-          → ((X Y : Row) → joinRow X Y j ≡ (Y j && X (columnNumber first untouched) || X j))
-          → allThenOne (has area f k) (has area f may-first-untouched) ms ≡ claimed L′ (claim k) C f
-      first-has k j u is starts earlier =
-          let i = columnNumber first untouched in
-          let one = allThenOne (λ (m : ℕ). rows f m j) (λ (m : ℕ). rows f m i) ms in
-          all-then-same (has area f k) (λ (m : ℕ). rows f m j) (has area f may-first-untouched) (λ (m : ℕ). rows f m i) ms (members-agree k j is)
-          (members-agree may-first-untouched i (λ K m. refl))
-          ∙ sym
-          (added-claim k j u is ∙ fold-first L f (rows f) j i earlier (λ X Y. refl) startRow ms ∙ ap (λ (b : Bool). b || one) starts)
+      earlier-has : (k : CardColumn) (j : ℕ) (n : CardColumn) (i : ℕ) → j < columnCount → IsColumn k j → IsColumn n i
+          → after f j ≡ allThenOne (λ (m : ℕ). rows f m j) (λ (m : ℕ). rows f m i) ms
+          → allThenOne (has area f k) (has area f n) ms ≡ claimed L′ (claim k) C f
+      earlier-has k j n i u is alone folded =
+          all-then-same (has area f k) (λ (m : ℕ). rows f m j) (has area f n) (λ (m : ℕ). rows f m i) ms (members-agree k j is) (members-agree n i alone)
+          ∙ sym (added-claim k j u is ∙ folded)
 
       -- "where no rival outcome holds"
       no-rival : (v : View) (m : Mark) (one none : Bool) → one ≡ possibleIn L′ v (otherTouch m) C f → none ≡ possibleIn L′ v untouched C f
@@ -148,31 +145,34 @@ module _ (L : Library) (ms rest : List ℕ) (whole : Whole L) (below : All (λ (
       no-rival v m one none e n =
           ap₂ (λ (a b : Bool). not (a || b)) e n ∙ ap (λ (b : Bool). b && not (brokenIn L′ v m C f)) (sym (added-run ∙ live))
 
+      abbrev joined : Joined (rows f) ms (after f)
+      joined = by-members f
+
       set-last : oneThenAll (has area f may-set) (has area f may-last-untouched) ms ≡ claimed L′ (claim may-set) C f
-      set-last = one-has may-set 2 may-last-untouched 4 (omega arith) (λ K m. refl) (λ K m. refl) refl (λ X Y. refl)
+      set-last = later-has may-set 2 may-last-untouched 4 (omega arith) (λ K m. refl) (λ K m. refl) (joined .set)
 
       cleared-last : oneThenAll (has area f may-clear) (has area f may-last-untouched) ms ≡ claimed L′ (claim may-clear) C f
-      cleared-last = one-has may-clear 3 may-last-untouched 4 (omega arith) (λ K m. refl) (λ K m. refl) refl (λ X Y. refl)
+      cleared-last = later-has may-clear 3 may-last-untouched 4 (omega arith) (λ K m. refl) (λ K m. refl) (joined .clear)
 
       untouched-last : every (has area f may-last-untouched) ms ≡ claimed L′ (claim may-last-untouched) C f
-      untouched-last = all-have may-last-untouched 4 (omega arith) (λ K m. refl) refl (λ X Y. refl)
+      untouched-last = all-have may-last-untouched 4 (omega arith) (λ K m. refl) (joined .last-untouched)
 
       set-first : allThenOne (has area f may-first-set) (has area f may-first-untouched) ms ≡ claimed L′ (claim may-first-set) C f
-      set-first = first-has may-first-set 6 (omega arith) (λ K m. refl) refl (λ X Y. refl)
+      set-first = earlier-has may-first-set 6 may-first-untouched 7 (omega arith) (λ K m. refl) (λ K m. refl) (joined .first-set)
 
       untouched-first : every (has area f may-first-untouched) ms ≡ claimed L′ (claim may-first-untouched) C f
-      untouched-first = all-have may-first-untouched 7 (omega arith) (λ K m. refl) refl (λ X Y. and-comm (Y 7) (X 7))
+      untouched-first = all-have may-first-untouched 7 (omega arith) (λ K m. refl) (joined .first-untouched)
 
       cleared-end : oneThenAll (has area f may-end-cleared) (has area f may-end-unmentioned) ms ≡ claimed L′ (claim may-end-cleared) C f
-      cleared-end = one-has may-end-cleared 8 may-end-unmentioned 9 (omega arith) (λ K m. refl) (λ K m. refl) refl (λ X Y. refl)
+      cleared-end = later-has may-end-cleared 8 may-end-unmentioned 9 (omega arith) (λ K m. refl) (λ K m. refl) (joined .end-cleared)
 
       unmentioned : every (has area f may-end-unmentioned) ms ≡ claimed L′ (claim may-end-unmentioned) C f
-      unmentioned = all-have may-end-unmentioned 9 (omega arith) (λ K m. refl) refl (λ X Y. refl)
+      unmentioned = all-have may-end-unmentioned 9 (omega arith) (λ K m. refl) (joined .unmentioned)
 
       -- each bit of the list's card is one of the added sequence's
       listed : (k : CardColumn) → listHas area ms f k ≡ claimed L′ (claim k) C f
       listed always-needed = no-rival (touches first) present _ _ set-first untouched-first
-      listed may-need = first-has may-need 5 (omega arith) (λ K m. refl) refl (λ X Y. refl)
+      listed may-need = earlier-has may-need 5 may-first-untouched 7 (omega arith) (λ K m. refl) (λ K m. refl) (joined .need)
       listed may-set = set-last
       listed may-clear = cleared-last
       listed always-set = no-rival (touches last) present _ _ cleared-last untouched-last

@@ -1,5 +1,6 @@
 pub mod Meaning
 pub mod Unique
 pub mod Area
-pub mod Composed
+pub mod Rule
+pub mod Joined
 pub mod Added

@@ -1,5 +1,3 @@
-pub mod Rule
-pub mod Rows
 pub mod Words
 pub mod Card
 pub mod Loops

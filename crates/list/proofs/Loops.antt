@@ -69,7 +69,7 @@ past-next n ms i at l e =
     record {
       inside = omega arith;
       rest = at .rest ∙ ap (some (λ (m : ℕ). leb n m)) (from ms i l)
-      ∙ ap (λ (b : Bool). b || some (λ (m : ℕ). leb n m) (drop (i + 1) ms)) (lt-leb n (getD ms i 0) e);
+          ∙ ap (λ (b : Bool). b || some (λ (m : ℕ). leb n m) (drop (i + 1) ms)) (lt-leb n (getD ms i 0) e);
     }
 
 pub past-end : (n : ℕ) (ms : List ℕ) (i : ℕ) → PastAt n ms i → length ms ≤ i → false ≡ some (λ (m : ℕ). leb n m) ms
