@@ -113,13 +113,13 @@ RefusesAllChains e = (image : List ℕ) (c q f : ℕ) (area : List ℕ) → Refu
 -- ---- engines that are wrong in these ways: the right engine with another call in the place of one of its own
 
 abbrev pub withCheck : (List ℕ → ℕ) → Engine
-withCheck check = record { check = check; cards = engine .cards; chain = engine .chain }
+withCheck check = record { check = check; cards = engine .cards; chain = engine .chain; list = engine .list }
 
 abbrev pub withCards : (List ℕ → List ℕ → Returned) → Engine
-withCards cards = record { check = engine .check; cards = cards; chain = engine .chain }
+withCards cards = record { check = engine .check; cards = cards; chain = engine .chain; list = engine .list }
 
 abbrev pub withChain : (List ℕ → ℕ → ℕ → ℕ → List ℕ → Returned) → Engine
-withChain chain = record { check = engine .check; cards = engine .cards; chain = chain }
+withChain chain = record { check = engine .check; cards = engine .cards; chain = chain; list = engine .list }
 
 -- the right number, and an area of which every word is 0
 abbrev pub blankCards : Engine
