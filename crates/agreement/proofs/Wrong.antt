@@ -10,6 +10,8 @@ use mathlib.Core.Bool.{_||_}
 use mathlib.Core.List.{List, [], _∷_, _++_}
 use lib.ListN.{length, getD, drop, replicate}
 use lib.ListN as list
+use Rattle.general.specs.Tests.{some}
+use Rattle.general.proofs.Scan.{getD-listBelow}
 use Rattle.column.specs.Column.{bit}
 use Rattle.column.specs.Sets.{inColumn, countBelow}
 use Rattle.column.proofs.Bits.{bit-zero, bit-none}
@@ -25,23 +27,26 @@ use Rattle.runs.proofs.Outcome.{present≢untouched}
 use Rattle.cards.specs.Area.{partWord}
 use Rattle.cards.specs.Layout.{CardColumn, always-stands, place, cardWords}
 use Rattle.cards.specs.Card.{card, cards}
+use Rattle.cards.specs.Composed.{listCard}
 use Rattle.cards.specs.Meaning.{Always, needed, set, cleared, columnOf}
 use Rattle.runs.specs.Touch.{questionOf}
 use Rattle.chains.specs.Link.{Link, touchLink, untouchedLink, Chain, chainWords, Fits}
 use Rattle.chains.proofs.Fits.{accepted-fits}
 use Rattle.chains.specs.Answer.{shown}
 use Rattle.chains.specs.Call.{answered, chained}
-use Rattle.agreement.specs.Samples.{L, selfCall, clearThenNeed, blank}
+use Rattle.agreement.specs.Samples.{L, selfCall, clearThenNeed, blank, card1}
 use Rattle.dulimoven.specs.Returned.{Returned, returned}
 use Rattle.dulimoven.specs.ChainCall.{Asked, Answers, Links, ChainReturn}
 use Rattle.dulimoven.specs.ChainCall as chain
 use Rattle.dulimoven.specs.Demands.{Engine, count, Ready, Demand1, Demand2, Proves, Demand3}
+use Rattle.dulimoven.specs.Added.{Listed, listOver, Lists}
 use Rattle.dulimoven.specs.Engine.{engine}
 use Rattle.agreement.specs.Wrong.{Gets, Unwritten, LongerChain, BlankColumn, OneCard, Untouched, NoneAtOnce, AlwaysTwelve, SameLink, InventedLinks, InventedCount, RefusesAll, RefusesAllCards, RefusesAllChains}
+use Rattle.agreement.specs.Wrong.{RefusesAllLists, UnwrittenLists, LastMember, noList, lazyLists, secondCard}
 use Rattle.agreement.specs.Wrong.{blankCards, flaglessCards, lazyCards, fixedChain, unwritten, fixedLinks, noImage}
 use Rattle.dulimoven.proofs.ChainCall.{chain-only}
 use Rattle.dulimoven.proofs.Demands.{only-engine, runs}
-use Rattle.agreement.proofs.Fixed.{cards-fixed, area-fixed, links-told, gets-chain, chain-shown}
+use Rattle.agreement.proofs.Fixed.{cards-fixed, area-fixed, list-fixed, links-told, gets-chain, chain-shown}
 
 -- ---- the samples, by computation
 
@@ -87,6 +92,16 @@ cards-clearThenNeed = refl
 cards-oneSet : engine .cards oneSet (zeros 13) ≡ returned 1 (0x101 ∷ 0 ∷ 0 ∷ 1 ∷ 0 ∷ 1 ∷ 0 ∷ 1 ∷ 1 ∷ 0 ∷ 0 ∷ 0 ∷ 0 ∷ [])
 unfolding checked scan total opened lastOf setsOf inColumn bit libraryOf has possible cards card
 cards-oneSet = refl
+
+-- the empty list without a sequence
+no-list : engine .list 3 0 [] [] [] ≡ returned 0 (3 ∷ 0 ∷ 0 ∷ 0 ∷ 0 ∷ 0 ∷ 0 ∷ 0 ∷ 0 ∷ 7 ∷ 7 ∷ 0 ∷ 7 ∷ [])
+unfolding listCard some
+no-list = refl
+
+-- sequences 1 and 0 of L
+list-L : listOver engine L (zeros 39) (1 ∷ 0 ∷ []) [] ≡ returned 0 card1
+unfolding checked scan total opened lastOf setsOf inColumn bit libraryOf has possible cards card listCard some
+list-L = refl
 
 chain-selfCall : chained selfCall 0 2 0 (length (zeros 2)) ≡ answered (shown (untouchedLink 0 1 ∷ []))
 unfolding chained checked scan total opened lastOf setsOf inColumn bit libraryOf has possible
@@ -146,6 +161,21 @@ pub refuses-all-cards : (e : Engine) → RefusesAllCards e → ¬ Demand1 e
 refuses-all-cards e wrong d =
     let right : e .cards L (zeros 39) .number ≡ 3 = ap (λ (r : Returned). r .number) (only-engine e d .cards L (zeros 39) ∙ cards-L) in
     let high = wrong L (zeros 39) in
+    omega arith
+
+pub refuses-all-lists : (e : Engine) → RefusesAllLists e → ¬ Demand1 e
+refuses-all-lists e wrong d =
+    let none : List ℕ = [] in
+    let right = ap (λ (r : Returned). r .number) (only-engine e d .list 3 0 none none none ∙ no-list) in
+    let high = wrong 3 0 none none none in
+    omega arith
+
+pub unwritten-lists : (e : Engine) → UnwrittenLists e → ¬ Demand1 e
+unwritten-lists e wrong d =
+    let none : List ℕ = [] in
+    let word : _≡_ {A = ℕ} 0 3 =
+    ap (λ (a : List ℕ). getD a 0 0)
+    (sym (wrong 3 0 none none none) ∙ ap (λ (r : Returned). r .area) (only-engine e d .list 3 0 none none none ∙ no-list)) in
     omega arith
 
 -- by demand 1 a question that gets a chain gets its links
@@ -237,6 +267,18 @@ blank-stands e wrong d =
 -- "an invented .. fact count"
 pub invented-count : (e : Engine) → InventedCount e → ¬ Demand2 e
 invented-count e wrong d = wrong .invented (d .card (wrong .image) (wrong .area) (wrong .ready) (wrong .sequence) (wrong .low) .flags .count)
+
+-- the last member's card for the list's: sequence 1 of L, and then sequence 0
+pub last-member : (e : Engine) → LastMember e → Demand2 e → ¬ Lists e
+last-member e wrong d lists =
+    let size = counted L _ accepted-L .sequences in
+    let asked : Listed L (zeros 39) (1 ∷ 0 ∷ []) = record { ready = ready-L; short = omega arith; below = (omega arith, (omega arith, tt)) } in
+    let fixed = list-fixed e lists L (zeros 39) (1 ∷ 0 ∷ []) [] asked 0 (omega arith) in
+    let right : getD (listOver engine L (zeros 39) (1 ∷ 0 ∷ []) [] .area) 0 0 ≡ 0x201 = ap (λ (r : Returned). getD (r .area) 0 0) list-L in
+    let same = wrong L (zeros 39) [] 1 0 asked 0 (omega arith) in
+    let first = cards-fixed e d L (zeros 39) ready-L 0 0 (omega arith) (omega arith) in
+    let one : partWord (engine .cards L (zeros 39) .area) 0 0 ≡ 0x103 = ap (λ (r : Returned). partWord (r .area) 0 0) cards-L in
+    omega arith
 
 -- ---- demand 3
 
@@ -416,6 +458,15 @@ invented-links-goes =
       returns = same-link-goes (touchLink 0 0 0) (omega arith, omega arith, omega arith) selfCall 0 2 0 (zeros 2) (untouchedLink 0 1 ∷ []) gets-selfCall;
       invented = touch-unasked (libraryOf selfCall) 0 0 0 0 0 set;
     }
+
+pub no-list-goes : RefusesAllLists noList
+no-list-goes facts sequences cards list card = omega arith
+
+pub lazy-lists-goes : UnwrittenLists lazyLists
+lazy-lists-goes facts sequences cards list card = refl
+
+pub last-member-goes : LastMember secondCard
+last-member-goes image area before m n asked k u = getD-listBelow (partWord (engine .cards image area .area) n) cardWords k 0 u
 
 pub refuses-goes : RefusesAll noImage
 refuses-goes image = omega arith
