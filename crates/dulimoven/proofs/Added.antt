@@ -3,9 +3,9 @@
 use Prim.Native.Nat.{ℕ, _*_, _≤_, _<_}
 use native.Mathlib.Omega.{arith}
 use mathlib.Core.Path.{_≡_, refl, sym, ap, ap₂, _∙_}
-use mathlib.Core.List.{List, [], _∷_, _++_}
-use lib.ListN.{length, getD, drop}
-use Rattle.library.specs.Library.{Library, libraryOf}
+use mathlib.Core.List.{List, [], _∷_, _++_, map}
+use lib.ListN.{length, getD, drop, length-append}
+use Rattle.library.specs.Library.{Library, libraryOf, call}
 use Rattle.library.proofs.Accepted.{counted}
 use Rattle.runs.specs.Added.{withList, addedTo, Whole}
 use Rattle.runs.proofs.Added.{whole-counted}
@@ -15,7 +15,7 @@ use Rattle.cards.specs.Card.{card, cards, cardWord}
 use Rattle.cards.specs.Composed.{listCard}
 use Rattle.cards.proofs.Meaning.{card-right, runs-right, card-same, runs-same}
 use Rattle.cards.proofs.Area.{length-card, card-words}
-use Rattle.cards.proofs.Added.{list-added, list-one}
+use Rattle.cards.proofs.Added.{list-added, list-one, list-none}
 use Rattle.dulimoven.specs.Returned.{Returned, returned}
 use Rattle.dulimoven.specs.ListCall.{composed}
 use Rattle.dulimoven.specs.Demands.{count, Ready}
@@ -63,6 +63,15 @@ module _ (image area : List ℕ) (ready : Ready image area) where
       ∙ ap (returned 0) (over-cards (m ∷ []) ∙ list-one L m (drop (cardWords * count L) area) whole low few))
       ∙ sym (part-words image area ready m k low u ∙ card-words L m k low u)
 
+-- the card of the added sequence, in an image whose library has it
+added-card : (image area list image′ area′ : List ℕ) → Ready image′ area′ → libraryOf image′ ≡ withList (libraryOf image) list → (k : ℕ) → k < cardWords
+    → cardWord (withList (libraryOf image) list) (addedTo (libraryOf image)) k ≡ partWord (engine .cards image′ area′ .area) (addedTo (libraryOf image)) k
+added-card image area list image′ area′ ready same k u =
+    let C = addedTo (libraryOf image) in
+    let last : C < count (libraryOf image′) =
+    omega (arith, ap (λ (K : Library). length (K .sequences)) same, length-append (libraryOf image .sequences) ((map call list ∷ []) ∷ [])) in
+    sym (part-words image′ area′ ready C k last u ∙ card-words (libraryOf image′) C k last u ∙ ap (λ (K : Library). cardWord K C k) same)
+
 pub lists-met : Lists engine
 lists-met =
     record {
@@ -76,6 +85,11 @@ lists-met =
       runs = λ image area list before asked.
           runs-same (withList (libraryOf image) list) (addedTo (libraryOf image)) _ (λ k u. words image area list before asked k)
           (runs-right (withList (libraryOf image) list) (addedTo (libraryOf image)));
+      added = λ image area list before image′ area′ asked ready same k u.
+          words image area list before asked k ∙ added-card image area list image′ area′ ready same k u;
+      none = λ image area before ready.
+          ap (λ (r : Returned). r .area) (list-composed image area ready [] before (record { ready = ready; short = omega arith; below = tt }))
+          ∙ list-none (libraryOf image .facts) (engine .cards image area .area);
       one = λ image area before m asked. one-card image area (asked .ready) m before asked;
     }
   where

@@ -4,6 +4,7 @@ use mathlib.Core.Path.{_≡_}
 use mathlib.Core.List.{List, [], _∷_}
 use lib.ListN.{length, getD}
 use Rattle.general.specs.Tests.{All}
+use Rattle.column.specs.Column.{allBelow}
 use Rattle.library.specs.Library.{libraryOf}
 use Rattle.runs.specs.Added.{withList, addedTo}
 use Rattle.cards.specs.Layout.{cardWords}
@@ -23,6 +24,10 @@ pub record Listed (image area list : List ℕ) : Type 0 where
 abbrev pub listOver : Engine → List ℕ → List ℕ → List ℕ → List ℕ → Returned
 listOver e image area list before = e .list (libraryOf image .facts) (count (libraryOf image)) (e .cards image area .area) list before
 
+-- the card of the empty run alone
+abbrev pub emptyListCard : ℕ → List ℕ
+emptyListCard facts = 3 ∷ 0 ∷ 0 ∷ 0 ∷ 0 ∷ 0 ∷ 0 ∷ 0 ∷ 0 ∷ allBelow facts ∷ allBelow facts ∷ 0 ∷ allBelow facts ∷ []
+
 pub record Lists (e : Engine) : Type 0 where
   pub number : (image area list before : List ℕ) → Listed image area list → listOver e image area list before .number ≡ 0
   pub long : (image area list before : List ℕ) → Listed image area list → length (listOver e image area list before .area) ≡ cardWords
@@ -33,6 +38,13 @@ pub record Lists (e : Engine) : Type 0 where
   -- and what it says of each run of the list, by demand 3's words
   pub runs : (image area list before : List ℕ) → Listed image area list
       → Runs (withList (libraryOf image) list) (addedTo (libraryOf image)) (λ (k : ℕ). getD (listOver e image area list before .area) k 0)
+  -- so it is the card of that sequence in every image whose library has it
+  pub added : (image area list before image′ area′ : List ℕ) → Listed image area list → Ready image′ area′
+      → libraryOf image′ ≡ withList (libraryOf image) list → (k : ℕ) → k < cardWords
+      → getD (listOver e image area list before .area) k 0 ≡ partWord (e .cards image′ area′ .area) (addedTo (libraryOf image)) k
+  -- "The empty list has just the empty run.": every fact below F is untouched on both sides, and no item mentions it
+  pub none : (image area before : List ℕ) → Ready image area
+      → listOver e image area [] before .area ≡ emptyListCard (libraryOf image .facts)
   -- the list of one member has that member's card
   pub one : (image area before : List ℕ) (m : ℕ) → Listed image area (m ∷ []) → (k : ℕ) → k < cardWords
       → getD (listOver e image area (m ∷ []) before .area) k 0 ≡ partWord (e .cards image area .area) m k
