@@ -18,7 +18,8 @@ use Rattle.runs.specs.Touch.{Mark, present, absent, untouched, otherTouch, last
 use Rattle.runs.specs.View.{View, touches, standing}
 use Rattle.runs.specs.Possible.{columnPossible, possibleIn, brokenIn, hasRun}
 use Rattle.outcome.specs.Area.{outcomeWord, outcomeRows, outcomes}
-use Rattle.cards.specs.Card.{may, always, mayNeed, maySet, mayClear, changeable, flags, card, cardsFrom, cards}
+use Rattle.cards.specs.Layout.{may-need, may-set, may-clear, may-first-set, may-first-untouched, may-last-untouched, may-end-cleared, may-end-unmentioned}
+use Rattle.cards.specs.Card.{some-run, every-run, claimWord, columnWord, changeable, flags, card, cardsFrom, cards}
 use Rattle.row.specs.Words.{rowWords}
 use Rattle.writer.specs.Card.{flagsOf, alwaysOf, rowCard, tableCards}
 
@@ -36,8 +37,10 @@ module _ (L : Library) (low : 1 ≤ L .facts) (high : L .facts ≤ 64) (c : ℕ)
       ∙ ones-column (L .facts) (λ (f : ℕ). columnPossible L 2 c f || columnPossible L 3 c f) in
       omega (arith, lowest 0, lowest 1, count)
 
-  always-word : (v : View) (m : Mark) → alwaysOf (outcomeWord L 0 c) (may L v (otherTouch m) c) (may L v untouched c) ≡ always L v m c
-  unfolding may always outcomeWord
+  always-word : (v : View) (m : Mark)
+      → alwaysOf (outcomeWord L 0 c) (claimWord L (some-run v (otherTouch m)) c) (claimWord L (some-run v untouched) c)
+      ≡ claimWord L (every-run v m) c
+  unfolding claimWord outcomeWord
   always-word v m =
       let rivals = column-or (L .facts) (λ (f : ℕ). possibleIn L v (otherTouch m) c f) (λ (f : ℕ). possibleIn L v untouched c f) in
       ap (difference 64 (outcomeWord L 0 c)) rivals
@@ -48,10 +51,12 @@ module _ (L : Library) (low : 1 ≤ L .facts) (high : L .facts ≤ 64) (c : ℕ)
       (outcomeWord L 0 c ∷ outcomeWord L 1 c ∷ outcomeWord L 2 c ∷ outcomeWord L 3 c ∷ outcomeWord L 4 c ∷ outcomeWord L 5 c
       ∷ outcomeWord L 6 c ∷ outcomeWord L 7 c ∷ outcomeWord L 8 c ∷ outcomeWord L 9 c ∷ [])
       ≡ card L c
-  unfolding rowCard card outcomeWord
+  unfolding rowCard card claimWord outcomeWord
   row-card i =
-      flags-word i ∷ always-word (touches first) present i ∷ mayNeed L c ∷ maySet L c ∷ mayClear L c ∷ always-word (touches last) present i
-      ∷ always-word (touches last) absent i ∷ always-word standing present i ∷ []
+      flags-word i ∷ always-word (touches first) present i ∷ columnWord L may-need c ∷ columnWord L may-set c ∷ columnWord L may-clear c
+      ∷ always-word (touches last) present i ∷ always-word (touches last) absent i ∷ always-word standing present i
+      ∷ columnWord L may-first-set c ∷ columnWord L may-first-untouched c ∷ columnWord L may-last-untouched c ∷ columnWord L may-end-cleared c
+      ∷ columnWord L may-end-unmentioned c ∷ []
 
 module _ (L : Library) (low : 1 ≤ L .facts) (high : L .facts ≤ 64) (rest : List ℕ) where
   rows-cards : (table : List ℕ) (c n : ℕ) → drop (rowWords * c) table ≡ outcomeRows L c n ++ rest → tableCards table c n ≡ cardsFrom L c n

@@ -11,7 +11,7 @@ use borrow.Author.Tests.{lt-ltb, le-ltb}
 use Rattle.general.specs.Tests.{some}
 use Rattle.image.specs.declared.answer.Refusal.the-variants.{CardArea, ListLength, Member}
 use Rattle.cards.specs.Layout.{cardWords}
-use Rattle.list.specs.Composed.{listCard}
+use Rattle.cards.specs.Composed.{listCard}
 use Rattle.list.specs.Answer.{mostList, listed, cardAfter, ListCalled}
 use Rattle.list.specs.declared.answer.Listed.{Listed}
 

@@ -19,7 +19,7 @@ use Rattle.cards.specs.Layout.{may-first-set, may-first-untouched, may-last-unt
 use Rattle.row.specs.Words.{noRow, isSet}
 use Rattle.row.specs.declared.words.Row.{Row}
 use Rattle.writer.specs.Card.{flagsOf, alwaysOf, rowCard}
-use Rattle.list.specs.Composed.{hasRun, listHas, kept, listCount, listFlags, composedCard, blankCard, listCard}
+use Rattle.cards.specs.Composed.{hasRun, listHas, kept, listCount, listFlags, composedCard, blankCard, listCard}
 use Rattle.list.specs.Fold.{rowWritten}
 use Rattle.list.proofs.Words.{listRow, list-bits, set-byte, list-run, list-empty}
 

@@ -1,6 +1,3 @@
-pub mod Rule
-pub mod Empty
-pub mod Rows
 pub mod Words
 pub mod Card
 pub mod Loops

@@ -3,9 +3,8 @@
 use Prim.Native.Nat.{ℕ, zero, suc, _-_, _%_, _≤_, _<_}
 use native.Mathlib.Omega.{arith}
 use mathlib.Core.Path.{_≡_, refl, sym, ap, _∙_, fun-ext, subst}
-use mathlib.Core.Bool.{Bool, _&&_, _||_}
+use mathlib.Core.Bool.{Bool}
 use mathlib.Core.List.{List, [], _∷_}
-use lib.Bits.{bitAnd, bitOr}
 use lib.Dec.{eqb}
 use mir.Val.{boolByte}
 use Rattle.column.specs.Column.{bit, columnWidth}
@@ -19,10 +18,10 @@ use Rattle.runs.specs.Rows.{columnNumber, joinRow}
 use Rattle.runs.proofs.Rows.{by-column}
 use Rattle.row.specs.Words.{rowWords, startRow, allBits, isSet, bitRow}
 use Rattle.row.specs.declared.words.Row.{Row}
-use Rattle.row.proofs.Bits.{or-set, and-set, none-set, start-bits}
-use Rattle.list.specs.Composed.{hasRun, hasEmptyRun}
+use Rattle.row.proofs.Bits.{and-set, none-set, later-set, side-bits, start-bits}
+use Rattle.cards.specs.Composed.{hasRun, hasEmptyRun}
 use Rattle.list.specs.Fold.{memberRow, followedRow, foldedFrom}
-use Rattle.list.proofs.Rows.{joinAll, Joined, joined-rows}
+use Rattle.cards.proofs.Joined.{joinAll, Joined, joined-rows}
 
 -- rows that agree in their ten columns and past them are the same
 same-rows : (X Y : rows.Row) → ((j : ℕ) → j < rowWords → X j ≡ Y j)
@@ -49,19 +48,16 @@ start-row : (f : ℕ) → f < columnWidth → bitRow (startRow allBits) f ≡ ro
 start-row f l = same-rows (bitRow (startRow allBits) f) rows.startRow (start-bits 64 f l) (λ j. none-set f)
 
 -- one list followed by another
-later-set : (a b c f : ℕ) → isSet (bitOr (bitAnd a b) c) f ≡ (isSet a f && isSet b f || isSet c f)
-later-set a b c f = or-set (bitAnd a b) c f ∙ ap (λ (t : Bool). t || isSet c f) (and-set a b f)
-
 followed-row : (x y : Row) (f : ℕ) → bitRow (followedRow x y) f ≡ joinRow (bitRow x f) (bitRow y f)
 followed-row x y f = same-rows (bitRow (followedRow x y) f) (joinRow (bitRow x f) (bitRow y f)) low (λ j. none-set f)
   where
     side : (s : Side) (m : Mark) → bitRow (followedRow x y) f (columnNumber s m) ≡ joinRow (bitRow x f) (bitRow y f) (columnNumber s m)
-    side last present = later-set (x .last .present) (y .last .untouched) (y .last .present) f
-    side last absent = later-set (x .last .absent) (y .last .untouched) (y .last .absent) f
-    side last untouched = and-set (x .last .untouched) (y .last .untouched) f
-    side first present = later-set (y .first .present) (x .first .untouched) (x .first .present) f
-    side first absent = later-set (y .first .absent) (x .first .untouched) (x .first .absent) f
-    side first untouched = and-set (y .first .untouched) (x .first .untouched) f
+    side last present = side-bits x y f last present
+    side last absent = side-bits x y f last absent
+    side last untouched = side-bits x y f last untouched
+    side first present = side-bits x y f first present
+    side first absent = side-bits x y f first absent
+    side first untouched = side-bits x y f first untouched
 
     low : (j : ℕ) → j < rowWords → bitRow (followedRow x y) f j ≡ joinRow (bitRow x f) (bitRow y f) j
     low =

@@ -10,7 +10,7 @@ use Rattle.general.specs.Tests.{some}
 use Rattle.image.specs.Answer.{refusalAnswer}
 use Rattle.image.specs.declared.answer.Refusal.the-variants.{CardArea, ListLength, Member}
 use Rattle.cards.specs.Layout.{cardWords}
-use Rattle.list.specs.Composed.{listCard}
+use Rattle.cards.specs.Composed.{listCard}
 use Rattle.list.specs.declared.answer.Listed.{Listed}
 
 -- "A test is a list of up to 256 sequences"

@@ -1,3 +1,2 @@
-pub mod Composed
 pub mod Answer
 pub mod Fold

@@ -26,7 +26,7 @@ ghost use lib.ListN.{length};
 ghost use Rattle.cards.specs.Layout.{cardWords};
 ghost use Rattle.cards.specs.Area.{partWord};
 ghost use Rattle.row.specs.Words.{startRow, allBits};
-ghost use Rattle.list.specs.Composed.{listCard};
+ghost use Rattle.cards.specs.Composed.{listCard};
 ghost use Rattle.list.specs.Fold.{MembersIn, memberRow, followedRow, foldedFrom, keptMarks, keptRow, rowWritten};
 
 // In the flags, "an empty run exists" is bit 1.

@@ -10,3 +10,4 @@ pub mod Execution
 pub mod Published
 pub mod Clears
 pub mod Standing
+pub mod Added

@@ -39,7 +39,7 @@ by-column P run empty side cleared unmentioned =
     below-more P 9 (below-more P 8 firsts cleared) unmentioned
 
 -- a side's column
-side-column : (s : Side) (m : Mark) → columnOf (columnNumber s m) ≡ questionColumn (record { side = s; mark = m })
+pub side-column : (s : Side) (m : Mark) → columnOf (columnNumber s m) ≡ questionColumn (record { side = s; mark = m })
 side-column last present = refl
 side-column last absent = refl
 side-column last untouched = refl

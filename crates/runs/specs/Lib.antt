@@ -12,3 +12,4 @@ pub mod Table
 pub mod Reading
 pub mod Rows
 pub mod Published
+pub mod Added

@@ -10,7 +10,7 @@ use Rattle.general.specs.Scan.{every}
 use Rattle.library.specs.Library.{Library, call}
 use Rattle.runs.specs.Touch.{present, absent, untouched, last, first}
 use Rattle.runs.specs.Rows.{Row, columnNumber, clearedColumn, unmentionedColumn, joinRow, startRow, foldRow}
-use Rattle.list.specs.Composed.{oneThenAll, allThenOne}
+use Rattle.cards.specs.Composed.{oneThenAll, allThenOne}
 
 -- the row after the members, where that of what stands before them is X
 unfoldable pub joinAll : (ℕ → Row) → Row → List ℕ → Row

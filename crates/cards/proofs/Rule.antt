@@ -1,14 +1,16 @@
 -- The two rules over the members of a list are what their sentences say: a member with the bit, and the other bit in every later, or every
--- earlier, member.
+-- earlier, member. And tests that agree of every member give the same.
+-- It has: `one-then-all`, `all-then-one`; `every-same`, `one-then-same`, `all-then-same`.
 -- Assumes nothing.
 use Prim.Native.Nat.{ℕ}
-use mathlib.Core.Path.{_≡_, refl, ap, _∙_}
+use mathlib.Core.Path.{_≡_, refl, ap, ap₂, _∙_}
 use mathlib.Core.Logic.{_↔_, ⊎-elim}
-use mathlib.Core.Bool.{Bool, true, false, _&&_, false≢true}
+use mathlib.Core.Bool.{Bool, true, false, _&&_, _||_, false≢true}
 use mathlib.Core.List.{List, [], _∷_, _++_}
 use Rattle.general.specs.Scan.{every}
+use Rattle.general.specs.Tests.{All}
 use Rattle.general.proofs.Bools.{and-parts, and-both, or-cases, or-left, or-right}
-use Rattle.list.specs.Composed.{oneThenAll, allThenOne}
+use Rattle.cards.specs.Composed.{oneThenAll, allThenOne}
 
 module _ (one rest : ℕ → Bool) where
   -- the list parts at a member that has the bit, and every later member has the other
@@ -88,3 +90,25 @@ module _ (one rest : ℕ → Bool) where
   pub all-then-one : (ms : List ℕ) → (allThenOne one rest ms ≡ true) ↔ EarlierRest ms
   all-then-one ms =
       (earlier-found ms, λ p. ap (allThenOne one rest) (p .parts) ∙ earlier-holds (p .before) (p .after) (p .member) (p .has-it) (p .others))
+
+-- ---- tests that agree
+
+-- two tests agree of every member
+abbrev pub Agree : (ℕ → Bool) → (ℕ → Bool) → List ℕ → Type 0
+Agree p q ms = All (λ (m : ℕ). p m ≡ q m) ms
+
+pub every-same : (p q : ℕ → Bool) (ms : List ℕ) → Agree p q ms → every p ms ≡ every q ms
+unfolding every
+every-same p q [] same = refl
+every-same p q (m ∷ ms) same = ap₂ _&&_ (same .0) (every-same p q ms (same .1))
+
+pub one-then-same : (p q r s : ℕ → Bool) (ms : List ℕ) → Agree p q ms → Agree r s ms → oneThenAll p r ms ≡ oneThenAll q s ms
+unfolding oneThenAll
+one-then-same p q r s [] one rest = refl
+one-then-same p q r s (m ∷ ms) one rest =
+    ap₂ _||_ (ap₂ _&&_ (one .0) (every-same r s ms (rest .1))) (one-then-same p q r s ms (one .1) (rest .1))
+
+pub all-then-same : (p q r s : ℕ → Bool) (ms : List ℕ) → Agree p q ms → Agree r s ms → allThenOne p r ms ≡ allThenOne q s ms
+unfolding allThenOne
+all-then-same p q r s [] one rest = refl
+all-then-same p q r s (m ∷ ms) one rest = ap₂ _||_ (one .0) (ap₂ _&&_ (rest .0) (all-then-same p q r s ms (one .1) (rest .1)))
