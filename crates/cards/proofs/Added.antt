@@ -2,7 +2,7 @@
 -- one alternative names the list" (document 02, request 5).
 -- It has: `card-kept`, that no other card moves; `list-added`; and of the shortest lists `list-one` and `list-none`.
 -- Assumes nothing.
-use Prim.Native.Nat.{ℕ, zero, suc, _+_, _*_, _-_, _^_, _≤_, _<_, min}
+use Prim.Native.Nat.{ℕ, _+_, _*_, _^_, _≤_, _<_}
 use native.Mathlib.Omega.{arith}
 use mathlib.Core.Path.{_≡_, refl, sym, ap, ap₂, _∙_}
 use mathlib.Core.Logic.{⊎-elim}

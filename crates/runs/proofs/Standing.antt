@@ -5,7 +5,7 @@
 -- to the two columns (`cleared-reached`, `unmentioned-reached`), and of one that has nothing else, that reading adds what it can reach
 -- (`cleared-covered`, `unmentioned-covered`).
 use Prim.Native.Nat.{ℕ}
-use mathlib.Core.Path.{_≡_, refl, sym, _∙_, ap, subst}
+use mathlib.Core.Path.{_≡_, refl, ap, subst}
 use mathlib.Core.Logic.{_⊎_, inl, inr, ⊎-elim, _↔_, _≢_}
 use mathlib.Core.Bool.{Bool, true, false, cond, _&&_, _||_, false≢true, true≢false}
 use mathlib.Core.List.{List, [], _∷_}
