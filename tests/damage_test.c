@@ -556,7 +556,19 @@ static void random_members(uint32_t *members, size_t count, uint32_t bound)
 static uint64_t random_facts(void)
 {
     uint32_t form = below(8);
-    return form < 6 ? below(MOST_F + 2) : form == 6 ? random_bits() : 0;
+    return form < 6    ? below(MOST_F + 2)
+           : form == 6 ? UINT64_C(1) << below(64)
+                       : random_bits();
+}
+
+/* Numbers of sequences that no area has room for; 13 times the last ones is a
+ * small number with wrap at 2^64. */
+static uint64_t far_sequences(void)
+{
+    uint32_t form = below(4);
+    return form == 0   ? random_bits()
+           : form == 1 ? UINT64_C(1) << (32 + below(32))
+                       : ~UINT64_C(0) / DULIMOVEN_CARD_WORDS + 1 + below(3);
 }
 
 /* The answers of lists so far: given, 8, 14 and 15. */
@@ -625,7 +637,6 @@ static void lists(void)
         /* most members have a run */
         for (i = 0; i < cards_there; i++)
             words_given[DULIMOVEN_CARD_WORDS * i] |= below(8) != 0;
-        random_members(members, l.list_len, cards_there);
         switch (below(8)) {
         case 0:
             /* a word more or less */
@@ -634,14 +645,19 @@ static void lists(void)
                 l.cards_len = DULIMOVEN_MOST_CARD_WORDS;
             break;
         case 1:
-            /* a sequence more or less, or so many that 13 times it wraps */
+            /* a sequence more or less */
             l.sequences += below(2) == 0 ? 1 : ~UINT64_C(0);
             break;
         case 2:
-            l.sequences = below(2) == 0 ? random_bits()
-                                        : UINT64_C(1) << below(64);
+            l.sequences = far_sequences();
+            break;
+        case 3:
+            /* the most members, one less or one more */
+            if (large)
+                l.list_len = DULIMOVEN_MOST_LIST - 1 + below(3);
             break;
         }
+        random_members(members, l.list_len, cards_there);
         count_answer(list(&l));
     }
 }

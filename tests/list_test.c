@@ -256,6 +256,12 @@ static void refusals(void)
     refuses("15: member 3", 3, 15);
     LIST(4294967295);
     refuses("15: member 4294967295", 3, 15);
+    LIST(256);
+    refuses("15: member 256, whose low eight bits are 0", 3, 15);
+    LIST(65536);
+    refuses("15: member 65536, whose low sixteen bits are 0", 3, 15);
+    LIST(0x80000001);
+    refuses("15: member 1 and the highest bit", 3, 15);
     LIST(0, 1, 3);
     refuses("15: member 3 last", 3, 15);
     LIST(3, 0, 1);
@@ -291,6 +297,33 @@ static void null_pointers(void)
     hold("C = 1 and null pointers",
          dulimoven_list(3, 1, NULL, 0, NULL, 0, found) == REFUSED(8, 0) &&
              memcmp(found, none, sizeof none) == 0);
+}
+
+/*
+ * "C may be any 64-bit number": more sequences than a library can have. Member
+ * 299 has the card of L's sequence 1; 43, which is 299 - 256, has that of 0.
+ */
+static void many_sequences(void)
+{
+    enum { MANY = 300 };
+    static uint64_t many[CARD * MANY];
+    static const uint64_t due[2][CARD] = {{CARD_0}, {CARD_1}};
+    static const uint32_t numbers[2] = {43, 299};
+    uint64_t found[CARD];
+    int i;
+    for (i = 0; i < 2; i++)
+        memcpy(many + CARD * numbers[i], due[i], sizeof due[i]);
+    for (i = 0; i < 2; i++)
+        hold("members of 300 sequences",
+             dulimoven_list(3, MANY, many, COUNT(many), numbers + i, 1,
+                            found) == 0 &&
+                 memcmp(found, due[i], sizeof found) == 0);
+    hold("8: a word less",
+         dulimoven_list(3, MANY, many, COUNT(many) - 1, numbers, 1, found) ==
+             REFUSED(8, 0));
+    hold("15: C is one less",
+         dulimoven_list(3, MANY - 1, many, COUNT(many), numbers, 2, found) ==
+             REFUSED(15, 0));
 }
 
 /*
@@ -500,6 +533,7 @@ int main(void)
     other_facts();
     refusals();
     null_pointers();
+    many_sequences();
     lists_of_clears();
     no_library();
     sides();
