@@ -445,7 +445,7 @@ static void try_list(struct seed *seed)
     answer = dulimoven_list(facts_of(image.words[0]), sequences, cards, last,
                             list, count, cards + last);
     if (answer != 0)
-        differs("the list call refuses");
+        differs("the list call answers another number");
     for (i = 0; i < last + DULIMOVEN_CARD_WORDS; i++)
         if (cards[i] != with_list[i])
             word_differs(i, cards[i], with_list[i],
