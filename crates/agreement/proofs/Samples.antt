@@ -6,7 +6,7 @@ use mathlib.Core.Path.{_≡_, refl, sym, _∙_, ap}
 use mathlib.Core.Bool.{Bool, true, false, _&&_, _||_, false≢true}
 use mathlib.Core.List.{List, [], _∷_}
 use borrow.Author.Tests.{ne-eqb}
-use Rattle.general.specs.Tests.{All}
+use Rattle.general.specs.Tests.{some, All}
 use Rattle.column.specs.Column.{bit}
 use Rattle.column.specs.Sets.{inColumn}
 use Rattle.rules.specs.Checked.{scan, checked}
@@ -17,6 +17,7 @@ use Rattle.runs.specs.Run.{Run, Gives, nothing, by-item, by-call, alternativeOf
 use Rattle.runs.specs.Execution.{Fact, State, Executes, end}
 use Rattle.runs.specs.Possible.{possible}
 use Rattle.cards.specs.Card.{card, cards}
+use Rattle.cards.specs.Composed.{listCard}
 use Rattle.chains.specs.Link.{chainWords}
 use Rattle.chains.specs.Call.{chained}
 use Rattle.text.specs.Words.{wordsOf}
@@ -128,6 +129,6 @@ check-fails = (check-run, λ executing. false≢true (executing .0 0 refl .1))
 -- ---- the one fact
 
 pub starred-hold : All Holds starred
-unfolding checked scan total opened lastOf setsOf inColumn bit libraryOf has possible cards card chained chainWords printed wordsOf cardLines linesFrom cardLine spaced numeral numeralIn refusalLine
+unfolding checked scan total opened lastOf setsOf inColumn bit libraryOf has possible cards card chained chainWords printed wordsOf cardLines linesFrom cardLine spaced numeral numeralIn refusalLine listCard some
 starred-hold =
-    (refl, (refl, (refl, (refl, (refl, (refl, (refl, (refl, (both-steps, (second-fails, (second-executes, (refl, (refl, (refl, (refl, (refl, (refl, (refl, (clear-executes, (refl, (need-fails, (refl, (refl, (refl, (refl, (refl, (refl, (refl, (check-executes, (check-fails, (refl, (refl, tt))))))))))))))))))))))))))))))))
+    (refl, (refl, (refl, (refl, (refl, (refl, (refl, (refl, (both-steps, (second-fails, (second-executes, (refl, (refl, (refl, (refl, (refl, (refl, (refl, (clear-executes, (refl, (need-fails, (refl, (refl, (refl, (refl, (refl, (refl, (refl, (check-executes, (check-fails, (refl, (refl, (refl, (refl, (refl, (refl, (refl, (refl, (refl, (refl, (refl, (refl, (refl, (refl, (refl, (refl, tt))))))))))))))))))))))))))))))))))))))))))))))

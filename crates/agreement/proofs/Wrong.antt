@@ -10,6 +10,8 @@ use mathlib.Core.Bool.{_||_}
 use mathlib.Core.List.{List, [], _∷_, _++_}
 use lib.ListN.{length, getD, drop, replicate}
 use lib.ListN as list
+use Rattle.general.specs.Tests.{some}
+use Rattle.general.proofs.Scan.{getD-listBelow}
 use Rattle.column.specs.Column.{bit}
 use Rattle.column.specs.Sets.{inColumn, countBelow}
 use Rattle.column.proofs.Bits.{bit-zero, bit-none}
@@ -25,23 +27,26 @@ use Rattle.runs.proofs.Outcome.{present≢untouched}
 use Rattle.cards.specs.Area.{partWord}
 use Rattle.cards.specs.Layout.{CardColumn, always-stands, place, cardWords}
 use Rattle.cards.specs.Card.{card, cards}
+use Rattle.cards.specs.Composed.{listCard}
 use Rattle.cards.specs.Meaning.{Always, needed, set, cleared, columnOf}
 use Rattle.runs.specs.Touch.{questionOf}
 use Rattle.chains.specs.Link.{Link, touchLink, untouchedLink, Chain, chainWords, Fits}
 use Rattle.chains.proofs.Fits.{accepted-fits}
 use Rattle.chains.specs.Answer.{shown}
 use Rattle.chains.specs.Call.{answered, chained}
-use Rattle.agreement.specs.Samples.{L, selfCall, clearThenNeed}
+use Rattle.agreement.specs.Samples.{L, selfCall, clearThenNeed, blank, card1}
 use Rattle.dulimoven.specs.Returned.{Returned, returned}
 use Rattle.dulimoven.specs.ChainCall.{Asked, Answers, Links, ChainReturn}
 use Rattle.dulimoven.specs.ChainCall as chain
 use Rattle.dulimoven.specs.Demands.{Engine, count, Ready, Demand1, Demand2, Proves, Demand3}
+use Rattle.dulimoven.specs.Added.{Listed, listOver, Lists}
 use Rattle.dulimoven.specs.Engine.{engine}
 use Rattle.agreement.specs.Wrong.{Gets, Unwritten, LongerChain, BlankColumn, OneCard, Untouched, NoneAtOnce, AlwaysTwelve, SameLink, InventedLinks, InventedCount, RefusesAll, RefusesAllCards, RefusesAllChains}
+use Rattle.agreement.specs.Wrong.{RefusesAllLists, UnwrittenLists, LastMember, noList, lazyLists, secondCard}
 use Rattle.agreement.specs.Wrong.{blankCards, flaglessCards, lazyCards, fixedChain, unwritten, fixedLinks, noImage}
 use Rattle.dulimoven.proofs.ChainCall.{chain-only}
 use Rattle.dulimoven.proofs.Demands.{only-engine, runs}
-use Rattle.agreement.proofs.Fixed.{cards-fixed, area-fixed, links-told, gets-chain, chain-shown}
+use Rattle.agreement.proofs.Fixed.{cards-fixed, area-fixed, list-fixed, links-told, gets-chain, chain-shown}
 
 -- ---- the samples, by computation
 
@@ -74,19 +79,29 @@ accepted-oneSet : checked oneSet ≡ Checked.Accepted (record { facts = 1; steps
 unfolding checked scan total opened lastOf setsOf inColumn bit
 accepted-oneSet = refl
 
-cards-L : engine .cards L (zeros 24)
+cards-L : engine .cards L (zeros 39)
     ≡ returned 3
-    (0x103 ∷ 0 ∷ 0 ∷ 1 ∷ 0 ∷ 0 ∷ 0 ∷ 0 ∷ 0x201 ∷ 0 ∷ 1 ∷ 3 ∷ 0 ∷ 2 ∷ 0 ∷ 3 ∷ 0 ∷ 0 ∷ 0 ∷ 0 ∷ 0 ∷ 0 ∷ 0 ∷ 0 ∷ [])
+    (0x103 ∷ 0 ∷ 0 ∷ 1 ∷ 0 ∷ 0 ∷ 0 ∷ 0 ∷ 1 ∷ 7 ∷ 7 ∷ 0 ∷ 7 ∷ 0x201 ∷ 0 ∷ 1 ∷ 3 ∷ 0 ∷ 2 ∷ 0 ∷ 3 ∷ 3 ∷ 4 ∷ 5 ∷ 0 ∷ 4 ∷ blank)
 unfolding checked scan total opened lastOf setsOf inColumn bit libraryOf has possible cards card
 cards-L = refl
 
-cards-clearThenNeed : engine .cards clearThenNeed (zeros 8) ≡ returned 1 (0x101 ∷ 1 ∷ 1 ∷ 0 ∷ 1 ∷ 0 ∷ 1 ∷ 1 ∷ [])
+cards-clearThenNeed : engine .cards clearThenNeed (zeros 13) ≡ returned 1 (0x101 ∷ 1 ∷ 1 ∷ 0 ∷ 1 ∷ 0 ∷ 1 ∷ 1 ∷ 0 ∷ 0 ∷ 0 ∷ 0 ∷ 0 ∷ [])
 unfolding checked scan total opened lastOf setsOf inColumn bit libraryOf has possible cards card
 cards-clearThenNeed = refl
 
-cards-oneSet : engine .cards oneSet (zeros 8) ≡ returned 1 (0x101 ∷ 0 ∷ 0 ∷ 1 ∷ 0 ∷ 1 ∷ 0 ∷ 1 ∷ [])
+cards-oneSet : engine .cards oneSet (zeros 13) ≡ returned 1 (0x101 ∷ 0 ∷ 0 ∷ 1 ∷ 0 ∷ 1 ∷ 0 ∷ 1 ∷ 1 ∷ 0 ∷ 0 ∷ 0 ∷ 0 ∷ [])
 unfolding checked scan total opened lastOf setsOf inColumn bit libraryOf has possible cards card
 cards-oneSet = refl
+
+-- the empty list without a sequence
+no-list : engine .list 3 0 [] [] [] ≡ returned 0 (3 ∷ 0 ∷ 0 ∷ 0 ∷ 0 ∷ 0 ∷ 0 ∷ 0 ∷ 0 ∷ 7 ∷ 7 ∷ 0 ∷ 7 ∷ [])
+unfolding listCard some
+no-list = refl
+
+-- sequences 1 and 0 of L
+list-L : listOver engine L (zeros 39) (1 ∷ 0 ∷ []) [] ≡ returned 0 card1
+unfolding checked scan total opened lastOf setsOf inColumn bit libraryOf has possible cards card listCard some
+list-L = refl
 
 chain-selfCall : chained selfCall 0 2 0 (length (zeros 2)) ≡ answered (shown (untouchedLink 0 1 ∷ []))
 unfolding chained checked scan total opened lastOf setsOf inColumn bit libraryOf has possible
@@ -105,19 +120,19 @@ chain-detour : chained detour 0 0 0 (length (zeros 4)) ≡ answered (shown (touc
 unfolding chained checked scan total opened lastOf setsOf inColumn bit libraryOf has possible
 chain-detour = refl
 
-ready-L : Ready L (zeros 24)
+ready-L : Ready L (zeros 39)
 ready-L =
-    let size : length (zeros 24) ≡ 24 = refl in
+    let size : length (zeros 39) ≡ 39 = refl in
     record { head = _; accepted = accepted-L; room = omega (arith, counted L _ accepted-L .sequences) }
 
-ready-clearThenNeed : Ready clearThenNeed (zeros 8)
+ready-clearThenNeed : Ready clearThenNeed (zeros 13)
 ready-clearThenNeed =
-    let size : length (zeros 8) ≡ 8 = refl in
+    let size : length (zeros 13) ≡ 13 = refl in
     record { head = _; accepted = accepted-clearThenNeed; room = omega (arith, counted clearThenNeed _ accepted-clearThenNeed .sequences) }
 
-ready-oneSet : Ready oneSet (zeros 8)
+ready-oneSet : Ready oneSet (zeros 13)
 ready-oneSet =
-    let size : length (zeros 8) ≡ 8 = refl in
+    let size : length (zeros 13) ≡ 13 = refl in
     record { head = _; accepted = accepted-oneSet; room = omega (arith, counted oneSet _ accepted-oneSet .sequences) }
 
 -- the questions of the samples that get a chain
@@ -144,8 +159,23 @@ refuses-all e wrong d =
 
 pub refuses-all-cards : (e : Engine) → RefusesAllCards e → ¬ Demand1 e
 refuses-all-cards e wrong d =
-    let right : e .cards L (zeros 24) .number ≡ 3 = ap (λ (r : Returned). r .number) (only-engine e d .cards L (zeros 24) ∙ cards-L) in
-    let high = wrong L (zeros 24) in
+    let right : e .cards L (zeros 39) .number ≡ 3 = ap (λ (r : Returned). r .number) (only-engine e d .cards L (zeros 39) ∙ cards-L) in
+    let high = wrong L (zeros 39) in
+    omega arith
+
+pub refuses-all-lists : (e : Engine) → RefusesAllLists e → ¬ Demand1 e
+refuses-all-lists e wrong d =
+    let none : List ℕ = [] in
+    let right = ap (λ (r : Returned). r .number) (only-engine e d .list 3 0 none none none ∙ no-list) in
+    let high = wrong 3 0 none none none in
+    omega arith
+
+pub unwritten-lists : (e : Engine) → UnwrittenLists e → ¬ Demand1 e
+unwritten-lists e wrong d =
+    let none : List ℕ = [] in
+    let word : _≡_ {A = ℕ} 0 3 =
+    ap (λ (a : List ℕ). getD a 0 0)
+    (sym (wrong 3 0 none none none) ∙ ap (λ (r : Returned). r .area) (only-engine e d .list 3 0 none none none ∙ no-list)) in
     omega arith
 
 -- by demand 1 a question that gets a chain gets its links
@@ -210,18 +240,18 @@ longer-chain e wrong d =
 pub one-card : (e : Engine) → OneCard e → ¬ Demand2 e
 one-card e wrong d =
     let size = counted L _ accepted-L .sequences in
-    let first = cards-fixed e d L (zeros 24) ready-L 0 0 (omega arith) (omega arith) in
-    let third = cards-fixed e d L (zeros 24) ready-L 2 0 (omega arith) (omega arith) in
-    let same = wrong L (zeros 24) ready-L 0 2 0 (omega arith) (omega arith) (omega arith) in
-    let one : partWord (engine .cards L (zeros 24) .area) 0 0 ≡ 0x103 = ap (λ (r : Returned). partWord (r .area) 0 0) cards-L in
-    let none : partWord (engine .cards L (zeros 24) .area) 2 0 ≡ 0 = ap (λ (r : Returned). partWord (r .area) 2 0) cards-L in
+    let first = cards-fixed e d L (zeros 39) ready-L 0 0 (omega arith) (omega arith) in
+    let third = cards-fixed e d L (zeros 39) ready-L 2 0 (omega arith) (omega arith) in
+    let same = wrong L (zeros 39) ready-L 0 2 0 (omega arith) (omega arith) (omega arith) in
+    let one : partWord (engine .cards L (zeros 39) .area) 0 0 ≡ 0x103 = ap (λ (r : Returned). partWord (r .area) 0 0) cards-L in
+    let none : partWord (engine .cards L (zeros 39) .area) 2 0 ≡ 0 = ap (λ (r : Returned). partWord (r .area) 2 0) cards-L in
     omega arith
 
 -- "an untouched area"
 pub untouched : (e : Engine) → Untouched e → ¬ Demand2 e
 untouched e wrong d =
-    let fixed = area-fixed e d L (zeros 24) ready-L in
-    let same = wrong L (zeros 24) ready-L in
+    let fixed = area-fixed e d L (zeros 39) ready-L in
+    let same = wrong L (zeros 39) ready-L in
     let word : _≡_ {A = ℕ} 0 0x103 = ap (λ (a : List ℕ). getD a 0 0) (sym same ∙ fixed ∙ ap (λ (r : Returned). r .area) cards-L) in
     omega arith
 
@@ -229,14 +259,26 @@ untouched e wrong d =
 pub blank-stands : (e : Engine) → BlankColumn always-stands e → ¬ Demand2 e
 blank-stands e wrong d =
     let size = counted L _ accepted-L .sequences in
-    let fixed = cards-fixed e d L (zeros 24) ready-L 1 7 (omega arith) (omega arith) in
-    let blank = wrong L (zeros 24) ready-L 1 (omega arith) in
-    let three : partWord (engine .cards L (zeros 24) .area) 1 7 ≡ 3 = ap (λ (r : Returned). partWord (r .area) 1 7) cards-L in
+    let fixed = cards-fixed e d L (zeros 39) ready-L 1 7 (omega arith) (omega arith) in
+    let blank = wrong L (zeros 39) ready-L 1 (omega arith) in
+    let three : partWord (engine .cards L (zeros 39) .area) 1 7 ≡ 3 = ap (λ (r : Returned). partWord (r .area) 1 7) cards-L in
     omega arith
 
 -- "an invented .. fact count"
 pub invented-count : (e : Engine) → InventedCount e → ¬ Demand2 e
 invented-count e wrong d = wrong .invented (d .card (wrong .image) (wrong .area) (wrong .ready) (wrong .sequence) (wrong .low) .flags .count)
+
+-- the last member's card for the list's: sequence 1 of L, and then sequence 0
+pub last-member : (e : Engine) → LastMember e → Demand2 e → ¬ Lists e
+last-member e wrong d lists =
+    let size = counted L _ accepted-L .sequences in
+    let asked : Listed L (zeros 39) (1 ∷ 0 ∷ []) = record { ready = ready-L; short = omega arith; below = (omega arith, (omega arith, tt)) } in
+    let fixed = list-fixed e lists L (zeros 39) (1 ∷ 0 ∷ []) [] asked 0 (omega arith) in
+    let right : getD (listOver engine L (zeros 39) (1 ∷ 0 ∷ []) [] .area) 0 0 ≡ 0x201 = ap (λ (r : Returned). getD (r .area) 0 0) list-L in
+    let same = wrong L (zeros 39) [] 1 0 asked 0 (omega arith) in
+    let first = cards-fixed e d L (zeros 39) ready-L 0 0 (omega arith) (omega arith) in
+    let one : partWord (engine .cards L (zeros 39) .area) 0 0 ≡ 0x103 = ap (λ (r : Returned). partWord (r .area) 0 0) cards-L in
+    omega arith
 
 -- ---- demand 3
 
@@ -253,17 +295,17 @@ module _ (a : Always) (e : Engine) (wrong : BlankColumn (columnOf a) e) (d : Dem
 pub blank-column : (a : Always) (e : Engine) → BlankColumn (columnOf a) e → ¬ Demand3 e
 blank-column needed e wrong d =
     let size = counted clearThenNeed _ accepted-clearThenNeed in
-    let zero-bit = blank-right needed e wrong d clearThenNeed (zeros 8) ready-clearThenNeed 0 (omega (arith, size .sequences)) 0 (omega (arith, size .facts)) in
+    let zero-bit = blank-right needed e wrong d clearThenNeed (zeros 13) ready-clearThenNeed 0 (omega (arith, size .sequences)) 0 (omega (arith, size .facts)) in
     let one-bit = ap (λ (r : Returned). bit (partWord (r .area) 0 1) 0) cards-clearThenNeed ∙ bit-zero 1 in
     omega arith
 blank-column set e wrong d =
     let size = counted oneSet _ accepted-oneSet in
-    let zero-bit = blank-right set e wrong d oneSet (zeros 8) ready-oneSet 0 (omega (arith, size .sequences)) 0 (omega (arith, size .facts)) in
+    let zero-bit = blank-right set e wrong d oneSet (zeros 13) ready-oneSet 0 (omega (arith, size .sequences)) 0 (omega (arith, size .facts)) in
     let one-bit = ap (λ (r : Returned). bit (partWord (r .area) 0 5) 0) cards-oneSet ∙ bit-zero 1 in
     omega arith
 blank-column cleared e wrong d =
     let size = counted clearThenNeed _ accepted-clearThenNeed in
-    let zero-bit = blank-right cleared e wrong d clearThenNeed (zeros 8) ready-clearThenNeed 0 (omega (arith, size .sequences)) 0 (omega (arith, size .facts)) in
+    let zero-bit = blank-right cleared e wrong d clearThenNeed (zeros 13) ready-clearThenNeed 0 (omega (arith, size .sequences)) 0 (omega (arith, size .facts)) in
     let one-bit = ap (λ (r : Returned). bit (partWord (r .area) 0 6) 0) cards-clearThenNeed ∙ bit-zero 1 in
     omega arith
 
@@ -353,18 +395,18 @@ abbrev counts : Returned → ℕ
 counts r = countBelow (libraryOf L .facts) (λ (f : ℕ). inColumn (flagless r 3) f || inColumn (flagless r 4) f)
 
 -- sequence 0 of L may set one fact
-one-changes : counts (engine .cards L (zeros 24)) ≡ 1
+one-changes : counts (engine .cards L (zeros 39)) ≡ 1
 unfolding countBelow inColumn libraryOf has
 one-changes = ap counts cards-L
 
-no-flags : flagless (engine .cards L (zeros 24)) 0 ≡ 0
+no-flags : flagless (engine .cards L (zeros 39)) 0 ≡ 0
 no-flags = ap (λ (r : Returned). flagless r 0) cards-L
 
 pub invented-count-goes : InventedCount flaglessCards
 invented-count-goes =
     record {
       image = L;
-      area = zeros 24;
+      area = zeros 39;
       ready = ready-L;
       sequence = 0;
       low = omega (arith, counted L _ accepted-L .sequences);
@@ -416,6 +458,15 @@ invented-links-goes =
       returns = same-link-goes (touchLink 0 0 0) (omega arith, omega arith, omega arith) selfCall 0 2 0 (zeros 2) (untouchedLink 0 1 ∷ []) gets-selfCall;
       invented = touch-unasked (libraryOf selfCall) 0 0 0 0 0 set;
     }
+
+pub no-list-goes : RefusesAllLists noList
+no-list-goes facts sequences cards list card = omega arith
+
+pub lazy-lists-goes : UnwrittenLists lazyLists
+lazy-lists-goes facts sequences cards list card = refl
+
+pub last-member-goes : LastMember secondCard
+last-member-goes image area before m n asked k u = getD-listBelow (partWord (engine .cards image area .area) n) cardWords k 0 u
 
 pub refuses-goes : RefusesAll noImage
 refuses-goes image = omega arith

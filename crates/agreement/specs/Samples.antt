@@ -94,6 +94,9 @@ pub data Sample : Type 0 where
   prints : List ℕ → String → Sample
   -- the chain call on a sequence, a question, a fact and an area: the number that it answers, and the area after it
   chains : List ℕ → ℕ → ℕ → ℕ → List ℕ → ℕ → List ℕ → Sample
+  -- the list call on F, C, cards and a list of sequences: the words of the list's card, or the number of the refusal
+  composes : ℕ → ℕ → List (List ℕ) → List ℕ → List ℕ → Sample
+  declines : ℕ → ℕ → List (List ℕ) → List ℕ → ℕ → Sample
   -- a run of a sequence executes where just some facts stand at the start, and just some stand at its end
   executes : List ℕ → ℕ → List Item → List ℕ → List ℕ → Sample
   -- a run of a sequence does not execute where just some facts stand at the start
@@ -107,6 +110,28 @@ joined (l ∷ ls) = l ++ joined ls
 abbrev pub spare : List ℕ
 spare = 7 ∷ 7 ∷ 7 ∷ 7 ∷ 7 ∷ []
 
+-- a card that no list has
+abbrev pub spareCard : List ℕ
+spareCard = replicate cardWords 5
+
+-- the cards of L's sequences with a run
+abbrev pub card0 : List ℕ
+card0 = 0x103 ∷ 0 ∷ 0 ∷ 1 ∷ 0 ∷ 0 ∷ 0 ∷ 0 ∷ 1 ∷ 7 ∷ 7 ∷ 0 ∷ 7 ∷ []
+
+abbrev pub card1 : List ℕ
+card1 = 0x201 ∷ 0 ∷ 1 ∷ 3 ∷ 0 ∷ 2 ∷ 0 ∷ 3 ∷ 3 ∷ 4 ∷ 5 ∷ 0 ∷ 4 ∷ []
+
+-- the card of a sequence without a run
+abbrev pub blank : List ℕ
+blank = 0 ∷ 0 ∷ 0 ∷ 0 ∷ 0 ∷ 0 ∷ 0 ∷ 0 ∷ 0 ∷ 0 ∷ 0 ∷ 0 ∷ 0 ∷ []
+
+abbrev pub cardsL : List (List ℕ)
+cardsL = card0 ∷ card1 ∷ blank ∷ []
+
+-- those of `skips`
+abbrev pub cardsSkips : List (List ℕ)
+cardsSkips = (3 ∷ 1 ∷ 1 ∷ 0 ∷ 0 ∷ 0 ∷ 0 ∷ 1 ∷ 0 ∷ 0 ∷ 1 ∷ 0 ∷ 0 ∷ []) ∷ (0x101 ∷ 1 ∷ 1 ∷ 0 ∷ 1 ∷ 0 ∷ 1 ∷ 0 ∷ 0 ∷ 0 ∷ 0 ∷ 1 ∷ 0 ∷ []) ∷ []
+
 -- "N × 2^32 + P for refusal N at position P, otherwise the head's payload from the check, C from the cards, the number of links from the
 -- chain, 0 there for "none""; F in bits 0 to 6, A in bits 7 to 17, C in bits 18 to 26
 abbrev pub Holds : Sample → Type 0
@@ -115,6 +140,8 @@ Holds (refuses image n p) = engine .check image ≡ n * 2 ^ 32 + p
 Holds (fills image lines) = engine .cards image (replicate (cardWords * length lines) 0) ≡ returned (length lines) (joined lines)
 Holds (prints image text) = printed (bytesOf image) ≡ codes text
 Holds (chains image c q f before n after) = engine .chain image c q f before ≡ returned n after
+Holds (composes f c cards list card) = engine .list f c (joined cards) list spareCard ≡ returned 0 card
+Holds (declines f c cards list n) = engine .list f c (joined cards) list spareCard ≡ returned (n * 2 ^ 32) spareCard
 Holds (executes image c w start after) =
     Run (libraryOf image) c w
     × Executes (libraryOf image) w (standing (libraryOf image) start)
@@ -125,10 +152,10 @@ abbrev pub starred : List Sample
 starred =
     -- L is read: F = A = C = 3
     accepts L 3 3 3
-    -- "L prints, whole"; document 02, request 4: "L's lines now end in 0, 3 and 0."
-    ∷ fills L
-    ((0x103 ∷ 0 ∷ 0 ∷ 1 ∷ 0 ∷ 0 ∷ 0 ∷ 0 ∷ []) ∷ (0x201 ∷ 0 ∷ 1 ∷ 3 ∷ 0 ∷ 2 ∷ 0 ∷ 3 ∷ []) ∷ (0 ∷ 0 ∷ 0 ∷ 0 ∷ 0 ∷ 0 ∷ 0 ∷ 0 ∷ []) ∷ [])
-    ∷ prints L "0 103 0 0 1 0 0 0 0\n1 201 0 1 3 0 2 0 3\n2 0 0 0 0 0 0 0 0\n"
+    -- "L prints, whole"; document 02, request 4: "L's lines now end in 0, 3 and 0."; request 5: "L's lines go on with 1 7 7 0 7, 3 4 5 0 4 and
+    -- five zeros."
+    ∷ fills L cardsL
+    ∷ prints L "0 103 0 0 1 0 0 0 0 1 7 7 0 7\n1 201 0 1 3 0 2 0 3 3 4 5 0 4\n2 0 0 0 0 0 0 0 0 0 0 0 0 0\n"
     -- "L, sequence 1, question 2, fact 0: 1 link, a0000001 c0000000."
     ∷ chains L 1 2 0 spare 1 (0xa0000001 ∷ 0xc0000000 ∷ 7 ∷ 7 ∷ 7 ∷ [])
     -- "The same, question 0: 2 links, a0000001 b0000000 a0000000 b0000000; an area of 3 words gets 12."
@@ -148,16 +175,18 @@ starred =
     ∷ prints bare ""
     -- "10000000 f0000001 gets 3"
     ∷ refuses (0x10000000 ∷ 0xf0000001 ∷ []) 3 0
-    -- "Alternatives <itself> and <>: flags 3; question 2 names alternative 1."
-    ∷ fills selfCall ((3 ∷ 0 ∷ 0 ∷ 0 ∷ 0 ∷ 0 ∷ 0 ∷ 0 ∷ []) ∷ [])
+    -- "Alternatives <itself> and <>: flags 3; question 2 names alternative 1." The empty run leaves the fact untouched on both sides, and has
+    -- no item
+    ∷ fills selfCall ((3 ∷ 0 ∷ 0 ∷ 0 ∷ 0 ∷ 0 ∷ 0 ∷ 0 ∷ 0 ∷ 1 ∷ 1 ∷ 0 ∷ 1 ∷ []) ∷ [])
     ∷ chains selfCall 0 2 0 spare 1 (0xa0000100 ∷ 0xc0000000 ∷ 7 ∷ 7 ∷ 7 ∷ [])
-    -- "Alternatives <set f, L's kind of endless sequence> and <clear f>: always cleared." It may clear f, so one fact is changeable
-    ∷ fills endlessFirst ((0x101 ∷ 0 ∷ 0 ∷ 0 ∷ 1 ∷ 0 ∷ 1 ∷ 0 ∷ []) ∷ (0 ∷ 0 ∷ 0 ∷ 0 ∷ 0 ∷ 0 ∷ 0 ∷ 0 ∷ []) ∷ [])
+    -- "Alternatives <set f, L's kind of endless sequence> and <clear f>: always cleared." It may clear f, so one fact is changeable.
+    -- On the first side a clear is no touch; the last item that mentions f clears it
+    ∷ fills endlessFirst ((0x101 ∷ 0 ∷ 0 ∷ 0 ∷ 1 ∷ 0 ∷ 1 ∷ 0 ∷ 0 ∷ 1 ∷ 0 ∷ 1 ∷ 0 ∷ []) ∷ blank ∷ [])
     -- the step that clears f takes it away
     ∷ executes endlessFirst 0 (step 1 ∷ []) (0 ∷ []) []
     -- "Alternative <clear f, need f>: always needed, though no run executes." It may need f, and always clears it. The last item that mentions f
     -- needs it, so it always stands. That no run executes from any state is `never-executes` (proofs/Samples)
-    ∷ fills clearThenNeed ((0x101 ∷ 1 ∷ 1 ∷ 0 ∷ 1 ∷ 0 ∷ 1 ∷ 1 ∷ []) ∷ [])
+    ∷ fills clearThenNeed ((0x101 ∷ 1 ∷ 1 ∷ 0 ∷ 1 ∷ 0 ∷ 1 ∷ 1 ∷ 0 ∷ 0 ∷ 0 ∷ 0 ∷ 0 ∷ []) ∷ [])
     ∷ fails clearThenNeed 0 (step 0 ∷ step 1 ∷ []) (0 ∷ [])
     -- "One step sets and clears f": document 02, request 1, "The sample with that step becomes a refused one", "at the clear word"
     ∷ refuses pulse 13 3
@@ -170,8 +199,9 @@ starred =
     ∷ chains L 0 2 1 spare 1 (0xa0000100 ∷ 0xc0000000 ∷ 7 ∷ 7 ∷ 7 ∷ [])
     -- document 02, request 4. Sequence 0 of `skips` has one run, a check: "a run without steps is still called empty" (flags 3), "On the first side
     -- a check counts as a need" (always and may need), it "changes nothing", and leaves the fact standing. Sequence 1 needs it first by that check
-    -- and clears it last: "A step that needs and clears counts as clearing."
-    ∷ fills skips ((3 ∷ 1 ∷ 1 ∷ 0 ∷ 0 ∷ 0 ∷ 0 ∷ 1 ∷ []) ∷ (0x101 ∷ 1 ∷ 1 ∷ 0 ∷ 1 ∷ 0 ∷ 1 ∷ 0 ∷ []) ∷ [])
+    -- and clears it last: "A step that needs and clears counts as clearing." Of the five columns of request 5
+    -- the check leaves the fact untouched on the last side, and sequence 1's last item that mentions it clears it
+    ∷ fills skips cardsSkips
     -- "a chain may end on one": the step at position 1 comes after the check
     ∷ chains skips 1 3 0 spare 2 (0xa0000001 ∷ 0xb0000000 ∷ 0xa0000000 ∷ 0xb0000000 ∷ 7 ∷ [])
     -- on the last side a check touches nothing
@@ -182,4 +212,28 @@ starred =
     -- "its payload is below F under 5": F = 2, the check names fact 2; and a check right after a sequence's opener, where no entry stands
     ∷ refuses (0x10040002 ∷ 0x60000000 ∷ 0x70000000 ∷ 0xd0000002 ∷ 0xf004000f ∷ []) 5 3
     ∷ refuses (0x10040002 ∷ 0x60000000 ∷ 0xd0000000 ∷ 0xf0040006 ∷ []) 4 2
+    -- document 02, request 5, over L's cards: "The empty list has just the empty run."
+    ∷ composes 3 3 cardsL [] (3 ∷ 0 ∷ 0 ∷ 0 ∷ 0 ∷ 0 ∷ 0 ∷ 0 ∷ 0 ∷ 7 ∷ 7 ∷ 0 ∷ 7 ∷ [])
+    -- sequence 0 can be empty, and what it may set sequence 1 may set: with it before or after sequence 1 the card is that of sequence 1
+    ∷ composes 3 3 cardsL (0 ∷ 1 ∷ []) card1
+    ∷ composes 3 3 cardsL (1 ∷ 0 ∷ []) card1
+    -- "blank unless every member has a run"
+    ∷ composes 3 3 cardsL (0 ∷ 2 ∷ []) blank
+    -- "drops bits from F upward": of two facts, and of none, where the flags are still those of the rule
+    ∷ composes 2 3 cardsL (0 ∷ 1 ∷ []) (0x201 ∷ 0 ∷ 1 ∷ 3 ∷ 0 ∷ 2 ∷ 0 ∷ 3 ∷ 3 ∷ 0 ∷ 1 ∷ 0 ∷ 0 ∷ [])
+    ∷ composes 0 3 cardsL (0 ∷ 1 ∷ []) (1 ∷ 0 ∷ 0 ∷ 0 ∷ 0 ∷ 0 ∷ 0 ∷ 0 ∷ 0 ∷ 0 ∷ 0 ∷ 0 ∷ 0 ∷ [])
+    -- the order counts: <check 0> and then the step that needs and clears fact 0 is the card of sequence 1 of `skips`; with the check last the
+    -- last item that mentions the fact does not clear it, though it was cleared
+    ∷ composes 1 2 cardsSkips (0 ∷ 1 ∷ []) (0x101 ∷ 1 ∷ 1 ∷ 0 ∷ 1 ∷ 0 ∷ 1 ∷ 0 ∷ 0 ∷ 0 ∷ 0 ∷ 1 ∷ 0 ∷ [])
+    ∷ composes 1 2 cardsSkips (1 ∷ 0 ∷ []) (0x101 ∷ 1 ∷ 1 ∷ 0 ∷ 1 ∷ 0 ∷ 1 ∷ 1 ∷ 0 ∷ 0 ∷ 0 ∷ 0 ∷ 0 ∷ [])
+    -- an area that no library fills: a run, and nothing that it may do; "an "always" bit, below F only, where no rival outcome holds"
+    ∷ composes 3 1 ((1 ∷ 0 ∷ 0 ∷ 0 ∷ 0 ∷ 0 ∷ 0 ∷ 0 ∷ 0 ∷ 0 ∷ 0 ∷ 0 ∷ 0 ∷ []) ∷ []) (0 ∷ [])
+    (1 ∷ 7 ∷ 0 ∷ 0 ∷ 0 ∷ 7 ∷ 7 ∷ 7 ∷ 0 ∷ 0 ∷ 0 ∷ 0 ∷ 0 ∷ [])
+    -- "of the earlier ones only 8; 14 for a list of more than 256, after 8; then 15 for a member not below C": two cards are too few for C = 3,
+    -- also where the list is too long; a list of 257; one of 256 is answered; sequence 3
+    ∷ declines 3 3 (card0 ∷ card1 ∷ []) (0 ∷ []) 8
+    ∷ declines 3 3 (card0 ∷ card1 ∷ []) (replicate 257 0) 8
+    ∷ declines 3 3 cardsL (replicate 257 3) 14
+    ∷ composes 3 3 cardsL (replicate 256 0) card0
+    ∷ declines 3 3 cardsL (0 ∷ 3 ∷ []) 15
     ∷ []

@@ -1,14 +1,15 @@
 -- The wrong engines that "Agreement" of document 01 lists, each by what is wrong with it: "These must be unprovable". Each is wrong in that
 -- one way, and nothing is said of what else it does. "Always stands" of document 02, request 4, counts among the columns. Two more are wrong about
--- chains: one that never writes them for a question, and one with
--- a link more than the fewest.
+-- chains: one that never writes them for a question, and one with a link more than the fewest. Three are wrong about lists (request 5): one
+-- refuses all, one writes no card, and one takes the last member's card for the list's.
 use Prim.Native.Nat.{ℕ, _*_, _/_, _^_, _≤_, _<_}
 use mathlib.Core.Path.{_≡_}
 use mathlib.Core.Logic.{_≢_}
 use mathlib.Core.Bool.{cond, _||_}
 use mathlib.Core.List.{List, [], _∷_, _++_}
 use lib.Dec.{eqb}
-use lib.ListN.{length, drop, replicate, set}
+use lib.ListN.{length, getD, drop, replicate, set}
+use Rattle.general.specs.Scan.{listBelow}
 use Rattle.library.specs.Library.{libraryOf}
 use Rattle.column.specs.Sets.{inColumn, countBelow}
 use Rattle.cards.specs.Layout.{CardColumn, may-set, may-clear, place, cardWords}
@@ -18,6 +19,7 @@ use Rattle.chains.specs.Link.{Link, Chain, chainWords}
 use Rattle.dulimoven.specs.Returned.{Returned, returned}
 use Rattle.dulimoven.specs.ChainCall.{Asked, Answers, Links}
 use Rattle.dulimoven.specs.Demands.{Engine, Refuses, Ready, count, Asks, Proves}
+use Rattle.dulimoven.specs.Added.{Listed, listOver}
 use Rattle.dulimoven.specs.Engine.{engine}
 
 -- a question whose answer is the chain ls, in an area that has room for it
@@ -110,16 +112,32 @@ RefusesAllCards e = (image area : List ℕ) → Refuses (e .cards image area .nu
 abbrev pub RefusesAllChains : Engine → Type 0
 RefusesAllChains e = (image : List ℕ) (c q f : ℕ) (area : List ℕ) → Refuses (e .chain image c q f area .number)
 
+abbrev pub RefusesAllLists : Engine → Type 0
+RefusesAllLists e = (facts sequences : ℕ) (cards list card : List ℕ) → Refuses (e .list facts sequences cards list card .number)
+
+-- no card: the words of every list's card as they were
+abbrev pub UnwrittenLists : Engine → Type 0
+UnwrittenLists e = (facts sequences : ℕ) (cards list card : List ℕ) → e .list facts sequences cards list card .area ≡ card
+
+-- the last member's card for the list's, of two members
+abbrev pub LastMember : Engine → Type 0
+LastMember e =
+    (image area before : List ℕ) (m n : ℕ) → Listed image area (m ∷ n ∷ []) → (k : ℕ) → k < cardWords
+    → getD (listOver e image area (m ∷ n ∷ []) before .area) k 0 ≡ partWord (e .cards image area .area) n k
+
 -- ---- engines that are wrong in these ways: the right engine with another call in the place of one of its own
 
 abbrev pub withCheck : (List ℕ → ℕ) → Engine
-withCheck check = record { check = check; cards = engine .cards; chain = engine .chain }
+withCheck check = record { check = check; cards = engine .cards; chain = engine .chain; list = engine .list }
 
 abbrev pub withCards : (List ℕ → List ℕ → Returned) → Engine
-withCards cards = record { check = engine .check; cards = cards; chain = engine .chain }
+withCards cards = record { check = engine .check; cards = cards; chain = engine .chain; list = engine .list }
 
 abbrev pub withChain : (List ℕ → ℕ → ℕ → ℕ → List ℕ → Returned) → Engine
-withChain chain = record { check = engine .check; cards = engine .cards; chain = chain }
+withChain chain = record { check = engine .check; cards = engine .cards; chain = chain; list = engine .list }
+
+abbrev pub withLists : (ℕ → ℕ → List ℕ → List ℕ → List ℕ → Returned) → Engine
+withLists lists = record { check = engine .check; cards = engine .cards; chain = engine .chain; list = lists }
 
 -- the right number, and an area of which every word is 0
 abbrev pub blankCards : Engine
@@ -146,6 +164,18 @@ unwritten q =
 -- a chain, whatever is asked
 abbrev pub fixedLinks : Chain → Engine
 fixedLinks ls = withChain (λ image c q f area. returned (length ls) (chainWords ls ++ drop (length (chainWords ls)) area))
+
+-- refusal 14, whatever the list
+abbrev pub noList : Engine
+noList = withLists (λ facts sequences cards list card. returned (14 * 2 ^ 32) card)
+
+-- 0 for every list, and the card as it was
+abbrev pub lazyLists : Engine
+lazyLists = withLists (λ facts sequences cards list card. returned 0 card)
+
+-- the card of the second member
+abbrev pub secondCard : Engine
+secondCard = withLists (λ facts sequences cards list card. returned 0 (listBelow (partWord cards (getD list 1 0)) cardWords))
 
 -- refusal 1, whatever the image
 abbrev pub noImage : Engine

@@ -16,7 +16,7 @@ use Rattle.cards.specs.Layout.{cardWords}
 use Rattle.cards.specs.Card.{cards}
 use Rattle.card.specs.declared.answer.Cards.{Cards}
 
--- 8: "The card area has fewer than 7 × C words of 64 bits."; "Refusal 8 asks 8 × C words" (document 02, request 4). It comes after 1 to 7;
+-- 8: "The card area has fewer than 7 × C words of 64 bits."; "8 asks 13 × C" (document 02, request 5). It comes after 1 to 7;
 -- "Otherwise .. the cards [answer] C"
 abbrev pub cardsGiven : Checked → ℕ → Cards
 cardsGiven (Checked.Refused r) room = Cards.Refused r
@@ -27,8 +27,8 @@ cardsGiven (Checked.Accepted h) room =
 abbrev pub cardsOf : List ℕ → List ℕ → Cards
 cardsOf image area = cardsGiven (checked image) (length area)
 
--- "Nothing lent is changed." "Each sequence's words are written into its own part of the card area; words past 7 × C stay.": 8 × C by
--- request 4
+-- "Nothing lent is changed." "Each sequence's words are written into its own part of the card area; words past 7 × C stay.": 13 × C by
+-- request 5
 abbrev pub areaWith : Cards → List ℕ → List ℕ → List ℕ
 areaWith (Cards.Refused r) image area = area
 areaWith (Cards.Filled n) image area = cards (libraryOf image) ++ drop (cardWords * n) area

@@ -1,3 +1,3 @@
-// Sequence cards: eight words a sequence, made of the outcome table.
+// Sequence cards: thirteen words a sequence, made of the outcome table.
 pub mod answer;
 pub mod call;

@@ -15,7 +15,7 @@ use Rattle.cards.specs.Area.{partWord, AllCards}
 use Rattle.cards.proofs.Meaning.{card-right, card-same}
 use Rattle.cards.proofs.Unique.{card-unique}
 
-length-card : (L : Library) (c : ℕ) → length (card L c) ≡ cardWords
+pub length-card : (L : Library) (c : ℕ) → length (card L c) ≡ cardWords
 unfolding card
 length-card L c = refl
 

@@ -1,3 +1,6 @@
 pub mod Meaning
 pub mod Unique
 pub mod Area
+pub mod Rule
+pub mod Joined
+pub mod Added

@@ -9,6 +9,7 @@ use mathlib.Core.Path.{_≡_, refl, sym, ap, ap₂, _∙_}
 use mathlib.Core.Logic.{_↔_, _≢_, ⊎-elim, Iff·trans}
 use mathlib.Core.Bool.{Bool, true, false, not, _&&_, _||_, true≢false}
 use mathlib.Core.List.{List}
+use lib.Dec.{eqb}
 use mir.Val.{boolByte}
 use borrow.Author.Count.{below-none, below-more}
 use Rattle.column.specs.Column.{bit}
@@ -149,6 +150,27 @@ pub flags-count : (L : Library) (c : ℕ) → cardWord L c 0 / 2 ^ 8 ≡ changea
 unfolding card flags
 flags-count L c = omega (arith, byte-bound (hasRun L c), byte-bound (hasEmptyRun L c))
 
+-- the two bits below them
+run-bit : (L : Library) (c : ℕ) → bit (flags L c) 0 ≡ boolByte (hasRun L c)
+unfolding flags
+run-bit L c = bit-zero (flags L c) ∙ omega (arith, byte-bound (hasRun L c), byte-bound (hasEmptyRun L c))
+
+empty-bit : (L : Library) (c : ℕ) → bit (flags L c) 1 ≡ boolByte (hasEmptyRun L c)
+unfolding flags
+empty-bit L c = bit-suc (flags L c) 0 ∙ bit-zero (flags L c / 2) ∙ omega (arith, byte-bound (hasRun L c), byte-bound (hasEmptyRun L c))
+
+byte-test : (b : Bool) → eqb (boolByte b) 1 ≡ b
+byte-test true = refl
+byte-test false = refl
+
+pub run-flag : (L : Library) (c : ℕ) → inColumn (cardWord L c 0) 0 ≡ hasRun L c
+unfolding card inColumn
+run-flag L c = ap (λ (n : ℕ). eqb n 1) (run-bit L c) ∙ byte-test (hasRun L c)
+
+pub empty-flag : (L : Library) (c : ℕ) → inColumn (cardWord L c 0) 1 ≡ hasEmptyRun L c
+unfolding card inColumn
+empty-flag L c = ap (λ (n : ℕ). eqb n 1) (empty-bit L c) ∙ byte-test (hasEmptyRun L c)
+
 flags-right : (L : Library) → L .facts ≤ 64 → (c : ℕ) → Flags L c (cardWord L c)
 unfolding card flags changeable
 flags-right L high c =
@@ -156,9 +178,8 @@ flags-right L high c =
     let empty = hasEmptyRun L c in
     let n = changeable L c in
     let few : n ≤ 64 = omega (arith, count-le (L .facts) (λ (f : ℕ). possibleOutcome L lastSet c f || possibleOutcome L lastCleared c f)) in
-    let low : bit (flags L c) 0 ≡ boolByte run = bit-zero (flags L c) ∙ omega (arith, byte-bound run, byte-bound empty) in
-    let second : bit (flags L c) 1 ≡ boolByte empty =
-    bit-suc (flags L c) 0 ∙ bit-zero (flags L c / 2) ∙ omega (arith, byte-bound run, byte-bound empty) in
+    let low = run-bit L c in
+    let second = empty-bit L c in
     record {
       run = Iff·trans ((λ e. byte-true run .0 (sym low ∙ e)), λ e. low ∙ byte-true run .1 e) (hasRun-iff L c);
       empty-run = Iff·trans ((λ e. byte-true empty .0 (sym second ∙ e)), λ e. second ∙ byte-true empty .1 e) (hasEmptyRun-iff L c);

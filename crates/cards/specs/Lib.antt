@@ -2,3 +2,4 @@ pub mod Card
 pub mod Layout
 pub mod Meaning
 pub mod Area
+pub mod Composed

@@ -1,5 +1,5 @@
 -- Columns: numbers whose bit f says something of fact f.
-use Prim.Native.Nat.{ℕ, zero, suc, _+_, _*_, _/_, _%_, _^_}
+use Prim.Native.Nat.{ℕ, zero, suc, _+_, _-_, _*_, _/_, _%_, _^_, min}
 use mathlib.Core.Bool.{Bool}
 use lib.Bits.{bitOr}
 use mir.Val.{boolByte}
@@ -16,3 +16,11 @@ column (suc n) p = boolByte (p 0) + 2 * column n (λ (k : ℕ). p (suc k))
 -- a column with bit f set too
 abbrev pub withFact : ℕ → ℕ → ℕ
 withFact c f = bitOr c (2 ^ f)
+
+-- how many bits a column has, in a word of 64 bits
+abbrev pub columnWidth : ℕ
+columnWidth = 64
+
+-- all facts below n, or as many as a column has room for
+abbrev pub allBelow : ℕ → ℕ
+allBelow n = 2 ^ min n columnWidth - 1

@@ -3,7 +3,13 @@ pub mod sets;
 
 ghost use mathlib.Core.Path.{_≡_};
 ghost use Prim.Native.Nat.{_<_};
-ghost use Rattle.column.specs.Column.{withFact};
+ghost use Rattle.column.specs.Column.{withFact, allBelow};
+
+// How many bits a column has.
+const WIDTH: u64 = 64;
+
+// A column of which every bit is set.
+const EVERY_BIT: u64 = 0xffffffffffffffff;
 
 // The column with bit `f` set too.
 pub fn with_fact(c: u64, f: u32) -> u64
@@ -11,4 +17,14 @@ pub fn with_fact(c: u64, f: u32) -> u64
     ensures { λ r. ⌜ r ≡ withFact c f ⌝ }
 {
     c | (1u64 << f)
+}
+
+// The column of all facts below `facts`: of every bit where that passes the column's width.
+pub fn all_below(facts: u64) -> u64
+    ensures { λ r. ⌜ r ≡ allBelow facts ⌝ }
+{
+    if WIDTH <= facts {
+        return EVERY_BIT;
+    }
+    (1u64 << facts as u32) - 1
 }

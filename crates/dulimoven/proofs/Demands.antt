@@ -38,6 +38,7 @@ use Rattle.dulimoven.specs.Engine.{engine, replied}
 use Rattle.dulimoven.proofs.Refusals.{refusal-high}
 use Rattle.dulimoven.proofs.CardCall.{few-facts, cards-return, cards-only, cards-told, cards-kept}
 use Rattle.dulimoven.proofs.ChainCall.{chain-return, chain-only, chain-told, chain-kept, none-kept}
+use Rattle.dulimoven.proofs.ListCall.{list-return, list-only, list-told, list-kept}
 
 -- ---- demand 1
 
@@ -59,12 +60,17 @@ total =
       head = λ image h e. ap checkedAnswer e ∙ faultless image h e .payload;
       cards = cards-return;
       chain = chain-return;
+      list = list-return;
       cards-kept = λ image area. cards-kept image area (engine .cards image area) (cards-return image area);
       chain-kept = λ image c q f area. chain-kept image c q f area (engine .chain image c q f area) (chain-return image c q f area);
+      list-kept = λ facts sequences cards list card.
+          list-kept facts sequences cards list card (engine .list facts sequences cards list card) (list-return facts sequences cards list card);
       none-kept = λ image c q f area. none-kept image c q f area (engine .chain image c q f area) (chain-return image c q f area);
       check-told = check-told;
       cards-told = λ image area. cards-told image area (engine .cards image area) (cards-return image area);
       chain-told = λ image c q f area. chain-told image c q f area (engine .chain image c q f area) (chain-return image c q f area);
+      list-told = λ facts sequences cards list card.
+          list-told facts sequences cards list card (engine .list facts sequences cards list card) (list-return facts sequences cards list card);
     }
 
 -- demand 1 fixes every number and every word: an engine that meets it gives back what this one does
@@ -72,6 +78,8 @@ pub record Same (e : Engine) : Type 0 where
   pub check : (image : List ℕ) → e .check image ≡ engine .check image
   pub cards : (image area : List ℕ) → e .cards image area ≡ engine .cards image area
   pub chain : (image : List ℕ) (c q f : ℕ) (area : List ℕ) → e .chain image c q f area ≡ engine .chain image c q f area
+  pub list : (facts sequences : ℕ) (cards list card : List ℕ)
+      → e .list facts sequences cards list card ≡ engine .list facts sequences cards list card
 
 pub only-engine : (e : Engine) → Demand1 e → Same e
 only-engine e d =
@@ -79,13 +87,15 @@ only-engine e d =
       check = d .check;
       cards = λ image area. cards-only image area (e .cards image area) (d .cards image area);
       chain = λ image c q f area. chain-only image c q f area (e .chain image c q f area) (d .chain image c q f area);
+      list = λ facts sequences cards list card.
+          list-only facts sequences cards list card (e .list facts sequences cards list card) (d .list facts sequences cards list card);
     }
 
 -- ---- demand 2
 
 module _ (image area : List ℕ) (ready : Ready image area) where
   -- an accepted image with room in the area has its cards written
-  filled-area : engine .cards image area .area ≡ cards (libraryOf image) ++ drop (cardWords * count (libraryOf image)) area
+  pub filled-area : engine .cards image area .area ≡ cards (libraryOf image) ++ drop (cardWords * count (libraryOf image)) area
   filled-area =
       let h = ready .head in
       let room = ready .room in
@@ -96,7 +106,7 @@ module _ (image area : List ℕ) (ready : Ready image area) where
       ∙ ap (λ (n : ℕ). cards (libraryOf image) ++ drop (cardWords * n) area) (sym size)
 
   -- a sequence's own part of the area has its card's words
-  part-words : (c k : ℕ) → c < count (libraryOf image) → k < cardWords
+  pub part-words : (c k : ℕ) → c < count (libraryOf image) → k < cardWords
       → partWord (engine .cards image area .area) c k ≡ partWord (cards (libraryOf image)) c k
   part-words c k l u =
       ap (λ (a : List ℕ). partWord a c k) filled-area
@@ -113,7 +123,7 @@ module _ (image area : List ℕ) (ready : Ready image area) where
       ∙ getD-drop n area (i - n) 0
       ∙ ap (λ (j : ℕ). getD area j 0) back
 
-  length-stays : length (engine .cards image area .area) ≡ length area
+  pub length-stays : length (engine .cards image area .area) ≡ length area
   length-stays =
       let n = cardWords * count (libraryOf image) in
       let room = ready .room in

@@ -5,6 +5,7 @@ use native.Mathlib.Omega.{arith}
 use Rattle.image.specs.Answer.{refusalNumber, refusalAnswer}
 use Rattle.image.specs.declared.answer.Refusal.{Refusal}
 use Rattle.image.specs.declared.answer.Refusal.the-variants.{Length, SumWord, HeadWord, Kind, Payload, FactOrder, Missing, CardArea, Sequence, Question, Fact, ChainArea, SetAndCleared}
+use Rattle.image.specs.declared.answer.Refusal.the-variants.{ListLength, Member}
 use Rattle.dulimoven.specs.Demands.{Refuses}
 
 -- every refusal has a number from 1 on, so that it is told by 2^32
@@ -22,6 +23,8 @@ number-low Question = omega arith
 number-low Fact = omega arith
 number-low ChainArea = omega arith
 number-low (SetAndCleared p) = omega arith
+number-low ListLength = omega arith
+number-low Member = omega arith
 
 pub refusal-high : (r : Refusal) → Refuses (refusalAnswer r)
 refusal-high r = omega (arith, number-low r)

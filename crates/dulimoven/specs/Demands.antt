@@ -1,4 +1,4 @@
--- The three demands, as one statement over what a caller of the three calls sees: the numbers that they answer, and the words in the areas
+-- The three demands, as one statement over what a caller of the calls sees: the numbers that they answer, and the words in the areas
 -- that were lent to them. The sentences are quoted from the demands and from document 01.
 use Prim.Native.Nat.{ℕ, _*_, _^_, _≤_, _<_}
 use mathlib.Core.Path.{_≡_}
@@ -23,14 +23,17 @@ use Rattle.chains.specs.Stands.{StandsFor}
 use Rattle.dulimoven.specs.Returned.{Returned}
 use Rattle.dulimoven.specs.CardCall.{CardsRefused, CardsReturn}
 use Rattle.dulimoven.specs.ChainCall.{ChainRefused, ChainReturn, Links}
+use Rattle.dulimoven.specs.ListCall.{ListRefused, ListReturn}
 
 -- ---- what a caller sees
 
--- the three calls
+-- the calls: "plain numbers and lent arrays"
 pub record Engine : Type 0 where
   pub check : (image : List ℕ) → ℕ
   pub cards : (image area : List ℕ) → Returned
   pub chain : (image : List ℕ) (sequence question fact : ℕ) (area : List ℕ) → Returned
+  -- F, C, the cards, a list of sequences, and the words of the list's card before the call (document 02, request 5)
+  pub list : (facts sequences : ℕ) (cards list card : List ℕ) → Returned
 
 -- "N × 2^32 + P for refusal N at position P": a refusal is a number from 2^32 on
 abbrev pub Refuses : ℕ → Type 0
@@ -40,7 +43,8 @@ Refuses n = 2 ^ 32 ≤ n
 
 pub record Demand1 (e : Engine) : Type 0 where
   -- "A caller may hand over every list of words, every area and every number, and the call ends with an acceptance, .. or the first refusal
-  -- in document 01 that applies"; "Demand 1 and document 01's list take in the answers that requests add": 13 beside 4 to 6
+  -- in document 01 that applies"; "Demand 1 and document 01's list take in the answers that requests add": 13 beside 4 to 6,
+  -- and 14 and 15 of the list call
   pub check : (image : List ℕ) → e .check image ≡ checkedAnswer (checked image)
   -- "otherwise the head's payload from the check"
   pub head : (image : List ℕ) (h : Head) → checked image ≡ Checked.Accepted h → e .check image ≡ payload (firstWord image)
@@ -48,10 +52,15 @@ pub record Demand1 (e : Engine) : Type 0 where
   pub cards : (image area : List ℕ) → CardsReturn image area (e .cards image area)
   -- ".. a chain, "none", .."
   pub chain : (image : List ℕ) (c q f : ℕ) (area : List ℕ) → ChainReturn image c q f area (e .chain image c q f area)
+  -- "one card for it as the call's answer" (document 02, request 5)
+  pub list : (facts sequences : ℕ) (cards list card : List ℕ)
+      → ListReturn facts sequences cards list card (e .list facts sequences cards list card)
   -- "a refusal changes no word of a lent area"
   pub cards-kept : (image area : List ℕ) → Refuses (e .cards image area .number) → e .cards image area .area ≡ area
   pub chain-kept : (image : List ℕ) (c q f : ℕ) (area : List ℕ) → Refuses (e .chain image c q f area .number)
       → e .chain image c q f area .area ≡ area
+  pub list-kept : (facts sequences : ℕ) (cards list card : List ℕ) → Refuses (e .list facts sequences cards list card .number)
+      → e .list facts sequences cards list card .area ≡ card
   -- ""none" writes nothing", "0 there for "none""
   pub none-kept : (image : List ℕ) (c q f : ℕ) (area : List ℕ) → e .chain image c q f area .number ≡ 0 → e .chain image c q f area .area ≡ area
   -- the caller can tell a refusal by the number
@@ -59,6 +68,8 @@ pub record Demand1 (e : Engine) : Type 0 where
   pub cards-told : (image area : List ℕ) → Refuses (e .cards image area .number) ↔ ((r : Refusal) × CardsRefused image (length area) r)
   pub chain-told : (image : List ℕ) (c q f : ℕ) (area : List ℕ)
       → Refuses (e .chain image c q f area .number) ↔ ((r : Refusal) × ChainRefused image c q f (length area) r)
+  pub list-told : (facts sequences : ℕ) (cards list card : List ℕ)
+      → Refuses (e .list facts sequences cards list card .number) ↔ ((r : Refusal) × ListRefused sequences (length cards) list r)
 
 -- ---- demand 2
 
@@ -66,7 +77,7 @@ pub record Demand1 (e : Engine) : Type 0 where
 abbrev pub count : Library → ℕ
 count L = length (L .sequences)
 
--- "For every accepted library", with a card area that has room: "8 × C words" (document 02, request 4)
+-- "For every accepted library", with a card area that has room: 13 × C words (document 02, request 5)
 pub record Ready (image area : List ℕ) : Type 0 where
   pub head : Head
   pub accepted : checked image ≡ Checked.Accepted head
@@ -78,7 +89,7 @@ pub record Demand2 (e : Engine) : Type 0 where
   -- sequence's own part of the area
   pub card : (image area : List ℕ) → Ready image area → (c : ℕ) → c < count (libraryOf image)
       → Card (libraryOf image) c (partWord (e .cards image area .area) c)
-  -- "words past 7 × C stay", 8 × C by request 4
+  -- "words past 7 × C stay", 13 × C by request 5
   pub past : (image area : List ℕ) → Ready image area → (i : ℕ) → cardWords * count (libraryOf image) ≤ i
       → getD (e .cards image area .area) i 0 ≡ getD area i 0
   pub long : (image area : List ℕ) → Ready image area → length (e .cards image area .area) ≡ length area

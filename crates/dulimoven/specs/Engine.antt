@@ -1,4 +1,4 @@
--- The engine: the three calls, as the contracts of the exports cite them. What its answers mean is `Demands`, which it meets (`demands-met`,
+-- The engine: the calls, as the contracts of the exports cite them. What its answers mean is `Demands`, which it meets (`demands-met`,
 -- proofs/Demands).
 use Prim.Native.Nat.{ℕ}
 use mathlib.Core.List.{List}
@@ -8,6 +8,7 @@ use Rattle.rules.specs.Checked.{checked}
 use Rattle.card.specs.Answer.{cardsOf, cardArea, cardsAnswer}
 use Rattle.chains.specs.Call.{Reply, chained, areaAfter}
 use Rattle.question.specs.Reply.{replyNumber}
+use Rattle.list.specs.Answer.{listed, listedAnswer, cardAfter}
 use Rattle.dulimoven.specs.Returned.{Returned, returned}
 use Rattle.dulimoven.specs.Demands.{Engine}
 
@@ -21,4 +22,5 @@ engine =
       check = λ image. checkedAnswer (checked image);
       cards = λ image area. returned (cardsAnswer (cardsOf image area)) (cardArea image area);
       chain = λ image c q f area. replied (chained image c q f (length area)) area;
+      list = λ facts sequences cards list card. let found = listed sequences cards list in returned (listedAnswer found) (cardAfter found facts cards list card);
     }

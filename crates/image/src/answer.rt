@@ -43,6 +43,10 @@ pub enum Refusal {
     ChainArea,
     // 13. a clear word for a fact that an earlier word of the same step sets
     SetAndCleared(u32),
+    // 14. a list of more than 256 sequences
+    ListLength,
+    // 15. a member of the list is not below C
+    Member,
 }
 
 // What the check finds: the head of a library, or the first refusal that applies.
@@ -69,6 +73,8 @@ pub fn number(refusal: Refusal) -> u64
         Refusal::Fact => 11,
         Refusal::ChainArea => 12,
         Refusal::SetAndCleared(_) => 13,
+        Refusal::ListLength => 14,
+        Refusal::Member => 15,
     }
 }
 
@@ -90,6 +96,8 @@ pub fn position(refusal: Refusal) -> u32
         Refusal::Fact => 0,
         Refusal::ChainArea => 0,
         Refusal::SetAndCleared(p) => p,
+        Refusal::ListLength => 0,
+        Refusal::Member => 0,
     }
 }
 

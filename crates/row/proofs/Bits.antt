@@ -80,23 +80,26 @@ or-bits x y f =
     side first untouched = or-set (x .first .untouched) (y .first .untouched) f
 
 -- one list followed by another that has a run
-later-set : (a b c f : ℕ) → isSet (bitOr (bitAnd a b) c) f ≡ (isSet a f && isSet b f || isSet c f)
+pub later-set : (a b c f : ℕ) → isSet (bitOr (bitAnd a b) c) f ≡ (isSet a f && isSet b f || isSet c f)
 later-set a b c f = or-set (bitAnd a b) c f ∙ ap (λ (t : Bool). t || isSet c f) (and-set a b f)
+
+-- the columns of a side
+pub side-bits : (x y : Row) (f : ℕ) (s : Side) (m : Mark)
+    → bitRow (joinRows x y) f (columnNumber s m) ≡ joinRow (bitRow x f) (bitRow y f) (columnNumber s m)
+side-bits x y f last present = later-set (x .last .present) (y .last .untouched) (y .last .present) f
+side-bits x y f last absent = later-set (x .last .absent) (y .last .untouched) (y .last .absent) f
+side-bits x y f last untouched = and-set (x .last .untouched) (y .last .untouched) f
+side-bits x y f first present = later-set (y .first .present) (x .first .untouched) (x .first .present) f
+side-bits x y f first absent = later-set (y .first .absent) (x .first .untouched) (x .first .absent) f
+side-bits x y f first untouched = and-set (y .first .untouched) (x .first .untouched) f
 
 pub join-bits : (x y : Row) (f : ℕ) → isSet (y .run) f ≡ true → (j : ℕ) → j < rowWords
     → bitRow (joinRows x y) f j ≡ joinRow (bitRow x f) (bitRow y f) j
 join-bits x y f runs =
     by-column (λ (j : ℕ). bitRow (joinRows x y) f j ≡ joinRow (bitRow x f) (bitRow y f) j)
     (sym (ap (λ (t : Bool). isSet (x .run) f && t) runs ∙ and-true (isSet (x .run) f)))
-    (and-set (x .empty) (y .empty) f) side (later-set (x .cleared) (y .unmentioned) (y .cleared) f) (and-set (x .unmentioned) (y .unmentioned) f)
-  where
-    side : (s : Side) (m : Mark) → bitRow (joinRows x y) f (columnNumber s m) ≡ joinRow (bitRow x f) (bitRow y f) (columnNumber s m)
-    side last present = later-set (x .last .present) (y .last .untouched) (y .last .present) f
-    side last absent = later-set (x .last .absent) (y .last .untouched) (y .last .absent) f
-    side last untouched = and-set (x .last .untouched) (y .last .untouched) f
-    side first present = later-set (y .first .present) (x .first .untouched) (x .first .present) f
-    side first absent = later-set (y .first .absent) (x .first .untouched) (x .first .absent) f
-    side first untouched = and-set (y .first .untouched) (x .first .untouched) f
+    (and-set (x .empty) (y .empty) f) (side-bits x y f) (later-set (x .cleared) (y .unmentioned) (y .cleared) f)
+    (and-set (x .unmentioned) (y .unmentioned) f)
 
 -- the facts below F are all set
 pub all-set : (n f : ℕ) → f < n → isSet (allFacts n) f ≡ true

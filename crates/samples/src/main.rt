@@ -43,17 +43,17 @@ fn show(sample: &[u8], answer: u64) {
     io::write_all(STDOUT_FILENO, b"\n");
 }
 
-// "L: card area 20 words gets 8, 21 suffices"; document 02, request 4: "in L's sample the areas become one word too few and just enough", 23 and
-// 24: refused 8 at 0, and C = 3.
+// "L: card area 20 words gets 8, 21 suffices"; document 02, request 4: "in L's sample the areas become one word too few and just enough", since
+// request 5 38 and 39: refused 8 at 0, and C = 3.
 fn card_areas() {
-    let mut short = [0u64; 23];
-    let mut enough = [0u64; 24];
+    let mut short = [0u64; 38];
+    let mut enough = [0u64; 39];
     show(
-        b"L, card area 23 words: ",
+        b"L, card area 38 words: ",
         dulimoven::dulimoven_cards(&L, &mut short),
     );
     show(
-        b"L, card area 24 words: ",
+        b"L, card area 39 words: ",
         dulimoven::dulimoven_cards(&L, &mut enough),
     );
 }
