@@ -14,7 +14,8 @@
  * from all three calls that take one, the card and the chains of a sequence say
  * the same, and each chain is of links that there can be. The list call is held
  * against a plain loop over bits (list_model.h), over random words and over the
- * cards of random libraries.
+ * cards of random libraries; of the breaks that list_test names it reported all
+ * but that of a member's low byte.
  */
 #define _DEFAULT_SOURCE 1
 #include "harness.h"

@@ -5,6 +5,22 @@
  * cards or the list, nor a refusal the card. C11 and C++17. Prints a line for
  * each word that differs, then a count; the exit status is 0 where nothing
  * differs.
+ *
+ * Tried: the rule of list_model.h stood in the call's place, with one break at
+ * a time, and each of these 65 was reported. Of the sides: earlier and later
+ * members exchanged on one side or on both, the neighbour alone asked to leave
+ * the fact, another column asked for it. Of bits: those from F upward kept, F
+ * above 64 dropping all, F by its low 6 or 32 bits. Of members: one without a
+ * run passed over, the empty list blank, "untouched", "no such item" or the
+ * empty run where one member has it, the first member or all but two left out,
+ * the list read backwards. Of the "always" columns: either rival left out, a
+ * wrong rival, bits of the members' columns or of "may" asked for. Of words:
+ * two exchanged, the last five not written, the count of a member, of "may set"
+ * alone, or of both columns apart. Of refusals: 14 before 8, 15 before 14 or 8,
+ * 256 members refused, 257 let through, a member equal to C let through, the
+ * last member untested, members held to the room or by their low byte, 8 by 8
+ * or 12 times C, with wrap or by 32 bits of C. And a card changed on a refusal,
+ * a word beside it, the cards or the list changed, a position, another answer.
  */
 #include "harness.h"
 #include "samples.h"

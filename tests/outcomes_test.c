@@ -19,12 +19,10 @@
  *
  * Tried: on a copy, bit 0 of each of the eleven words that are expected of a
  * sequence was changed, one at a time, for the 241 sequences outside long.h. Of
- * the 2,651 changes 2,602 were reported, 1,881 by a card, 1,446 by a question.
- * 290 showed in questions and no card: as first set of sequence 2 of the ring
- * of four in calls, since the fact may stay untouched there too. 431 showed
- * only in that no runs have such outcomes. The 49 that were not reported are
- * all in the last three words, of which a card has only whether "cleared" and
- * "not named" are both impossible.
+ * the 2,651 changes 2,620 were reported, 2,345 by a card, and 1,446 of these by
+ * a question too. 275 showed only in that no runs have such outcomes. The 31
+ * that were not reported are all in "it leaves it standing", which is the one
+ * outcome without a column.
  */
 #include "harness.h"
 #include "samples.h"
