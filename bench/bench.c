@@ -1,6 +1,6 @@
 /*
- * The benchmark: the library's check, cards and chain beside the engines in C,
- * over the generator's shapes. First each answer and each word written is
+ * The benchmark: the library's check, cards, chain and list beside the engines
+ * in C, over the generator's shapes. First each answer and each word written is
  * compared, and a difference is an error; then each call is timed. The engines
  * take turns, so that other work on the machine meets all alike, and each time
  * is the median of many.
@@ -23,15 +23,23 @@ static cards_call *const cards[ENGINES] = {dulimoven_cards, second_cards,
                                            plain_cards, tuned_cards};
 static chain_call *const chains[ENGINES] = {dulimoven_chain, NULL, plain_chain,
                                             tuned_chain};
+static list_call *const lists[ENGINES] = {dulimoven_list, NULL, plain_list,
+                                          NULL};
 
 static uint64_t card_area[ENGINES][CARD * MOST_SEQUENCES];
 static uint32_t chain_area[ENGINES][2 * MOST_SEQUENCES];
+static uint64_t list_area[ENGINES][CARD];
+
+/* What the list call is lent: the cards of a shape, and members. */
+static uint64_t lent_cards[CARD * MOST_SEQUENCES];
+static uint32_t lent_list[DULIMOVEN_MOST_LIST];
 
 /* The call that is timed. */
 struct timed {
     const struct shape *shape;
-    enum { CHECK, CARDS, CHAIN } call;
+    enum { CHECK, CARDS, CHAIN, LIST } call;
     uint64_t sequence, question, fact;
+    size_t members;
 };
 
 static uint64_t run(const struct timed *t, int engine)
@@ -44,6 +52,10 @@ static uint64_t run(const struct timed *t, int engine)
     case CARDS:
         return cards[engine](image, length, card_area[engine],
                              CARD * MOST_SEQUENCES);
+    case LIST:
+        return lists[engine](facts_of(image[0]), sequences_of(image[0]),
+                             lent_cards, (size_t)CARD * sequences_of(image[0]),
+                             lent_list, t->members, list_area[engine]);
     default:
         return chains[engine](image, length, t->sequence, t->question, t->fact,
                               chain_area[engine], 2 * MOST_SEQUENCES);
@@ -52,7 +64,38 @@ static uint64_t run(const struct timed *t, int engine)
 
 static int has(const struct timed *t, int engine)
 {
+    if (t->call == LIST)
+        return engine == LIBRARY || engine == PLAIN;
     return t->call == CARDS || engine != PAPER;
+}
+
+/* Whether an engine has written the library's cards, of which the paper's has
+ * the first words alone. */
+static int same_cards(int engine)
+{
+    size_t i;
+    for (i = 0; i < CARD * MOST_SEQUENCES; i++)
+        if ((engine != PAPER || i % CARD < SECOND_WORDS) &&
+            card_area[engine][i] != card_area[LIBRARY][i])
+            return 0;
+    return 1;
+}
+
+/* Whether it has written what the library has. */
+static int same_words(const struct timed *t, int engine)
+{
+    switch (t->call) {
+    case CHECK:
+        return 1;
+    case CARDS:
+        return same_cards(engine);
+    case LIST:
+        return memcmp(list_area[engine], list_area[LIBRARY],
+                      sizeof list_area[engine]) == 0;
+    default:
+        return memcmp(chain_area[engine], chain_area[LIBRARY],
+                      sizeof chain_area[engine]) == 0;
+    }
 }
 
 /* Compares the engines' answers and the words that they write. */
@@ -62,15 +105,13 @@ static void verify(const struct timed *t)
     int e;
     memset(card_area, 0xa5, sizeof card_area);
     memset(chain_area, 0xa5, sizeof chain_area);
+    memset(list_area, 0xa5, sizeof list_area);
     for (e = 0; e < ENGINES; e++) {
         if (!has(t, e))
             continue;
         answer[e] = run(t, e);
         if (answer[e] != answer[LIBRARY] || answer[e] >> 32 != 0 ||
-            (t->call == CARDS && memcmp(card_area[e], card_area[LIBRARY],
-                                        sizeof card_area[e]) != 0) ||
-            (t->call == CHAIN && memcmp(chain_area[e], chain_area[LIBRARY],
-                                        sizeof chain_area[e]) != 0)) {
+            !same_words(t, e)) {
             printf("%s: engine %d differs in call %d, sequence %" PRIu64
                    ", question %" PRIu64 ", fact %" PRIu64 ": %" PRIx64
                    " and %" PRIx64 "\n",
@@ -139,8 +180,8 @@ static void measure(const struct timed *t, double budget, int slow, double *us)
 
 static void card_row(const struct shape *shape)
 {
-    struct timed check = {shape, CHECK, 0, 0, 0};
-    struct timed call = {shape, CARDS, 0, 0, 0};
+    struct timed check = {shape, CHECK, 0, 0, 0, 0};
+    struct timed call = {shape, CARDS, 0, 0, 0, 0};
     double c[ENGINES], us[ENGINES];
     verify(&check);
     verify(&call);
@@ -173,7 +214,7 @@ static void chain_row(const struct shape *shape)
         for (q = 0; q < 6; q++)
             for (f = 0; f < 4; f++) {
                 struct timed t = {shape, CHAIN, sequence[s], (uint64_t)q,
-                                  fact[f]};
+                                  fact[f], 0};
                 verify(&t);
                 links = run(&t, LIBRARY);
                 found += links != 0;
@@ -202,6 +243,42 @@ static void chain_row(const struct shape *shape)
 }
 
 /*
+ * Lists of sequences that have a run, one after the other from the first on and
+ * then again, beside a plain fold over the same words and beside a card call on
+ * the image.
+ */
+static void list_rows(const struct shape *shape)
+{
+    static const size_t members[] = {1, 16, DULIMOVEN_MOST_LIST};
+    struct timed call = {shape, CARDS, 0, 0, 0, 0};
+    uint32_t sequences = sequences_of(shape->words[0]), c = 0;
+    double us[ENGINES], all[ENGINES];
+    size_t i, n = 0;
+    verify(&call);
+    memcpy(lent_cards, card_area[LIBRARY], sizeof lent_cards);
+    while (n < DULIMOVEN_MOST_LIST) {
+        if (dulimoven_has_run(lent_cards + CARD * c))
+            lent_list[n++] = c;
+        c = (c + 1) % sequences;
+        if (c == 0 && n == 0) {
+            printf("%s: no sequence has a run\n", shape->name);
+            exit(1);
+        }
+    }
+    for (i = 0; i < sizeof members / sizeof members[0]; i++) {
+        struct timed t = {shape, LIST, 0, 0, 0, members[i]};
+        verify(&t);
+        measure(&t, 2e5, 9, us);
+        measure(&call, 2e5, 5, all);
+        printf("%-22s %5zu %7zu | %8.4f %8.4f %5.2f | %8.2f %8.5f\n",
+               shape->name, shape->length, members[i], us[LIBRARY], us[PLAIN],
+               us[LIBRARY] / us[PLAIN], all[LIBRARY],
+               us[LIBRARY] / all[LIBRARY]);
+        fflush(stdout);
+    }
+}
+
+/*
  * Growth: the time of each size, and beside it how many times that of half the
  * size. The sizes take turns too: each time is the median of five rounds.
  */
@@ -214,10 +291,10 @@ static void growth(const struct shape *shapes)
         for (i = 0; i < GROWTH; i++) {
             const struct shape *shape = &shapes[i];
             uint32_t head = shape->words[0];
-            struct timed t[3] = {{shape, CHECK, 0, 0, 0},
-                                 {shape, CARDS, 0, 0, 0},
+            struct timed t[3] = {{shape, CHECK, 0, 0, 0, 0},
+                                 {shape, CARDS, 0, 0, 0, 0},
                                  {shape, CHAIN, sequences_of(head) - 1, 0,
-                                  facts_of(head) / 2}};
+                                  facts_of(head) / 2, 0}};
             for (k = 0; k < 3; k++) {
                 verify(&t[k]);
                 measure(&t[k], 5e4, 5, one);
@@ -269,6 +346,13 @@ int main(void)
            "li/tu");
     for (i = 0; i < SHAPES; i++)
         chain_row(&shapes[i]);
+    printf("\nThe list call, beside a plain fold over the same words and beside "
+           "the library's cards of the image.\n");
+    printf("%-22s %5s %7s | %-23s | %-17s\n", "", "", "", "list", "cards");
+    printf("%-22s %5s %7s | %8s %8s %5s | %8s %8s\n", "shape", "words",
+           "members", "lib", "plain", "li/pl", "lib", "list/ca");
+    list_rows(&shapes[1]);
+    list_rows(&shapes[2]);
     printf("\nGrowth with the size of everyday images: the library's time, by "
            "what it grew, and the tuned C.\n");
     printf("%5s | %-24s | %-24s | %-24s | %10s\n", "words", "check", "cards",

@@ -31,9 +31,14 @@ typedef uint64_t cards_call(const uint32_t *image, size_t image_len,
 typedef uint64_t chain_call(const uint32_t *image, size_t image_len,
                             uint64_t sequence, uint64_t question, uint64_t fact,
                             uint32_t *area, size_t area_len);
+typedef uint64_t list_call(uint64_t facts, uint64_t sequences,
+                           const uint64_t *cards, size_t cards_len,
+                           const uint32_t *list, size_t list_len,
+                           uint64_t *card);
 
 check_call tuned_check;
 cards_call plain_cards, tuned_cards;
 chain_call plain_chain, tuned_chain;
+list_call plain_list;
 
 #endif

@@ -151,8 +151,63 @@ uint64_t plain_cards(const uint32_t *image, size_t length, uint64_t *area,
         card[5] = r->run & ~(r->last[1] | r->last[2]);
         card[6] = r->run & ~(r->last[0] | r->last[2]);
         card[7] = r->run & ~(r->standing[0] | r->standing[1]);
+        card[8] = r->first[1];
+        card[9] = r->first[2];
+        card[10] = r->last[2];
+        card[11] = r->standing[0];
+        card[12] = r->standing[1];
     }
     return lib.sequences;
+}
+
+/* One member after the other; the bits from F upward are dropped at the end. */
+uint64_t plain_list(uint64_t facts, uint64_t sequences, const uint64_t *cards,
+                    size_t cards_length, const uint32_t *list,
+                    size_t list_length, uint64_t *card)
+{
+    const uint64_t every = ~UINT64_C(0);
+    uint64_t all = facts >= 64 ? every : (UINT64_C(1) << facts) - 1;
+    uint64_t flags = 3, last[3] = {0, 0, every}, first[3] = {0, 0, every};
+    uint64_t standing[2] = {0, every};
+    size_t i;
+    if (cards_length / CARD < sequences)
+        return refusal(8);
+    if (list_length > DULIMOVEN_MOST_LIST)
+        return refusal(14);
+    for (i = 0; i < list_length; i++)
+        if (list[i] >= sequences)
+            return refusal(15);
+    for (i = 0; i < list_length; i++) {
+        const uint64_t *y = cards + (size_t)CARD * list[i];
+        flags &= y[0];
+        last[0] = (last[0] & y[10]) | y[3];
+        last[1] = (last[1] & y[10]) | y[4];
+        last[2] &= y[10];
+        first[0] |= first[2] & y[2];
+        first[1] |= first[2] & y[8];
+        first[2] &= y[9];
+        standing[0] = (standing[0] & y[12]) | y[11];
+        standing[1] &= y[12];
+    }
+    if ((flags & 1) == 0) {
+        memset(card, 0, CARD * sizeof *card);
+        return 0;
+    }
+    card[0] = flags |
+              (uint64_t)__builtin_popcountll((last[0] | last[1]) & all) << 8;
+    card[1] = all & ~(first[1] | first[2]);
+    card[2] = all & first[0];
+    card[3] = all & last[0];
+    card[4] = all & last[1];
+    card[5] = all & ~(last[1] | last[2]);
+    card[6] = all & ~(last[0] | last[2]);
+    card[7] = all & ~(standing[0] | standing[1]);
+    card[8] = all & first[1];
+    card[9] = all & first[2];
+    card[10] = all & last[2];
+    card[11] = all & standing[0];
+    card[12] = all & standing[1];
+    return 0;
 }
 
 /* The question, and the rank of each sequence. */

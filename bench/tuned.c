@@ -414,6 +414,11 @@ uint64_t tuned_cards(const uint32_t *image, size_t length, uint64_t *area,
         card[5] = run & ~(r.last[1] | r.untouched[0]);
         card[6] = run & ~(r.last[0] | r.untouched[0]);
         card[7] = run & ~(r.standing[0] | r.standing[1]);
+        card[8] = r.first[1];
+        card[9] = r.untouched[1];
+        card[10] = r.untouched[0];
+        card[11] = r.standing[0];
+        card[12] = r.standing[1];
     }
     return sequences;
 }

@@ -9,8 +9,8 @@
  *     target/show_cards examples/setup.image
  *
  * One run is reason enough. It is one that leaves the fact untouched where
- * there is such a run, since no column of the card tells of it, and otherwise
- * one with the other touch. Facts with the same reason share it.
+ * there is such a run, and otherwise one with the other touch. Facts with the
+ * same reason share it.
  *
  * A chain to a step is printed link by link. Where a link says that a sequence
  * leaves the fact untouched, the question goes on: the same is asked of the
@@ -35,8 +35,19 @@
 
 /* The words of a card after its flags, in their order. */
 static const char *const names[DULIMOVEN_CARD_WORDS] = {
-    "",          "always needed", "may need",       "may set",
-    "may clear", "always set",    "always cleared", "always stands"};
+    "",
+    "always needed",
+    "may need",
+    "may set",
+    "may clear",
+    "always set",
+    "always cleared",
+    "always stands",
+    "may first set",
+    "may first leave untouched",
+    "may last leave untouched",
+    "may end cleared",
+    "may end unmentioned"};
 
 /*
  * The "always" columns that have questions, each with the "may" column beside
@@ -168,23 +179,26 @@ static int untouched_beside(int question)
                                    : DULIMOVEN_LAST_UNTOUCHED;
 }
 
+static const uint64_t *card_of(uint32_t sequence)
+{
+    return cards + DULIMOVEN_CARD_WORDS * sequence;
+}
+
 /*
- * Whether an entry is a sequence that can touch the reason's fact on its side.
- * On the first side that is to need or to set it; a run that sets it anywhere
- * ends with it set or cleared, so the columns miss none. They count one that
- * only clears it too, of which a line then says that it does neither.
+ * Whether an entry is a sequence that can touch the reason's fact on its side:
+ * need or set it first, or set or clear it last.
  */
 static int can_touch(const struct reason *reason, uint32_t entry)
 {
     const uint64_t *card;
-    uint64_t touched;
     if (kind_of(entry) != DULIMOVEN_KIND_SEQUENCE_ENTRY)
         return 0;
-    card = cards + DULIMOVEN_CARD_WORDS * number_of(entry);
-    touched = card[DULIMOVEN_MAY_SET] | card[DULIMOVEN_MAY_CLEAR];
+    card = card_of(number_of(entry));
     if (is_first_side(reason->question))
-        touched |= card[DULIMOVEN_MAY_NEED];
-    return dulimoven_has_fact(touched, reason->fact);
+        return dulimoven_card_has(card, DULIMOVEN_MAY_NEED, reason->fact) ||
+               dulimoven_card_has(card, DULIMOVEN_MAY_FIRST_SET, reason->fact);
+    return dulimoven_card_has(card, DULIMOVEN_MAY_SET, reason->fact) ||
+           dulimoven_card_has(card, DULIMOVEN_MAY_CLEAR, reason->fact);
 }
 
 /* Whether the reason has the link that says how a sequence stays untouched. */
@@ -294,15 +308,6 @@ static int same_reason(const struct reason *one, const struct reason *other)
            same_checks(one, other);
 }
 
-/* Prints the facts of a column. */
-static void print_facts(uint64_t column)
-{
-    uint32_t fact;
-    for (fact = 0; fact < DULIMOVEN_MOST_FACTS; fact++)
-        if (dulimoven_has_fact(column, fact))
-            printf(" %u", fact);
-}
-
 /* Prints which sequences an alternative calls that can touch the fact, each
  * once, and answers how many. */
 static int print_called(const struct reason *reason, struct entries entries)
@@ -375,52 +380,70 @@ static void print_links(const struct reason *reason, const char *it)
         printf("%sand so on\n", to_step ? "      " : "    ");
 }
 
-/* A reason, with the facts that have it missing from a column. */
-static void print_reason(const struct reason *reason, int always,
-                         uint64_t facts)
+/* Prints the reason's fact and those of the missing ones that have the same
+ * reason. They are not missing any more. Answers how many they are. */
+static int print_facts_with(const struct reason *reason, char *missing)
 {
-    const char *it = facts == UINT64_C(1) << reason->fact ? "it" : "them";
+    uint32_t fact;
+    int count = 0;
+    for (fact = 0; fact < DULIMOVEN_MOST_FACTS; fact++)
+        if (fact == reason->fact ||
+            (missing[fact] && same_reason(reason, reasons + fact))) {
+            printf(" %u", fact);
+            missing[fact] = 0;
+            count++;
+        }
+    return count;
+}
+
+/* A reason, with the facts that have it missing from a column. */
+static void print_reason(const struct reason *reason, int always, char *missing)
+{
+    const char *it;
     printf("  not %s", names[always]);
-    print_facts(facts);
+    it = print_facts_with(reason, missing) == 1 ? "it" : "them";
     printf(": a run %s %s%s\n", outcomes[reason->question].run, it,
            outcomes[reason->question].when);
     print_links(reason, it);
 }
 
-/* The reason's fact, and those of a column that have the same reason. */
-static uint64_t facts_with(const struct reason *reason, uint64_t column)
+/* Why facts that a "may" column has are missing from its "always" column. */
+static void print_reasons(uint32_t sequence, const struct column *column)
 {
-    uint64_t facts = UINT64_C(1) << reason->fact;
+    const uint64_t *card = card_of(sequence);
+    char missing[DULIMOVEN_MOST_FACTS];
     uint32_t fact;
+    for (fact = 0; fact < DULIMOVEN_MOST_FACTS; fact++) {
+        missing[fact] = dulimoven_card_has(card, column->may, fact) &&
+                        !dulimoven_card_has(card, column->always, fact);
+        if (missing[fact])
+            find_reason(reasons + fact, sequence, column, fact);
+    }
     for (fact = 0; fact < DULIMOVEN_MOST_FACTS; fact++)
-        if (dulimoven_has_fact(column, fact) &&
-            same_reason(reason, reasons + fact))
-            facts |= UINT64_C(1) << fact;
-    return facts;
+        if (missing[fact])
+            print_reason(reasons + fact, column->always, missing);
 }
 
-/* Why facts that a "may" column has are missing from its "always" column. */
-static void print_reasons(uint32_t sequence, const uint64_t *card,
-                          const struct column *column)
+/* A column of a card, where it has a fact. */
+static void print_column(const uint64_t *card, int column)
 {
-    uint64_t missing = card[column->may] & ~card[column->always];
     uint32_t fact;
+    int count = 0;
     for (fact = 0; fact < DULIMOVEN_MOST_FACTS; fact++)
-        if (dulimoven_has_fact(missing, fact))
-            find_reason(reasons + fact, sequence, column, fact);
-    for (fact = 0; fact < DULIMOVEN_MOST_FACTS; fact++)
-        if (dulimoven_has_fact(missing, fact)) {
-            uint64_t facts = facts_with(reasons + fact, missing);
-            print_reason(reasons + fact, column->always, facts);
-            missing &= ~facts;
+        if (dulimoven_card_has(card, column, fact)) {
+            if (count == 0)
+                printf("; %s", names[column]);
+            printf(" %u", fact);
+            count++;
         }
 }
 
 /* A card in words. */
-static void print_card(uint32_t sequence, const uint64_t *card)
+static void print_card(uint32_t sequence)
 {
+    const uint64_t *card = card_of(sequence);
     uint32_t count = dulimoven_changeable(card);
-    int word;
+    int column;
     printf("sequence %u: ", sequence);
     if (!dulimoven_has_run(card))
         printf("no run");
@@ -428,11 +451,8 @@ static void print_card(uint32_t sequence, const uint64_t *card)
         printf("%s%u %s can change",
                dulimoven_has_empty_run(card) ? "may be empty; " : "", count,
                count == 1 ? "fact" : "facts");
-    for (word = 1; word < DULIMOVEN_CARD_WORDS; word++)
-        if (card[word] != 0) {
-            printf("; %s", names[word]);
-            print_facts(card[word]);
-        }
+    for (column = 1; column < DULIMOVEN_CARD_WORDS; column++)
+        print_column(card, column);
     printf("\n");
 }
 
@@ -458,10 +478,9 @@ int main(int count, char **arguments)
     }
     dulimoven_cards(image, words, cards, DULIMOVEN_MOST_CARD_WORDS);
     for (sequence = 0; sequence < dulimoven_sequences(checked); sequence++) {
-        const uint64_t *card = cards + DULIMOVEN_CARD_WORDS * sequence;
-        print_card(sequence, card);
+        print_card(sequence);
         for (column = 0; column < COLUMNS; column++)
-            print_reasons(sequence, card, columns + column);
+            print_reasons(sequence, columns + column);
     }
     return 0;
 }

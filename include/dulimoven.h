@@ -13,10 +13,11 @@
  *
  * Threads: calls may run in several threads at once. A call uses what it is
  * lent and its own stack, and nothing that outlasts it. Calls at the same time
- * may share an image, since no call writes it, and may not share an area.
+ * may share what none of them writes, such as an image, or the cards and the
+ * list of dulimoven_list, and may not share an area that one of them writes.
  *
- * Alignment: an image is aligned as uint32_t is, a card area as uint64_t, a
- * chain area as uint32_t. No more is asked.
+ * Alignment: an image, a list and a chain area are aligned as uint32_t is, a
+ * card and a card area as uint64_t. No more is asked.
  */
 #ifndef DULIMOVEN_H
 #define DULIMOVEN_H
@@ -38,11 +39,11 @@ extern "C" {
  * The numbers from here to the refusals are plain numbers and no enumerators,
  * since they are multiplied and added with one another.
  */
-#define DULIMOVEN_FORMAT 2
+#define DULIMOVEN_FORMAT 3
 #define DULIMOVEN_VERSION (DULIMOVEN_FORMAT * 1000 + 0)
 
 /* How many words of 64 bits a card has, and how many of 32 bits a link. */
-#define DULIMOVEN_CARD_WORDS 8
+#define DULIMOVEN_CARD_WORDS 13
 #define DULIMOVEN_LINK_WORDS 2
 
 /* Bounds: the most words of an image, facts, steps and sequences. */
@@ -50,6 +51,9 @@ extern "C" {
 #define DULIMOVEN_MOST_FACTS 64
 #define DULIMOVEN_MOST_STEPS 1024
 #define DULIMOVEN_MOST_SEQUENCES 256
+
+/* The most members of a list. */
+#define DULIMOVEN_MOST_LIST 256
 
 /* Areas of so many words are enough for all cards, and for every chain. */
 #define DULIMOVEN_MOST_CARD_WORDS \
@@ -65,6 +69,7 @@ extern "C" {
 #define DULIMOVEN_STACK_CHECK 1024
 #define DULIMOVEN_STACK_CARDS 163840
 #define DULIMOVEN_STACK_CHAIN 65536
+#define DULIMOVEN_STACK_LIST 1024
 
 /*
  * The kinds of an image's words. Kinds 10 to 12 are those of a chain's words
@@ -94,7 +99,8 @@ enum dulimoven_kind {
 /*
  * The refusals. Of those that apply a call answers the first in this order: 1,
  * 2 and 3; of 4, 5, 6 and 13 the one at the earliest word, and in one word the
- * lowest; then 7, and 8 to 12. From 8 to 12 the position is 0.
+ * lowest; then 7, 8 to 12, 14 and 15. From 8 to 12, and of 14 and 15, the
+ * position is 0.
  */
 enum dulimoven_refusal {
     /* fewer than 2 or more than 8,192 words; position 0 */
@@ -113,7 +119,7 @@ enum dulimoven_refusal {
     DULIMOVEN_FACT_ORDER = 6,
     /* fewer steps or sequences than the head counts; the last word's place */
     DULIMOVEN_MISSING = 7,
-    /* the card area has fewer than 8 words of 64 bits for each sequence */
+    /* the card area has fewer than 13 words of 64 bits for each sequence */
     DULIMOVEN_CARD_AREA = 8,
     /* the sequence asked about is not in the library */
     DULIMOVEN_SEQUENCE = 9,
@@ -125,7 +131,11 @@ enum dulimoven_refusal {
     DULIMOVEN_CHAIN_AREA = 12,
     /* a clear word naming a fact that an earlier word of the same step sets;
      * the clear word's position */
-    DULIMOVEN_SET_AND_CLEARED = 13
+    DULIMOVEN_SET_AND_CLEARED = 13,
+    /* the list has more than 256 members */
+    DULIMOVEN_LIST_LENGTH = 14,
+    /* a member of the list is not among the sequences */
+    DULIMOVEN_MEMBER = 15
 };
 
 /*
@@ -153,10 +163,11 @@ enum dulimoven_refusal {
 uint64_t dulimoven_check(const uint32_t *image, size_t image_len);
 
 /*
- * The words of a card, in their order. In all but the flags bit f is fact f. A
- * fact is needed where a run first touches it by a need, and a check of it is
- * one; it is set or cleared where the run's last touch sets or clears it.
- * Without a run all words are 0.
+ * The words of a card, in their order. In all but the flags, which are columns,
+ * bit f is fact f (dulimoven_card_has), and no bit stands for a fact that the
+ * library does not have. A fact is needed where a run first touches it by a
+ * need, and a check of it is one; it is set or cleared where the run's last
+ * touch sets or clears it. Without a run all words are 0.
  */
 enum dulimoven_card_word {
     /* dulimoven_has_run, dulimoven_has_empty_run, dulimoven_changeable */
@@ -177,7 +188,18 @@ enum dulimoven_card_word {
      * needs or checks it is there and does not clear it. So the fact stands
      * wherever a run of the sequence has executed to its end. A step that needs
      * and clears it counts as clearing. */
-    DULIMOVEN_ALWAYS_STANDS = 7
+    DULIMOVEN_ALWAYS_STANDS = 7,
+    /* some run's first touch sets it: question 4 of dulimoven_chain */
+    DULIMOVEN_MAY_FIRST_SET = 8,
+    /* some run leaves it untouched on the first side: question 5 */
+    DULIMOVEN_MAY_FIRST_UNTOUCHED = 9,
+    /* some run leaves it untouched on the last side: question 2 */
+    DULIMOVEN_MAY_LAST_UNTOUCHED = 10,
+    /* some run's last step or check that sets, clears, needs or checks it
+     * clears it */
+    DULIMOVEN_MAY_END_CLEARED = 11,
+    /* some run has no such step or check */
+    DULIMOVEN_MAY_END_UNMENTIONED = 12
 };
 
 /* The parts of a card's flags. */
@@ -200,13 +222,13 @@ enum dulimoven_flag {
  *            pointer to them. They may not overlap the image, and no other
  *            thread may read or write them before the call returns. An empty
  *            area, area_len 0, may have a null pointer.
- * area_len   how many words area has; 8 for each sequence are enough.
+ * area_len   how many words area has; 13 for each sequence are enough.
  *
  * Answers C, the number of sequences, at most 256. The card of sequence c
- * stands in the 8 words from area[8 * c] on then, and the words after the last
- * card are as they were. Otherwise the call answers one of refusals 1 to 7 and
- * 13, as dulimoven_check does for the image, or
- *   8  DULIMOVEN_CARD_AREA   area_len is below 8 * C; position 0
+ * stands in the 13 words from area[13 * c] on then, and the words after the
+ * last card are as they were. Otherwise the call answers one of refusals 1 to 7
+ * and 13, as dulimoven_check does for the image, or
+ *   8  DULIMOVEN_CARD_AREA   area_len is below 13 * C; position 0
  * and every word of the area is as it was.
  */
 uint64_t dulimoven_cards(const uint32_t *image, size_t image_len,
@@ -220,10 +242,13 @@ uint64_t dulimoven_cards(const uint32_t *image, size_t image_len,
  * fact counts as a need; on the last side a check touches nothing.
  *
  * A fact is in "may set", "may clear" or "may need" exactly where question 0, 1
- * or 3 has a chain. Of a sequence that has a run, a fact is missing from an
- * "always" column exactly where one of the column's two questions has a chain:
- * 4 and 5 for "always needed", 1 and 2 for "always set", 0 and 2 for "always
- * cleared". "Always stands" has no questions.
+ * or 3 has a chain, and in "may first set", "may first untouched" or "may last
+ * untouched" exactly where question 4, 5 or 2 has one. Of a sequence that has a
+ * run, a fact is missing from an "always" column exactly where one of the
+ * column's two questions has a chain: 4 and 5 for "always needed", 1 and 2 for
+ * "always set", 0 and 2 for "always cleared". "Always stands", "may end
+ * cleared" and "may end unmentioned" have no questions; a fact is missing from
+ * the first of these exactly where one of the other two has it.
  */
 enum dulimoven_question {
     /* some run's last touch sets the fact */
@@ -309,13 +334,69 @@ uint64_t dulimoven_chain(const uint32_t *image, size_t image_len,
                          uint64_t sequence, uint64_t question, uint64_t fact,
                          uint32_t *area, size_t area_len);
 
+/*
+ * Works out one card for a list of sequences that are run one after the other,
+ * from F and the sequences' cards alone.
+ *
+ * facts      F, the number of facts. In the columns that are read, bits from F
+ *            upward count as 0. No number is out of range: from 64 on no bit is
+ *            dropped.
+ * sequences  C, the number of sequences. No number is out of range.
+ * cards      cards_len words of 64 bits, lent for the call, which changes none
+ *            of them and keeps no pointer to them: the cards of the sequences,
+ *            as dulimoven_cards writes them. An empty array, cards_len 0, may
+ *            have a null pointer.
+ * cards_len  how many words cards has; 13 for each sequence are enough.
+ * list       list_len numbers of sequences, the members, lent as the cards are.
+ *            One may come more than once, and counts each time. An empty list,
+ *            list_len 0, may have a null pointer.
+ * list_len   how many members list has.
+ * card       13 words of 64 bits, lent for the call, which keeps no pointer to
+ *            them. They may overlap neither the cards nor the list. No other
+ *            thread may read or write them, or write the cards or the list,
+ *            before the call returns.
+ *
+ * Answers 0, and the words of card are the list's card then. Over cards that
+ * dulimoven_cards wrote, with F and C of the same library, it is the card of a
+ * sequence that is added to the library, limits aside, and whose one
+ * alternative names the members in their order. Over any other words it follows
+ * the same rule, which reads of a member's card flags 0 and 1 and the words 2
+ * to 4 and 8 to 12:
+ *   - Where a member has no run, all 13 words are 0.
+ *   - A flag is set, and a fact is in "may first untouched", "may last
+ *     untouched" or "may end unmentioned", where that is so of every member.
+ *   - A fact is in "may need" or "may first set" where it is there of a member
+ *     and in "may first untouched" of every earlier one.
+ *   - It is in "may set" or "may clear" where it is there of a member and in
+ *     "may last untouched" of every later one; in "may end cleared" where it is
+ *     there of a member and in "may end unmentioned" of every later one.
+ *   - A fact below F is in an "always" column where the list's own card has it
+ *     in neither of two others: for "always needed" these are "may first set"
+ *     and "may first untouched", for "always set" "may clear" and "may last
+ *     untouched", for "always cleared" "may set" and "may last untouched", for
+ *     "always stands" "may end cleared" and "may end unmentioned".
+ *   - The count in the flags is that of the list's own "may set" and "may
+ *     clear".
+ * So the empty list has just the empty run.
+ *
+ * Otherwise the call answers the first refusal that applies, with position 0,
+ * and every word of card is as it was:
+ *   8   DULIMOVEN_CARD_AREA    cards_len is below 13 * C, which does not wrap
+ *   14  DULIMOVEN_LIST_LENGTH  list_len is above 256
+ *   15  DULIMOVEN_MEMBER       a member is not below C
+ */
+uint64_t dulimoven_list(uint64_t facts, uint64_t sequences,
+                        const uint64_t *cards, size_t cards_len,
+                        const uint32_t *list, size_t list_len,
+                        uint64_t card[DULIMOVEN_CARD_WORDS]);
+
 /* Whether an answer of a call is a refusal. */
 static inline int dulimoven_is_refusal(uint64_t answer)
 {
     return answer >> 32 != 0;
 }
 
-/* An answer's refusal, 1 to 13, or 0 where the call refused nothing. */
+/* An answer's refusal, 1 to 15, or 0 where the call refused nothing. */
 static inline uint32_t dulimoven_refusal_of(uint64_t answer)
 {
     return (uint32_t)(answer >> 32);
@@ -364,10 +445,14 @@ static inline uint32_t dulimoven_changeable(const uint64_t *card)
                       DULIMOVEN_FLAG_COUNT_MASK);
 }
 
-/* Whether a column, which is a card's word other than its flags, has a fact. */
-static inline int dulimoven_has_fact(uint64_t column, uint64_t fact)
+/*
+ * Whether a fact is in a column of a card: one of enum dulimoven_card_word, but
+ * not the flags. No number of a fact is out of range.
+ */
+static inline int dulimoven_card_has(const uint64_t *card, int column,
+                                     uint64_t fact)
 {
-    return fact < 64 && (column >> fact & 1u) != 0;
+    return fact < DULIMOVEN_MOST_FACTS && (card[column] >> fact & 1u) != 0;
 }
 
 /* The sequence that a link is about, by the link's two words. */

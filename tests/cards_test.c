@@ -12,10 +12,13 @@
 
 /*
  * The card area under test, with guard words on both sides, and what it has to
- * be after the call. A long area has 3 words more than any library needs. The
- * last word of each expected card follows from the last item that sets, clears,
- * needs or checks the fact, in every run: 1 where it is there and does not
- * clear it.
+ * be after the call. A long area has 3 words more than any library needs.
+ *
+ * Of each expected card, "always stands" follows from the last item that sets,
+ * clears, needs or checks the fact, in every run: 1 where it is there and does
+ * not clear it. The five words after it are some run's: the first touch sets
+ * the fact, there is none on the first side, there is none on the last side,
+ * the last such item clears it, there is no such item.
  */
 enum {
     CARD = DULIMOVEN_CARD_WORDS,
@@ -47,6 +50,10 @@ static void expect(size_t sequence, const uint64_t *card)
         static const uint64_t card[CARD] = {__VA_ARGS__}; \
         expect(sequence, card);                           \
     } while (0)
+
+/* "Without a run all words are 0." */
+#define EXPECT_BLANK(sequence) \
+    EXPECT(sequence, 0, 0, 0, 0, 0, 0, 0, 0, 0, 0, 0, 0, 0)
 
 /* Calls with an area of `length` words; compares the answer and every word. */
 static void cards(const char *name, size_t length, uint64_t expected)
@@ -81,16 +88,16 @@ static void expect_l(void)
 
 /*
  * L, "in L's sample the areas become one word too few and just enough": its
- * three cards have 24 words, so 23 words get 8 and 24 suffice. Every length
- * from 0 to 28: a shorter area stays as it was, a longer one keeps its last
+ * three cards have 39 words, so 38 words get 8 and 39 suffice. Every length
+ * from 0 to 43: a shorter area stays as it was, a longer one keeps its last
  * words.
  */
 static void areas_of_l(void)
 {
-    size_t enough = 24;
+    size_t enough = 39;
     size_t length;
     build(library_l, L_SUM);
-    hold("three cards of eight words", L_SEQUENCES * CARD == enough);
+    hold("three cards of thirteen words", L_SEQUENCES * CARD == enough);
     for (length = 0; length < enough; length++) {
         lend();
         cards("L, an area that is too short", length, REFUSED(8, 0));
@@ -180,14 +187,14 @@ static void columns(void)
     /* runs: set. May and always set; one fact can change, and stands. */
     BUILD(HEAD(1, 3, 1), STEPS, SEQUENCE(0), ALTERNATIVE, SET);
     lend();
-    EXPECT(0, 0x101, 0, 0, 1, 0, 1, 0, 1);
+    EXPECT(0, 0x101, 0, 0, 1, 0, 1, 0, 1, 1, 0, 0, 0, 0);
     cards("<set>", CARD, 1);
 
     /* the empty alternative that a hand-written card overlooked: not always,
        and its run has no item */
     BUILD(HEAD(1, 3, 1), STEPS, SEQUENCE(0), ALTERNATIVE, SET, ALTERNATIVE);
     lend();
-    EXPECT(0, 0x103, 0, 0, 1, 0, 0, 0, 0);
+    EXPECT(0, 0x103, 0, 0, 1, 0, 0, 0, 0, 1, 1, 1, 0, 1);
     cards("<set>, <>", CARD, 1);
 
     /* a run with steps that never touches the fact's value: flags bit 1 is 0,
@@ -195,7 +202,7 @@ static void columns(void)
     BUILD(HEAD(1, 3, 1), STEPS,
           SEQUENCE(0), ALTERNATIVE, SET, ALTERNATIVE, NEED);
     lend();
-    EXPECT(0, 0x101, 0, 1, 1, 0, 0, 0, 1);
+    EXPECT(0, 0x101, 0, 1, 1, 0, 0, 0, 1, 1, 0, 1, 0, 0);
     cards("<set>, <need>", CARD, 1);
 
     /* the last touch decides on the one side, the first on the other; the last
@@ -204,21 +211,21 @@ static void columns(void)
           SEQUENCE(0), ALTERNATIVE, NEED, SET, CLEAR,
           SEQUENCE(1), ALTERNATIVE, SET, NEED);
     lend();
-    EXPECT(0, 0x101, 1, 1, 0, 1, 0, 1, 0);
-    EXPECT(1, 0x101, 0, 0, 1, 0, 1, 0, 1);
+    EXPECT(0, 0x101, 1, 1, 0, 1, 0, 1, 0, 0, 0, 0, 1, 0);
+    EXPECT(1, 0x101, 0, 0, 1, 0, 1, 0, 1, 1, 0, 0, 0, 0);
     cards("<need, set, clear>; <set, need>", 2 * CARD, 2);
 
     /* needed first, cleared last, and the need is the last item that names the
        fact, though no run executes */
     BUILD(HEAD(1, 3, 1), STEPS, SEQUENCE(0), ALTERNATIVE, CLEAR, NEED);
     lend();
-    EXPECT(0, 0x101, 1, 1, 0, 1, 0, 1, 1);
+    EXPECT(0, 0x101, 1, 1, 0, 1, 0, 1, 1, 0, 0, 0, 0, 0);
     cards("<clear, need>", CARD, 1);
 
     /* the empty run alone */
     BUILD(HEAD(1, 0, 1), SEQUENCE(0), ALTERNATIVE, CALL(0), ALTERNATIVE);
     lend();
-    EXPECT(0, 3, 0, 0, 0, 0, 0, 0, 0);
+    EXPECT(0, 3, 0, 0, 0, 0, 0, 0, 0, 0, 1, 1, 0, 1);
     cards("<itself>, <>", CARD, 1);
 
     /* sequence 1 is endless: its caller's first alternative gives no run */
@@ -226,8 +233,8 @@ static void columns(void)
           SEQUENCE(0), ALTERNATIVE, SET, CALL(1), ALTERNATIVE, CLEAR,
           SEQUENCE(1), ALTERNATIVE, CALL(1));
     lend();
-    EXPECT(0, 0x101, 0, 0, 0, 1, 0, 1, 0);
-    EXPECT(1, 0, 0, 0, 0, 0, 0, 0, 0);
+    EXPECT(0, 0x101, 0, 0, 0, 1, 0, 1, 0, 0, 1, 0, 1, 0);
+    EXPECT_BLANK(1);
     cards("<set, endless>, <clear>", 2 * CARD, 2);
 
     /* a sequence without alternative has no run */
@@ -235,18 +242,21 @@ static void columns(void)
           SEQUENCE(0),
           SEQUENCE(1), ALTERNATIVE, SET, CALL(0));
     lend();
-    EXPECT(0, 0, 0, 0, 0, 0, 0, 0, 0);
-    EXPECT(1, 0, 0, 0, 0, 0, 0, 0, 0);
+    EXPECT_BLANK(0);
+    EXPECT_BLANK(1);
     cards("no alternative, and its caller", 2 * CARD, 2);
 
-    /* fact 63 is bit 63; the facts that are set stand, fact 0 does not */
+    /* fact 63 is bit 63; the facts that are set stand, fact 0 does not. Fact 63
+       is needed first and 62 set; the clear of fact 0 is no touch there. */
     BUILD(HEAD(64, 1, 1),
           STEP(0), NEEDS(63), SETS(62), SETS(63), CLEARS(0),
           SEQUENCE(0), ALTERNATIVE, DO(0));
     lend();
     EXPECT(0, 0x301, UINT64_C(0x8000000000000000),
            UINT64_C(0x8000000000000000), UINT64_C(0xc000000000000000), 1,
-           UINT64_C(0xc000000000000000), 1, UINT64_C(0xc000000000000000));
+           UINT64_C(0xc000000000000000), 1, UINT64_C(0xc000000000000000),
+           UINT64_C(0x4000000000000000), UINT64_C(0x3fffffffffffffff),
+           UINT64_C(0x3ffffffffffffffe), 1, UINT64_C(0x3ffffffffffffffe));
     cards("facts 62 and 63", CARD, 1);
 
     /* the same step, and it clears a fact that it sets */
@@ -267,21 +277,21 @@ static void dead(void)
        last, or no item names the fact. */
     BUILD_DEAD(dead_places);
     lend();
-    EXPECT(0, 0x101, 0, 0, 0, 1, 0, 1, 0);
-    EXPECT(1, 0, 0, 0, 0, 0, 0, 0, 0);
-    EXPECT(2, 0, 0, 0, 0, 0, 0, 0, 0);
-    EXPECT(3, 3, 0, 0, 0, 0, 0, 0, 0);
-    EXPECT(4, 0x101, 0, 0, 0, 1, 0, 1, 0);
+    EXPECT(0, 0x101, 0, 0, 0, 1, 0, 1, 0, 0, 1, 0, 1, 0);
+    EXPECT_BLANK(1);
+    EXPECT_BLANK(2);
+    EXPECT(3, 3, 0, 0, 0, 0, 0, 0, 0, 0, 1, 1, 0, 1);
+    EXPECT(4, 0x101, 0, 0, 0, 1, 0, 1, 0, 0, 1, 0, 1, 0);
     cards("dead places", 5 * CARD, 5);
 
     /* sequence 3 has the runs <set> and <>; 0 and 2 have them by <3>, and 1 by
        <0>. The only step sets, and <> has no item. */
     BUILD_DEAD(found_later);
     lend();
-    EXPECT(0, 0x103, 0, 0, 1, 0, 0, 0, 0);
-    EXPECT(1, 0x103, 0, 0, 1, 0, 0, 0, 0);
-    EXPECT(2, 0x103, 0, 0, 1, 0, 0, 0, 0);
-    EXPECT(3, 0x103, 0, 0, 1, 0, 0, 0, 0);
+    EXPECT(0, 0x103, 0, 0, 1, 0, 0, 0, 0, 1, 1, 1, 0, 1);
+    EXPECT(1, 0x103, 0, 0, 1, 0, 0, 0, 0, 1, 1, 1, 0, 1);
+    EXPECT(2, 0x103, 0, 0, 1, 0, 0, 0, 0, 1, 1, 1, 0, 1);
+    EXPECT(3, 0x103, 0, 0, 1, 0, 0, 0, 0, 1, 1, 1, 0, 1);
     cards("found later", 4 * CARD, 4);
 
     /* sequences 0 and 2 have the run <clear> alone, 1 has none */
@@ -291,9 +301,9 @@ static void dead(void)
                  (unsigned)left);
         build_left(left);
         lend();
-        EXPECT(0, 0x101, 0, 0, 0, 1, 0, 1, 0);
-        EXPECT(1, 0, 0, 0, 0, 0, 0, 0, 0);
-        EXPECT(2, 0x101, 0, 0, 0, 1, 0, 1, 0);
+        EXPECT(0, 0x101, 0, 0, 0, 1, 0, 1, 0, 0, 1, 0, 1, 0);
+        EXPECT_BLANK(1);
+        EXPECT(2, 0x101, 0, 0, 0, 1, 0, 1, 0, 0, 1, 0, 1, 0);
         cards(name, 3 * CARD, 3);
     }
 }
@@ -315,7 +325,8 @@ static void with_checks(void)
 
 /*
  * All 64 facts set by 64 steps: the count is 64, in bits 8 to 14. None always
- * stands, since each run names one alone.
+ * stands, since each run names one alone: each fact is first set by one run,
+ * and left and not named by the 63 others.
  */
 static void all_facts(void)
 {
@@ -329,7 +340,8 @@ static void all_facts(void)
         PUT(ALTERNATIVE, DO(f));
     put_sum();
     lend();
-    EXPECT(0, 0x4001, 0, 0, UINT64_C(0xffffffffffffffff), 0, 0, 0, 0);
+    EXPECT(0, 0x4001, 0, 0, ALL_FACTS, 0, 0, 0, 0, ALL_FACTS, ALL_FACTS,
+           ALL_FACTS, 0, ALL_FACTS);
     cards("64 facts, each set by one alternative", CARD, 1);
     hold("a run", dulimoven_has_run(card_area + GUARD) == 1);
     hold("no empty run", dulimoven_has_empty_run(card_area + GUARD) == 0);
@@ -354,7 +366,7 @@ static void deep(const char *name, int up)
     lend();
     cards(name, MOST_C * CARD - 1, REFUSED(8, 0));
     for (c = 0; c < MOST_C; c++)
-        EXPECT(c, 0x101, 0, 0, 1, 0, 1, 0, 1);
+        EXPECT(c, 0x101, 0, 0, 1, 0, 1, 0, 1, 1, 0, 0, 0, 0);
     cards(name, LONG_AREA, MOST_C);
 }
 
@@ -365,7 +377,11 @@ static void names(void)
              DULIMOVEN_MAY_NEED == 2 && DULIMOVEN_MAY_SET == 3 &&
              DULIMOVEN_MAY_CLEAR == 4 && DULIMOVEN_ALWAYS_SET == 5 &&
              DULIMOVEN_ALWAYS_CLEARED == 6 && DULIMOVEN_ALWAYS_STANDS == 7 &&
-             DULIMOVEN_CARD_WORDS == 8);
+             DULIMOVEN_MAY_FIRST_SET == 8 &&
+             DULIMOVEN_MAY_FIRST_UNTOUCHED == 9 &&
+             DULIMOVEN_MAY_LAST_UNTOUCHED == 10 &&
+             DULIMOVEN_MAY_END_CLEARED == 11 &&
+             DULIMOVEN_MAY_END_UNMENTIONED == 12 && DULIMOVEN_CARD_WORDS == 13);
     hold("sequence 0 of L has an empty run",
          dulimoven_has_empty_run(cards_of_l[0]) == 1);
     hold("sequence 1 of L can change two facts",

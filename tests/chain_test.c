@@ -1147,7 +1147,8 @@ static void names(void)
     static const uint32_t first[2] = {0xa01ff9ff, 0xb0001ff8};
     static const uint32_t second[2] = {0xa0000100, 0xc0000000};
     static const uint64_t card[DULIMOVEN_CARD_WORDS] = {
-        0x4003, 0, 0, UINT64_C(0x8000000000000001), 0, 0, 0, 0};
+        0x4003, 0, 0, UINT64_C(0x8000000000000001), 0, 0, 0, 0, 0, 0, 0, 0,
+        2};
     hold("the questions",
          DULIMOVEN_LAST_SET == 0 && DULIMOVEN_LAST_CLEARED == 1 &&
              DULIMOVEN_LAST_UNTOUCHED == 2 && DULIMOVEN_FIRST_NEEDED == 3 &&
@@ -1162,7 +1163,7 @@ static void names(void)
     hold("the bounds",
          DULIMOVEN_MOST_IMAGE_WORDS == 8192 && DULIMOVEN_MOST_FACTS == 64 &&
              DULIMOVEN_MOST_STEPS == 1024 && DULIMOVEN_MOST_SEQUENCES == 256 &&
-             DULIMOVEN_MOST_CARD_WORDS == 8 * 256 &&
+             DULIMOVEN_MOST_CARD_WORDS == 13 * 256 &&
              DULIMOVEN_MOST_CHAIN_WORDS == 2 * 256);
     /* 0x1ff9ff is 8185 * 2^8 + 255 */
     hold("sequence 255", dulimoven_link_sequence(first) == 255);
@@ -1183,13 +1184,19 @@ static void names(void)
     hold("a run, an empty one, 64 facts",
          dulimoven_has_run(card) == 1 && dulimoven_has_empty_run(card) == 1 &&
              dulimoven_changeable(card) == 64);
-    hold("facts 0 and 63", dulimoven_has_fact(card[3], 0) == 1 &&
-                               dulimoven_has_fact(card[3], 63) == 1);
+    hold("facts 0 and 63",
+         dulimoven_card_has(card, DULIMOVEN_MAY_SET, 0) == 1 &&
+             dulimoven_card_has(card, DULIMOVEN_MAY_SET, 63) == 1);
     hold("no fact 1, 62, 64",
-         dulimoven_has_fact(card[3], 1) == 0 &&
-             dulimoven_has_fact(card[3], 62) == 0 &&
-             dulimoven_has_fact(card[3], 64) == 0 &&
-             dulimoven_has_fact(card[3], UINT64_C(0xffffffffffffffff)) == 0);
+         dulimoven_card_has(card, DULIMOVEN_MAY_SET, 1) == 0 &&
+             dulimoven_card_has(card, DULIMOVEN_MAY_SET, 62) == 0 &&
+             dulimoven_card_has(card, DULIMOVEN_MAY_SET, 64) == 0 &&
+             dulimoven_card_has(card, DULIMOVEN_MAY_SET,
+                                UINT64_C(0xffffffffffffffff)) == 0);
+    hold("fact 1 in the last column, and not in the one before it",
+         dulimoven_card_has(card, DULIMOVEN_MAY_END_UNMENTIONED, 1) == 1 &&
+             dulimoven_card_has(card, DULIMOVEN_MAY_END_UNMENTIONED, 0) == 0 &&
+             dulimoven_card_has(card, DULIMOVEN_MAY_END_CLEARED, 1) == 0);
 }
 
 int main(void)

@@ -6,7 +6,10 @@
  * side a check counts as a need [..]" On the last side it touches nothing.
  * "Always stands" is "a run exists, and in every run the last item that sets,
  * clears, needs or checks the fact is there and does not clear it. A step that
- * needs and clears counts as clearing." C11 and C++17.
+ * needs and clears counts as clearing." Request 5 goes on with five columns:
+ * "some run first sets it; some run leaves it untouched on the first side; on
+ * the last side; some run's last item under Item 4's rule clears it; some run
+ * has no such item." C11 and C++17.
  */
 #ifndef DULIMOVEN_TESTS_CHECKS_H
 #define DULIMOVEN_TESTS_CHECKS_H
@@ -54,25 +57,25 @@ static const uint32_t single_words[] = {
 static const uint64_t single_cards[][DULIMOVEN_CARD_WORDS] = {
     /* <check>: the run has no step, so it is empty; the check is a need on the
        first side and no touch on the last, and the fact stands after it */
-    {3, 1, 1, 0, 0, 0, 0, 1},
+    {3, 1, 1, 0, 0, 0, 0, 1, 0, 0, 1, 0, 0},
     /* <set, check>: the set is the first touch and the last one */
-    {0x101, 0, 0, 1, 0, 1, 0, 1},
+    {0x101, 0, 0, 1, 0, 1, 0, 1, 1, 0, 0, 0, 0},
     /* <clear, check>: a clear is no touch on the first side, so the check is
        first; last the clear. The check is the last item that names the fact:
        no run executes. */
-    {0x101, 1, 1, 0, 1, 0, 1, 1},
+    {0x101, 1, 1, 0, 1, 0, 1, 1, 0, 0, 0, 0, 0},
     /* <check, clear>: the same sides, and the clear is the last item */
-    {0x101, 1, 1, 0, 1, 0, 1, 0},
+    {0x101, 1, 1, 0, 1, 0, 1, 0, 0, 0, 0, 1, 0},
     /* <check, set>: first the need, last the set */
-    {0x101, 1, 1, 1, 0, 1, 0, 1},
+    {0x101, 1, 1, 1, 0, 1, 0, 1, 0, 0, 0, 0, 0},
     /* <needs and clears>: counts as clearing */
-    {0x101, 1, 1, 0, 1, 0, 1, 0},
+    {0x101, 1, 1, 0, 1, 0, 1, 0, 0, 0, 0, 1, 0},
     /* <need>: no touch on the last side, and the fact stands after it */
-    {1, 1, 1, 0, 0, 0, 0, 1},
+    {1, 1, 1, 0, 0, 0, 0, 1, 0, 0, 1, 0, 0},
     /* <check, other>: it has a step, so it is not empty */
-    {1, 1, 1, 0, 0, 0, 0, 1},
-    /* <other>: no item names the fact */
-    {1, 0, 0, 0, 0, 0, 0, 0}};
+    {1, 1, 1, 0, 0, 0, 0, 1, 0, 0, 1, 0, 0},
+    /* <other>: no item names the fact, which both sides leave */
+    {1, 0, 0, 0, 0, 0, 0, 0, 0, 1, 1, 0, 1}};
 
 /*
  * Two facts; step 0 sets 0, step 1 needs 0 and sets 1. Sequence 0 is <step 0>,
@@ -94,17 +97,19 @@ static const uint32_t nested_words[] = {
     0xf014011a};
 
 static const uint64_t nested_cards[][DULIMOVEN_CARD_WORDS] = {
-    /* fact 0 is set or checked, so it may be needed and set, and stands */
-    {0x103, 0, 1, 1, 0, 0, 0, 1},
+    /* fact 0 is set or checked, so it may be needed and set, and stands; the
+       check leaves it on the last side. Fact 1 is not named. */
+    {0x103, 0, 1, 1, 0, 0, 0, 1, 1, 2, 3, 0, 2},
     /* after either step 1 needs fact 0, which stands then, and sets fact 1. The
-       first touch of fact 0 is sequence 0's, a set or a need. */
-    {0x201, 0, 1, 3, 0, 2, 0, 3},
+       first touch of fact 0 is sequence 0's, a set or a need; where it is the
+       check's, nothing touches fact 0 on the last side. */
+    {0x201, 0, 1, 3, 0, 2, 0, 3, 3, 0, 1, 0, 0},
     /* fact 0 is not named in <check 1>, and fact 1 not in sequence 0 */
-    {0x103, 0, 3, 1, 0, 0, 0, 0},
+    {0x103, 0, 3, 1, 0, 0, 0, 0, 1, 3, 3, 0, 3},
     /* two checks of fact 0 and more: runs without number, and all are empty */
-    {3, 1, 1, 0, 0, 0, 0, 1},
+    {3, 1, 1, 0, 0, 0, 0, 1, 0, 2, 3, 0, 2},
     /* any number of checks of fact 1, none among them */
-    {3, 0, 2, 0, 0, 0, 0, 0}};
+    {3, 0, 2, 0, 0, 0, 0, 0, 0, 3, 3, 0, 3}};
 
 /*
  * 64 facts. Sequence 0 is <check 63>, <set 63>; 1 is <check 0, check 63>.
@@ -120,12 +125,18 @@ static const uint32_t widest_words[] = {
     0xf0080187};
 
 #define FACT_63 UINT64_C(0x8000000000000000)
+#define ALL_FACTS UINT64_C(0xffffffffffffffff)
 
 static const uint64_t widest_cards[][DULIMOVEN_CARD_WORDS] = {
-    /* fact 63 is needed and not touched last, or set; it stands after both */
-    {0x103, 0, FACT_63, FACT_63, 0, 0, 0, FACT_63},
+    /* fact 63 is needed and not touched last, or set; it stands after both.
+       The others are not named. */
+    {0x103, 0, FACT_63, FACT_63, 0, 0, 0, FACT_63,
+     FACT_63, UINT64_C(0x7fffffffffffffff), ALL_FACTS, 0,
+     UINT64_C(0x7fffffffffffffff)},
     /* facts 0 and 63 are needed and stand, and the run is empty */
-    {3, FACT_63 | 1, FACT_63 | 1, 0, 0, 0, 0, FACT_63 | 1}};
+    {3, FACT_63 | 1, FACT_63 | 1, 0, 0, 0, 0, FACT_63 | 1,
+     0, UINT64_C(0x7ffffffffffffffe), ALL_FACTS, 0,
+     UINT64_C(0x7ffffffffffffffe)}};
 
 /*
  * The library of examples/skip.image. Request sets fact 0, unit needs 0 and
@@ -139,17 +150,18 @@ static const uint32_t skip_words[] = {SKIP, 0xf0100229};
 static const uint64_t skip_cards[][DULIMOVEN_CARD_WORDS] = {
     /* <request, unit, release> sets fact 1 and clears 0; <check 1> is empty,
        needs fact 1 and touches none on the last side. Fact 1 is set or checked
-       last, and fact 0 is cleared or not named. */
-    {0x203, 0, 2, 2, 1, 0, 0, 2},
+       last, and fact 0 is cleared or not named. The first run sets facts 0
+       and 1 first and does not name 2, the second names neither 0 nor 2. */
+    {0x203, 0, 2, 2, 1, 0, 0, 2, 3, 5, 7, 1, 5},
     /* the first of these runs alone */
-    {0x201, 0, 0, 2, 1, 2, 1, 2},
+    {0x201, 0, 0, 2, 1, 2, 1, 2, 3, 4, 4, 1, 4},
     /* after either request, measure, release: measure needs fact 1 and sets 2,
        which nothing names after it, and release clears fact 0. Fact 1 is first
        touched in sequence 0, by a need or a set. Its last touch is there too:
        set or none. */
-    {0x301, 0, 2, 6, 1, 4, 1, 6},
+    {0x301, 0, 2, 6, 1, 4, 1, 6, 7, 0, 2, 1, 0},
     /* the same after sequence 1, which sets fact 1 */
-    {0x301, 0, 0, 6, 1, 6, 1, 6}};
+    {0x301, 0, 0, 6, 1, 6, 1, 6, 7, 0, 0, 1, 0}};
 
 /*
  * Checks before, between and after the other entries of an alternative that
@@ -165,7 +177,7 @@ static const uint32_t around_words[] = {
     0xf004008f};
 
 static const uint64_t around_cards[][DULIMOVEN_CARD_WORDS] = {
-    {0, 0, 0, 0, 0, 0, 0, 0}};
+    {0, 0, 0, 0, 0, 0, 0, 0, 0, 0, 0, 0, 0}};
 
 #define CHECKS(title, words, cards) \
     {title, words, COUNT(words), cards, COUNT(cards)}

@@ -2,18 +2,26 @@
  * Compares the library with the second engine over libraries made from a seed
  * (tests/second), of sixteen kinds.
  *
- * The card words are compared with those of the second engine, which works by
- * the algorithms printed in source document 001. The chain call is asked every
- * question (of the largest libraries about some facts and some sequences), and
- * each link is held against the words of the library; plain rounds say how many
- * links are the fewest, what depth is the least and which choice is the newest.
- * The rounds are held against the second engine's columns too. The check is
- * compared with the second engine's over each library, and over the same with
- * some damage. A library with a pulse must get refusal 13 from all calls, at
- * the clear word; with some damage beside it the check is compared again.
+ * The first eight words of a card are compared with those of the second engine,
+ * which works by the algorithms printed in source document 001. The chain call
+ * is asked every question (of the largest libraries about some facts and some
+ * sequences), and each link is held against the words of the library; plain
+ * rounds say how many links are the fewest, what depth is the least and which
+ * choice is the newest. The rounds are held against the second engine's columns
+ * too, and of the facts asked about the last five words of a card against the
+ * rounds. The check is compared with the second engine's over each library, and
+ * over the same with some damage. A library with a pulse must get refusal 13
+ * from all calls, at the clear word; with some damage beside it the check is
+ * compared again.
  *
- * What it would catch: a card word that the algorithms do not give, or a word
- * changed past the cards; "none" where a run has the outcome, or a chain where
+ * To each library with room for it a sequence is added with one alternative,
+ * which names a list of 0 to 5 sequences. The list's card by dulimoven_list,
+ * over the cards of the library without it, must be the card of that sequence,
+ * and the other sequences must have the same cards with it.
+ *
+ * What it would catch: a card word that the algorithms or the rounds do not
+ * give, or a word changed past the cards; a list's card that is not that of the
+ * added sequence; "none" where a run has the outcome, or a chain where
  * none has; a link about another sequence, or with an alternative or a position
  * that does not exist; one whose entry is not a step or a check with the touch
  * or the sequence of the next link, or beside whose entry another touches the
@@ -205,7 +213,7 @@ static const uint64_t first_seed = UINT64_C(0x2545f4914f6cdd1d);
  */
 struct tally {
     uint64_t libraries, sequences, card_words, checks, pulses, pulses_damaged,
-        questions, chains, links, differences;
+        questions, chains, links, lists, members, differences;
 };
 
 static struct tally tally;
@@ -262,13 +270,15 @@ static void differs(const char *what)
         printf("%s: %s\n", library_name, what);
 }
 
-static void word_differs(size_t i, uint64_t word, uint64_t second)
+/* `i` is the word's place in a card area, `other` what says otherwise. */
+static void word_differs(size_t i, uint64_t word, uint64_t second,
+                         const char *other)
 {
     if (is_printed())
         printf("%s, word %zu of sequence %zu's card: %" PRIx64
-               ", and %" PRIx64 " by the second engine\n",
+               ", and %" PRIx64 " by %s\n",
                library_name, i % DULIMOVEN_CARD_WORDS + 1,
-               i / DULIMOVEN_CARD_WORDS, word, second);
+               i / DULIMOVEN_CARD_WORDS, word, second, other);
 }
 
 static void chain_differs(uint32_t sequence, uint32_t question, uint32_t fact,
@@ -355,10 +365,18 @@ static uint64_t second[CARD_AREA];
 /* What each byte of a card area holds before the call. */
 enum { CARDS_BEFORE = 0xa5 };
 
+/* The last five words of a card have no fact from F upward. */
+static void try_width(size_t i)
+{
+    uint64_t all = ~UINT64_C(0) >> (64 - facts_of(image.words[0]));
+    if ((cards[i] & ~all) != 0)
+        word_differs(i, cards[i], cards[i] & all, "facts below F alone");
+}
+
 static void try_cards(void)
 {
     uint32_t sequences = sequences_of(image.words[0]);
-    size_t i;
+    size_t i, last = (size_t)DULIMOVEN_CARD_WORDS * sequences;
     memset(cards, CARDS_BEFORE, sizeof cards);
     memset(second, CARDS_BEFORE, sizeof second);
     call_name = "dulimoven_cards";
@@ -369,17 +387,76 @@ static void try_cards(void)
     if (second_cards(image.words, image.length, second, CARD_AREA) != sequences)
         differs("the second engine answers another number");
     for (i = 0; i < CARD_AREA; i++)
-        if (cards[i] != second[i])
-            word_differs(i, cards[i], second[i]);
+        if (i < last && i % DULIMOVEN_CARD_WORDS >= SECOND_WORDS)
+            try_width(i);
+        else if (cards[i] != second[i])
+            word_differs(i, cards[i], second[i], "the second engine");
     tally.sequences += sequences;
-    tally.card_words += (size_t)DULIMOVEN_CARD_WORDS * sequences;
+    tally.card_words += last;
+}
+
+/* How many members a list has at the most. */
+enum { MOST_MEMBERS = 5 };
+
+/* The library with a sequence more: one alternative, which names the list. */
+static void add_sequence(const uint32_t *list, uint32_t count,
+                         struct image *added)
+{
+    uint32_t head = image.words[0], sequences = sequences_of(head), i;
+    image_copy(added, &image);
+    added->words[0] =
+        head_word(facts_of(head), steps_of(head), sequences + 1);
+    added->length--;
+    image_put(added, KIND_SEQUENCE, sequences);
+    image_put(added, KIND_ALTERNATIVE, 0);
+    for (i = 0; i < count; i++)
+        image_put(added, KIND_SEQUENCE_ENTRY, list[i]);
+    image_end(added);
+}
+
+/*
+ * "Over an area that the card call filled, with that library's F and C, the
+ * list's card equals that of an added sequence, limits aside, whose one
+ * alternative names the list."
+ */
+static void try_list(struct seed *seed)
+{
+    static struct image added;
+    static uint64_t with_list[CARD_AREA];
+    uint32_t list[MOST_MEMBERS], count = draw(seed, MOST_MEMBERS + 1), c;
+    uint32_t sequences = sequences_of(image.words[0]);
+    size_t i, last = (size_t)DULIMOVEN_CARD_WORDS * sequences;
+    uint64_t answer;
+    if (sequences == 0)
+        count = 0;
+    if (sequences == MOST_SEQUENCES || image.length + 2 + count > MOST_WORDS)
+        return;
+    for (c = 0; c < count; c++)
+        list[c] = draw(seed, sequences);
+    tally.lists++;
+    tally.members += count;
+    add_sequence(list, count, &added);
+    call_name = "dulimoven_cards";
+    if (dulimoven_cards(added.words, added.length, with_list, CARD_AREA) !=
+        sequences + 1)
+        differs("the card call answers another number with a list");
+    /* the list's card follows those of the library */
+    call_name = "dulimoven_list";
+    answer = dulimoven_list(facts_of(image.words[0]), sequences, cards, last,
+                            list, count, cards + last);
+    if (answer != 0)
+        differs("the list call answers another number");
+    for (i = 0; i < last + DULIMOVEN_CARD_WORDS; i++)
+        if (cards[i] != with_list[i])
+            word_differs(i, cards[i], with_list[i],
+                         "the library with the list as a sequence");
 }
 
 /* Whether a fact is in a column of a card by the second engine. */
 static int in_column(uint32_t sequence, int column, uint32_t fact)
 {
     const uint64_t *card = second + (size_t)DULIMOVEN_CARD_WORDS * sequence;
-    return dulimoven_has_fact(card[column], fact);
+    return dulimoven_card_has(card, column, fact);
 }
 
 /*
@@ -404,6 +481,26 @@ static int rounds_agree(uint32_t c, uint32_t fact)
            in_column(c, DULIMOVEN_ALWAYS_STANDS, fact) ==
                (run && !has[JUDGE_STANDING_CLEARED] &&
                 !has[JUDGE_STANDING_UNTOUCHED]);
+}
+
+/* Whether the last five words of a card are those of the judge's rounds. */
+static int last_words_agree(uint32_t c, uint32_t fact)
+{
+    static const struct {
+        int column;
+        uint32_t question;
+    } shown[] = {{DULIMOVEN_MAY_FIRST_SET, DULIMOVEN_FIRST_SET},
+                 {DULIMOVEN_MAY_FIRST_UNTOUCHED, DULIMOVEN_FIRST_UNTOUCHED},
+                 {DULIMOVEN_MAY_LAST_UNTOUCHED, DULIMOVEN_LAST_UNTOUCHED},
+                 {DULIMOVEN_MAY_END_CLEARED, JUDGE_STANDING_CLEARED},
+                 {DULIMOVEN_MAY_END_UNMENTIONED, JUDGE_STANDING_UNTOUCHED}};
+    const uint64_t *card = cards + (size_t)DULIMOVEN_CARD_WORDS * c;
+    size_t i;
+    for (i = 0; i < sizeof shown / sizeof shown[0]; i++)
+        if (dulimoven_card_has(card, shown[i].column, fact) !=
+            judge_possible(c, shown[i].question))
+            return 0;
+    return 1;
 }
 
 static void ask(uint32_t sequence, uint32_t question, uint32_t fact)
@@ -434,6 +531,9 @@ static void ask_fact(const struct trial *trial, uint32_t fact)
     for (c = 0; c < sequences; c++)
         if (!rounds_agree(c, fact))
             differs("the second engine's columns differ from the rounds");
+    for (c = 0; c < sequences; c++)
+        if (!last_words_agree(c, fact))
+            differs("the last five words of a card differ from the rounds");
     call_name = "dulimoven_chain";
     for (c = 0; c < sequences; c += trial->sequences)
         for (question = 0; question <= DULIMOVEN_FIRST_UNTOUCHED; question++)
@@ -494,7 +594,9 @@ static void try_pulse(struct seed *seed)
             DULIMOVEN_SET_AND_CLEARED;
 }
 
-static void try_library(const struct trial *trial, struct seed *seed)
+/* Lists have a seed of their own, so that the libraries do not depend on it. */
+static void try_library(const struct trial *trial, struct seed *seed,
+                        struct seed *list_seed)
 {
     uint32_t fact, n;
     begin_library();
@@ -506,6 +608,7 @@ static void try_library(const struct trial *trial, struct seed *seed)
     judge_library(image.words, image.length);
     for (fact = 0; fact < facts_of(image.words[0]); fact += trial->facts)
         ask_fact(trial, fact);
+    try_list(list_seed);
 }
 
 static void print_tally(const char *name, const struct tally *t)
@@ -513,10 +616,11 @@ static void print_tally(const char *name, const struct tally *t)
     printf("%s: libraries %" PRIu64 ", sequences %" PRIu64
            ", card words %" PRIu64 ", checks %" PRIu64 ", pulses %" PRIu64
            ", refused with 13 after damage %" PRIu64 ", questions %" PRIu64
-           ", chains %" PRIu64 ", links %" PRIu64 ", differences %" PRIu64 "\n",
+           ", chains %" PRIu64 ", links %" PRIu64 ", lists %" PRIu64
+           ", members %" PRIu64 ", differences %" PRIu64 "\n",
            name, t->libraries, t->sequences, t->card_words, t->checks,
            t->pulses, t->pulses_damaged, t->questions, t->chains, t->links,
-           t->differences);
+           t->lists, t->members, t->differences);
     fflush(stdout);
 }
 
@@ -527,12 +631,13 @@ static void print_tally(const char *name, const struct tally *t)
 static void try_kind(unsigned kind)
 {
     struct seed seed = {first_seed + kind};
+    struct seed list_seed = {first_seed - 1 - kind};
     unsigned n;
     memset(&tally, 0, sizeof tally);
     kind_name = seeded_name(kind);
     for (n = 0; n < trials[kind].libraries; n += SHARE) {
         make_library(&seed, kind, &image);
-        try_library(&trials[kind], &seed);
+        try_library(&trials[kind], &seed, &list_seed);
     }
     if (tally.chains == 0 || tally.chains == tally.questions)
         differs("no chain in any library, or no \"none\"");
@@ -552,12 +657,14 @@ static void add_tally(struct tally *total)
     total->questions += tally.questions;
     total->chains += tally.chains;
     total->links += tally.links;
+    total->lists += tally.lists;
+    total->members += tally.members;
     total->differences += tally.differences;
 }
 
 int main(void)
 {
-    struct tally total = {0, 0, 0, 0, 0, 0, 0, 0, 0, 0};
+    struct tally total = {0, 0, 0, 0, 0, 0, 0, 0, 0, 0, 0, 0};
     unsigned kind;
     signal(SIGALRM, time_is_up);
     for (kind = 0; kind < SEEDED_KINDS; kind++) {
@@ -568,6 +675,10 @@ int main(void)
         total.pulses_damaged == DAMAGES * total.pulses) {
         total.differences++;
         printf("damage hides every pulse, or none\n");
+    }
+    if (total.members == 0) {
+        total.differences++;
+        printf("no list has a member\n");
     }
     print_tally("total", &total);
     return total.differences == 0 ? 0 : 1;

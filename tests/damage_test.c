@@ -1,6 +1,6 @@
 /*
- * The three calls over damaged images and random words: no crash, the same
- * answer twice, and nothing changed but what a call writes. C11 and C++17, and
+ * The calls over damaged images and random words: no crash, the same answer
+ * twice, and nothing changed but what a call writes. C11 and C++17, and
  * built with AddressSanitizer and UndefinedBehaviorSanitizer too. Prints a line
  * for what does not hold, then a count; the exit status is 0 where all holds.
  *
@@ -11,11 +11,15 @@
  * watches.
  *
  * The answers are held against each other: a refusal of the image is the same
- * from all three, the card and the chains of a sequence say the same, and each
- * chain is of links that there can be.
+ * from all three calls that take one, the card and the chains of a sequence say
+ * the same, and each chain is of links that there can be. The list call is held
+ * against a plain loop over bits (list_model.h), over random words and over the
+ * cards of random libraries; of the breaks that list_test names it reported all
+ * but that of a member's low byte.
  */
 #define _DEFAULT_SOURCE 1
 #include "harness.h"
+#include "list_model.h"
 #include "samples.h"
 #include "setup.h"
 
@@ -41,10 +45,18 @@ static void holds(const char *what, int right)
  * Arrays of `bytes` bytes, which are whole pages: one to lend up to its end,
  * one to lend from its start.
  */
-enum { IMAGE_BYTES = 36864, CARD_BYTES = 20480, CHAIN_BYTES = 4096 };
+enum {
+    IMAGE_BYTES = 36864,
+    CARD_BYTES = 28672,
+    CHAIN_BYTES = 4096,
+    LIST_BYTES = 4096,
+    ONE_CARD_BYTES = 4096
+};
 static unsigned char *image_pages[2];
 static unsigned char *card_pages[2];
 static unsigned char *chain_pages[2];
+static unsigned char *list_pages[2];
+static unsigned char *one_card_pages[2];
 
 static unsigned char *pages(size_t bytes)
 {
@@ -120,7 +132,7 @@ static void area_stays(unsigned char *lent, int which, size_t from,
               all_pattern(guard(lent, which, length), GUARD_BYTES));
 }
 
-/* The three calls, each made twice. */
+/* The calls, each made twice. */
 static uint64_t check(void)
 {
     uint64_t answer[2];
@@ -197,6 +209,64 @@ static uint64_t chain(uint64_t sequence, uint64_t question, uint64_t fact,
     return answer[0];
 }
 
+/* Lends a copy of `bytes` bytes that a call may only read. */
+static unsigned char *lend_copy(unsigned char *const both[2], int which,
+                                size_t bytes, const void *given, size_t length)
+{
+    unsigned char *lent = lend(both, which, bytes, length);
+    if (length != 0)
+        memcpy(lent, given, length);
+    return lent;
+}
+
+static void copy_stays(unsigned char *lent, int which, const void *given,
+                       size_t length)
+{
+    holds("the cards, the list or a word beside them are changed",
+          (length == 0 || memcmp(lent, given, length) == 0) &&
+              all_pattern(guard(lent, which, length), GUARD_BYTES));
+}
+
+/* What the list call is given, and its answer, held against the model. */
+struct listed {
+    uint64_t facts, sequences;
+    const uint64_t *cards;
+    size_t cards_len;
+    const uint32_t *list;
+    size_t list_len;
+};
+
+static uint64_t list(const struct listed *l)
+{
+    uint64_t due[DULIMOVEN_CARD_WORDS];
+    uint64_t answer;
+    size_t cards_bytes = l->cards_len * sizeof l->cards[0];
+    size_t list_bytes = l->list_len * sizeof l->list[0];
+    int which;
+    memset(due, PATTERN, sizeof due);
+    answer = model_list(l->facts, l->sequences, l->cards, l->cards_len, l->list,
+                        l->list_len, due);
+    for (which = 0; which < 2; which++) {
+        unsigned char *cards_lent = lend_copy(card_pages, which, CARD_BYTES,
+                                              l->cards, cards_bytes);
+        unsigned char *list_lent = lend_copy(list_pages, which, LIST_BYTES,
+                                             l->list, list_bytes);
+        unsigned char *card =
+            lend(one_card_pages, which, ONE_CARD_BYTES, sizeof due);
+        holds("the list call and the loop over bits answer two things",
+              dulimoven_list(l->facts, l->sequences,
+                             (const uint64_t *)(void *)cards_lent, l->cards_len,
+                             (const uint32_t *)(void *)list_lent, l->list_len,
+                             (uint64_t *)(void *)card) == answer);
+        holds("the list's card is another by the loop over bits",
+              memcmp(card, due, sizeof due) == 0);
+        area_stays(card, which, sizeof due, sizeof due);
+        copy_stays(cards_lent, which, l->cards, cards_bytes);
+        copy_stays(list_lent, which, l->list, list_bytes);
+    }
+    return answer;
+}
+
 /*
  * A chain of so many links: each about a sequence that there is, the first
  * about the one asked about, none about a sequence twice; a position in every
@@ -239,6 +309,7 @@ static void agree(uint64_t sequence, uint64_t fact, uint32_t sequences)
     int run = dulimoven_has_run(card);
     int has[6];
     int column[DULIMOVEN_CARD_WORDS];
+    int cleared, unmentioned;
     uint64_t question;
     int i;
     for (question = 0; question < 6; question++) {
@@ -253,10 +324,14 @@ static void agree(uint64_t sequence, uint64_t fact, uint32_t sequences)
                   REFUSED(12, 0));
     }
     for (i = 1; i < DULIMOVEN_CARD_WORDS; i++)
-        column[i] = dulimoven_has_fact(card[i], fact);
+        column[i] = dulimoven_card_has(card, i, fact);
     holds("may need", column[DULIMOVEN_MAY_NEED] == has[3]);
     holds("may set", column[DULIMOVEN_MAY_SET] == has[0]);
     holds("may clear", column[DULIMOVEN_MAY_CLEAR] == has[1]);
+    holds("may first set", column[DULIMOVEN_MAY_FIRST_SET] == has[4]);
+    holds("may first untouched",
+          column[DULIMOVEN_MAY_FIRST_UNTOUCHED] == has[5]);
+    holds("may last untouched", column[DULIMOVEN_MAY_LAST_UNTOUCHED] == has[2]);
     holds("always needed",
           column[DULIMOVEN_ALWAYS_NEEDED] == (run && !has[4] && !has[5]));
     holds("always set",
@@ -266,15 +341,23 @@ static void agree(uint64_t sequence, uint64_t fact, uint32_t sequences)
     /* a fact that each run sets last stands after each; one that always stands
        is needed, set or checked in each run, so that none leaves it on the
        first side */
+    cleared = column[DULIMOVEN_MAY_END_CLEARED];
+    unmentioned = column[DULIMOVEN_MAY_END_UNMENTIONED];
     holds("always stands",
           column[DULIMOVEN_ALWAYS_STANDS] >= column[DULIMOVEN_ALWAYS_SET] &&
-              column[DULIMOVEN_ALWAYS_STANDS] <= (run && !has[5]));
+              column[DULIMOVEN_ALWAYS_STANDS] <= (run && !has[5]) &&
+              column[DULIMOVEN_ALWAYS_STANDS] ==
+                  (run && !cleared && !unmentioned));
+    /* a run whose last item clears the fact clears it last, and one without
+       such an item leaves it on both sides */
+    holds("may end cleared, may end unmentioned",
+          cleared <= has[1] && unmentioned <= has[2] && unmentioned <= has[5]);
     holds("a run has an outcome on each side",
           (has[0] || has[1] || has[2]) == run &&
               (has[3] || has[4] || has[5]) == run);
 }
 
-/* All three calls over the image under test. Answers what the check does. */
+/* The calls over the image under test. Answers what the check does. */
 static uint64_t all_calls(const char *name)
 {
     static const uint64_t far = UINT64_C(0x100000000);
@@ -444,7 +527,7 @@ static void random_step(uint32_t number, uint32_t facts)
                 continue;
             if (kind == KIND_SETS)
                 sets |= UINT64_C(1) << fact;
-            if (kind != KIND_CLEARS || !dulimoven_has_fact(sets, fact))
+            if (kind != KIND_CLEARS || (sets >> fact & 1) == 0)
                 put(WORD(kind, fact));
         }
 }
@@ -457,6 +540,135 @@ static uint32_t random_entry(uint32_t facts, uint32_t steps, uint32_t sequences)
     if (steps > 0 && below(2) == 0)
         return DO(below(steps));
     return CALL(below(sequences));
+}
+
+/* Members of a list: below `bound`, and of one in eight lists one not. */
+static void random_members(uint32_t *members, size_t count, uint32_t bound)
+{
+    size_t i;
+    for (i = 0; i < count; i++)
+        members[i] = bound == 0 ? 0 : below(bound);
+    if (count != 0 && below(8) == 0)
+        members[below((uint32_t)count)] =
+            below(2) == 0 ? bound : (uint32_t)random_bits() | bound;
+}
+
+/* A number of facts: those of a library, or any other. */
+static uint64_t random_facts(void)
+{
+    uint32_t form = below(8);
+    return form < 6    ? below(MOST_F + 2)
+           : form == 6 ? UINT64_C(1) << below(64)
+                       : random_bits();
+}
+
+/* Numbers of sequences that no area has room for; 13 times the last ones is a
+ * small number with wrap at 2^64. */
+static uint64_t far_sequences(void)
+{
+    uint32_t form = below(4);
+    return form == 0   ? random_bits()
+           : form == 1 ? UINT64_C(1) << (32 + below(32))
+                       : ~UINT64_C(0) / DULIMOVEN_CARD_WORDS + 1 + below(3);
+}
+
+/* The answers of lists so far: given, 8, 14 and 15. */
+static unsigned listed[4];
+
+static void count_answer(uint64_t answer)
+{
+    static const uint32_t numbers[4] = {0, 8, 14, 15};
+    unsigned i;
+    for (i = 0; i < 4; i++)
+        listed[i] += dulimoven_refusal_of(answer) == numbers[i];
+}
+
+/*
+ * Lists over the cards of the library under test, with its F and C, and with
+ * others, some of which pass the room.
+ */
+static void lists_of_library(uint32_t facts, uint32_t sequences)
+{
+    uint32_t members[8];
+    struct listed l = {facts, sequences, found_cards,
+                       (size_t)DULIMOVEN_CARD_WORDS * sequences, members,
+                       below(8)};
+    random_members(members, l.list_len, sequences);
+    count_answer(list(&l));
+    l.facts = random_facts();
+    l.sequences = below(sequences + 2);
+    count_answer(list(&l));
+}
+
+/*
+ * A word of a random card: of few bits, of many, or any. A bit that a list has
+ * must be one that all members have, or that many of them let pass.
+ */
+static uint64_t random_word(unsigned form)
+{
+    uint64_t word = random_bits();
+    if (form == 1)
+        word &= random_bits() & random_bits();
+    else if (form == 2)
+        word |= random_bits() | random_bits();
+    return word;
+}
+
+/*
+ * Lists over random words: areas of no word up to all cards, C that is theirs,
+ * near it or far off, lists of no member up to more than there may be.
+ */
+static void lists(void)
+{
+    static uint64_t words_given[DULIMOVEN_MOST_CARD_WORDS];
+    static uint32_t members[2 * DULIMOVEN_MOST_LIST];
+    unsigned n;
+    size_t i;
+    for (n = 0; n < 6000; n++) {
+        int large = n % 16 == 0;
+        uint32_t cards_there = below(large ? MOST_C + 1 : 6);
+        struct listed l = {random_facts(), cards_there, words_given,
+                           (size_t)DULIMOVEN_CARD_WORDS * cards_there, members,
+                           below(large ? COUNT(members) + 1 : 6)};
+        unsigned form = below(3);
+        image_name = "random cards";
+        image_number++;
+        for (i = 0; i < l.cards_len; i++)
+            words_given[i] = random_word(form);
+        /* most members have a run */
+        for (i = 0; i < cards_there; i++)
+            words_given[DULIMOVEN_CARD_WORDS * i] |= below(8) != 0;
+        switch (below(8)) {
+        case 0:
+            /* a word more or less */
+            l.cards_len += l.cards_len == 0 || below(2) == 0 ? 1 : (size_t)-1;
+            if (l.cards_len > DULIMOVEN_MOST_CARD_WORDS)
+                l.cards_len = DULIMOVEN_MOST_CARD_WORDS;
+            break;
+        case 1:
+            /* a sequence more or less */
+            l.sequences += below(2) == 0 ? 1 : ~UINT64_C(0);
+            break;
+        case 2:
+            l.sequences = far_sequences();
+            break;
+        case 3:
+            /* the most members, one less or one more */
+            if (large)
+                l.list_len = DULIMOVEN_MOST_LIST - 1 + below(3);
+            break;
+        }
+        random_members(members, l.list_len, cards_there);
+        count_answer(list(&l));
+    }
+}
+
+/* Each answer, over random words and over libraries, came often. */
+static void all_answers(void)
+{
+    unsigned i;
+    for (i = 0; i < 4; i++)
+        holds("an answer of the list call is rare", listed[i] >= 50);
 }
 
 /*
@@ -486,6 +698,7 @@ static void libraries(void)
         put_sum();
         holds("a library is refused",
               all_calls("a random library") == ACCEPTED(f, a, c));
+        lists_of_library(f, c);
         *word_at(below((uint32_t)words - 1)) ^= 1u << below(32);
         sum_again();
         all_calls("a damaged random library");
@@ -499,6 +712,8 @@ int main(void)
         image_pages[which] = pages(IMAGE_BYTES);
         card_pages[which] = pages(CARD_BYTES);
         chain_pages[which] = pages(CHAIN_BYTES);
+        list_pages[which] = pages(LIST_BYTES);
+        one_card_pages[which] = pages(ONE_CARD_BYTES);
     }
     nibbles("L", library_l, L_SUM);
     nibbles("poll.image", poll, COUNT(poll));
@@ -506,6 +721,8 @@ int main(void)
     pulse();
     noise();
     libraries();
+    lists();
+    all_answers();
     printf("damage_test: %u checks, %u failed\n", ran, failed);
     return failed == 0 ? 0 : 1;
 }

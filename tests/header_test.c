@@ -9,17 +9,29 @@
 
 #include <assert.h>
 
-/* 256 sequences at most, 2 words a link (document 01) and 8 words a card
-   (document 02, request 4): 256 * 8 is 2048 */
-static_assert(DULIMOVEN_MOST_SEQUENCES * DULIMOVEN_CARD_WORDS == 2048, "");
-static_assert(DULIMOVEN_MOST_CARD_WORDS == 2048, "");
+/* 256 sequences at most, 2 words a link (document 01) and 13 words a card
+   (document 02, request 5): 256 * 13 is 3328 */
+static_assert(DULIMOVEN_MOST_SEQUENCES * DULIMOVEN_CARD_WORDS == 3328, "");
+static_assert(DULIMOVEN_MOST_CARD_WORDS == 3328, "");
 static_assert(DULIMOVEN_MOST_SEQUENCES * DULIMOVEN_LINK_WORDS == 512, "");
 static_assert(DULIMOVEN_MOST_CHAIN_WORDS == 512, "");
 
-/* "may set" of sequence 1: after the 8 words of sequence 0 the fourth word, and
-   "always stands" is the last word of its card */
-static_assert(DULIMOVEN_CARD_WORDS + DULIMOVEN_MAY_SET == 11, "");
-static_assert(DULIMOVEN_ALWAYS_STANDS + 1 == DULIMOVEN_CARD_WORDS, "");
+/* "may set" of sequence 1: after the 13 words of sequence 0 the fourth word,
+   and "may end unmentioned" is the last word of its card */
+static_assert(DULIMOVEN_CARD_WORDS + DULIMOVEN_MAY_SET == 16, "");
+static_assert(DULIMOVEN_MAY_END_UNMENTIONED + 1 == DULIMOVEN_CARD_WORDS, "");
+
+/* the words of request 5 follow "always stands", in its order */
+static_assert(DULIMOVEN_MAY_FIRST_SET == 8 &&
+                  DULIMOVEN_MAY_FIRST_UNTOUCHED == 9 &&
+                  DULIMOVEN_MAY_LAST_UNTOUCHED == 10 &&
+                  DULIMOVEN_MAY_END_CLEARED == 11 &&
+                  DULIMOVEN_MAY_END_UNMENTIONED == 12,
+              "");
+
+/* "a list of up to 256 sequences", and its refusals */
+static_assert(DULIMOVEN_MOST_LIST == 256, "");
+static_assert(DULIMOVEN_LIST_LENGTH == 14 && DULIMOVEN_MEMBER == 15, "");
 
 /* the kinds of documents 01 and 02; 10 to 12 are a chain's, 14 is none yet */
 static_assert(DULIMOVEN_KIND_HEAD == 1 && DULIMOVEN_KIND_NEEDS == 2 &&
@@ -36,9 +48,9 @@ static_assert(DULIMOVEN_KIND_STEP_ENTRY == 8 &&
 /* the second word of the last link that there can be: 511 */
 static_assert(DULIMOVEN_MOST_CHAIN_WORDS - DULIMOVEN_LINK_WORDS + 1 == 511, "");
 
-/* format 2, which has kind 13 and a card's eighth word, and no change since
-   then; a preprocessor can tell */
+/* format 3, which has the five last words of a card, and no change since then;
+   a preprocessor can tell */
 static_assert(DULIMOVEN_VERSION / 1000 == DULIMOVEN_FORMAT, "");
-#if DULIMOVEN_FORMAT != 2 || DULIMOVEN_VERSION != 2000
-#error "the format is 2, the version 2000"
+#if DULIMOVEN_FORMAT != 3 || DULIMOVEN_VERSION != 3000
+#error "the format is 3, the version 3000"
 #endif

@@ -19,12 +19,10 @@
  *
  * Tried: on a copy, bit 0 of each of the eleven words that are expected of a
  * sequence was changed, one at a time, for the 241 sequences outside long.h. Of
- * the 2,651 changes 2,602 were reported, 1,881 by a card, 1,446 by a question.
- * 290 showed in questions and no card: as first set of sequence 2 of the ring
- * of four in calls, since the fact may stay untouched there too. 431 showed
- * only in that no runs have such outcomes. The 49 that were not reported are
- * all in the last three words, of which a card has only whether "cleared" and
- * "not named" are both impossible.
+ * the 2,651 changes 2,620 were reported, 2,345 by a card, and 1,446 of these by
+ * a question too. 275 showed only in that no runs have such outcomes. The 31
+ * that were not reported are all in "it leaves it standing", which is the one
+ * outcome without a column.
  */
 #include "harness.h"
 #include "samples.h"
@@ -136,7 +134,7 @@ static uint64_t ones(uint64_t column)
 
 /*
  * The card of a sequence with the outcomes `o`. Document 01, "The card", and
- * document 02, request 4:
+ * document 02, requests 4 and 5:
  *
  * "1. Flags: bit 0, a run exists; bit 1, an empty run exists; bits 8 to 14, the
  * number of facts that are in "may set" or in "may clear"."
@@ -151,6 +149,9 @@ static uint64_t ones(uint64_t column)
  * "an eighth word, "always stands": a run exists, and in every run the last
  * item that sets, clears, needs or checks the fact is there and does not clear
  * it." So in none it clears it, and none is without such an item.
+ * "five columns, in this order: some run first sets it; some run leaves it
+ * untouched on the first side; on the last side; some run's last item under
+ * Item 4's rule clears it; some run has no such item."
  * Without a run all words are 0: `o` has no fact in any word then.
  */
 static void card_of(const uint64_t *o, uint64_t *card)
@@ -164,6 +165,11 @@ static void card_of(const uint64_t *o, uint64_t *card)
     card[5] = o[RUN] & ~o[LAST_CLEARED] & ~o[LAST_UNTOUCHED];
     card[6] = o[RUN] & ~o[LAST_SET] & ~o[LAST_UNTOUCHED];
     card[7] = o[RUN] & ~o[CLEARED] & ~o[UNNAMED];
+    card[8] = o[FIRST_SET];
+    card[9] = o[FIRST_UNTOUCHED];
+    card[10] = o[LAST_UNTOUCHED];
+    card[11] = o[CLEARED];
+    card[12] = o[UNNAMED];
 }
 
 /* Whether a word has no fact but those of another. */
@@ -265,7 +271,7 @@ static void compare_cards(void)
 static void ask(size_t c, uint64_t question, uint64_t fact)
 {
     uint32_t chain[DULIMOVEN_MOST_CHAIN_WORDS];
-    int some = dulimoven_has_fact(due[c][LAST_SET + question], fact);
+    int some = (due[c][LAST_SET + question] & FACT(fact)) != 0;
     uint64_t answer = dulimoven_chain(area + GUARD, words, c, question, fact,
                                       chain, DULIMOVEN_LINK_WORDS * dues);
     ran++;

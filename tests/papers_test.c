@@ -14,7 +14,10 @@
  * eff+ and eff- "always set" and "always cleared", all of the relaxed kind. No
  * paper has "always stands"; it is document 02's, worked out from the last
  * action of each refinement that has the fact in prec, add or del: the fact is
- * in where each refinement has one, and never in its del.
+ * in where each refinement has one, and never in its del. Nor has a paper the
+ * five columns after it, which are document 02's too, and not the second
+ * engine's: some refinement first adds the fact, has it in no prec or add, has
+ * it in no add or del, has it last in a del, has it nowhere.
  *
  * C11 and C++17. Prints a line for what does not hold, then a count; the exit
  * status is 0 where all holds.
@@ -102,7 +105,8 @@ static void fill(const char *name)
 /* A card as it is to be, with the words in the order of documents 01 and 02. */
 struct card {
     uint64_t flags, always_needed, may_need, may_set, may_clear, always_set,
-        always_cleared, always_stands;
+        always_cleared, always_stands, may_first_set, may_first_untouched,
+        may_last_untouched, may_end_cleared, may_end_unmentioned;
 };
 
 /* A run exists, none is empty, and so many facts can change. */
@@ -138,12 +142,30 @@ static void engine_card_is(const char *name, const char *engine,
             expected->always_stands);
 }
 
+/* The words that the second engine does not have. */
+static void last_words_are(const char *name, const uint64_t *card,
+                           const struct card *expected)
+{
+    const char *engine = "the card call";
+    word_is(name, engine, 9, card[DULIMOVEN_MAY_FIRST_SET],
+            expected->may_first_set);
+    word_is(name, engine, 10, card[DULIMOVEN_MAY_FIRST_UNTOUCHED],
+            expected->may_first_untouched);
+    word_is(name, engine, 11, card[DULIMOVEN_MAY_LAST_UNTOUCHED],
+            expected->may_last_untouched);
+    word_is(name, engine, 12, card[DULIMOVEN_MAY_END_CLEARED],
+            expected->may_end_cleared);
+    word_is(name, engine, 13, card[DULIMOVEN_MAY_END_UNMENTIONED],
+            expected->may_end_unmentioned);
+}
+
 /* The card of compound task number c, counted from 1. */
 static void card_is(const char *name, uint32_t c, struct card expected)
 {
     size_t at = (size_t)DULIMOVEN_CARD_WORDS * (c - 1);
     engine_card_is(name, "the card call", cards + at, &expected);
     engine_card_is(name, "the second engine", second + at, &expected);
+    last_words_are(name, cards + at, &expected);
 }
 
 /*
@@ -171,12 +193,15 @@ static void untouched_by(const char *name, uint32_t c, uint32_t question,
  * also needed to execute c."
  *
  * So f is in eff+ and prec, and with them in poss-eff+ and poss-prec; nothing
- * deletes it, so it stands. One fact can change.
+ * deletes it, so it stands. One fact can change. Fact 0 is nowhere, here and in
+ * all that follow.
  */
 static void needed_and_added(void)
 {
     struct card c = {flags(1), FACT(1), FACT(1), FACT(1),
-                     none,     FACT(1), none,    FACT(1)};
+                     none,     FACT(1), none,    FACT(1),
+                     none,     FACT(0), FACT(0), none,
+                     FACT(0)};
     domain(2, 1, 1);
     action(FACT(1), FACT(1), none);
     compound();
@@ -196,12 +221,15 @@ static void needed_and_added(void)
  * and poss-eff-. It is needed, and no action before adds it: by Definition 6 of
  * 001 it is in prec, and in poss-prec. Two facts can change. The second action
  * is the last that has f1, in prec, or f2: both are in "always stands", which
- * says nothing here, since nothing executes.
+ * says nothing here, since nothing executes. f2 is first added, and f1 first
+ * needed.
  */
 static void never_executable(void)
 {
     struct card c = {flags(2), FACT(1), FACT(1), FACT(2),
-                     FACT(1),  FACT(2), FACT(1), FACT(1) | FACT(2)};
+                     FACT(1),  FACT(2), FACT(1), FACT(1) | FACT(2),
+                     FACT(2),  FACT(0), FACT(0), none,
+                     FACT(0)};
     domain(3, 2, 1);
     action(none, none, FACT(1));
     action(FACT(1), FACT(2), none);
@@ -240,15 +268,28 @@ static void never_executable(void)
  * for both, since m1 and m2 delete no fact in common. So 7 facts can change.
  * After m1 stand f2, f3 and f4, after m2 f3, f6 and f7: f3 after both. <a6> has
  * f4 alone, which is not in <a3, a4, a5>: of c2 none always stands.
+ *
+ * m1 first adds f3 and f4, m2 f3, f6 and f7; m1 has f0, f5, f6 and f7 nowhere,
+ * m2 f0, f1 and f4. m2 deletes f5 and never needs or adds it, so f5 is left on
+ * the first side by both; m1 needs f2 and never adds or deletes it. Last
+ * deleted: f1 by a1, f5 by a3, f2 by a4. c2 leaves each fact: <a6> all but f4,
+ * <a3, a4, a5> f4. After a3's deletion a5 has f5 again, in prec, so that f5 is
+ * last deleted in no refinement of c2.
  */
 static void figures_1_and_2(void)
 {
     uint64_t plus = FACT(3) | FACT(4) | FACT(6) | FACT(7);
     uint64_t minus = FACT(1) | FACT(2) | FACT(5);
+    uint64_t all = FACT(8) - 1;
+    uint64_t unnamed = all & ~(FACT(2) | FACT(3));
     struct card c1 = {flags(7), FACT(2), FACT(1) | FACT(2), plus,
-                      minus,    FACT(3), none,              FACT(3)};
+                      minus,    FACT(3), none,              FACT(3),
+                      plus,     unnamed, all & ~FACT(3),    minus,
+                      unnamed};
     struct card c2 = {flags(7), none, FACT(1) | FACT(2) | FACT(5), plus,
-                      minus,    none, none,                        none};
+                      minus,    none, none,                        none,
+                      plus,     all,  all, FACT(1) | FACT(2),
+                      all};
     domain(8, 6, 2);
     action(FACT(1), FACT(3), FACT(1));
     action(FACT(2), FACT(4), none);
@@ -290,12 +331,19 @@ static void figures_1_and_2(void)
  * The domain below fits that: c is compound task 6 with m1 = <c3, c4> and
  * m2 = tn5; a1 to a6 are the actions of tn1 to tn6. a3 and a5 delete what is
  * cut off. No action has a precondition, so that what always stands is eff+.
+ *
+ * The refinements are <a1, a3, a2>, <a1, a4> and <a5, a6>. The first adds f1,
+ * f2 and f3, the second deletes f2 last and does not add it, and the third has
+ * neither f1 nor f2.
  */
 static void figure_3(void)
 {
     uint64_t plus = FACT(1) | FACT(2) | FACT(3);
+    uint64_t left = FACT(0) | FACT(1) | FACT(2);
     struct card c = {flags(3), none,    none, plus,
-                     FACT(2),  FACT(3), none, FACT(3)};
+                     FACT(2),  FACT(3), none, FACT(3),
+                     plus,     left,    left, FACT(2),
+                     left};
     domain(4, 6, 6);
     action(none, FACT(1), none);
     action(none, FACT(2) | FACT(3), none);
@@ -333,12 +381,14 @@ static void figure_3(void)
  * The two methods are <a1> and <a2>: f1 holds after a1, which does not add it,
  * since a1 needs it; a2 adds it. So f1 is in poss-eff+ and poss-prec, and by a2
  * not in prec. That it "holds after the execution of both" is what "always
- * stands" says.
+ * stands" says. a2 first adds it, and a1 leaves it on the last side.
  */
 static void figure_10a(void)
 {
-    struct card c1 = {flags(1), none, FACT(1), FACT(1),
-                      none,     none, none,    FACT(1)};
+    struct card c1 = {flags(1), none,    FACT(1),           FACT(1),
+                      none,     none,    none,              FACT(1),
+                      FACT(1),  FACT(0), FACT(0) | FACT(1), none,
+                      FACT(0)};
     domain(2, 2, 1);
     action(FACT(1), none, none);
     action(none, FACT(1), none);
@@ -363,7 +413,9 @@ static void figure_10a(void)
 static void figure_10b(void)
 {
     struct card m3 = {flags(1), FACT(1), FACT(1), FACT(1),
-                      none,     FACT(1), none,    FACT(1)};
+                      none,     FACT(1), none,    FACT(1),
+                      none,     FACT(0), FACT(0), none,
+                      FACT(0)};
     domain(2, 2, 1);
     action(FACT(1), none, none);
     action(none, FACT(1), none);
@@ -388,15 +440,22 @@ static void figure_10b(void)
  * and f1 in poss-eff-, and by the check neither in eff+ or eff-; f2 is there
  * after either, and always stands. poss-prec has f2 by the check, and f1 by
  * <a1>; <a1> adds f2 before any action needs it, and the check leaves f1: prec
- * is empty. The check has no step, so the refinement counts as empty. Of c2 the
- * same holds with f1 and f2 exchanged.
+ * is empty. The check has no step, so the refinement counts as empty. <a1>
+ * first adds f2, <a2, a1> first adds f1, and f2 is in each refinement; f1 is
+ * not in the check, and a1 deletes it last; the check adds and deletes nothing.
+ * Of c2 the same holds with f1 and f2 exchanged.
  */
 static void get_to(void)
 {
     uint64_t both = FACT(1) | FACT(2);
     uint64_t empty = flags(2) | DULIMOVEN_FLAG_EMPTY_RUN;
-    struct card c1 = {empty, none, both, FACT(2), FACT(1), none, none, FACT(2)};
-    struct card c2 = {empty, none, both, FACT(1), FACT(2), none, none, FACT(1)};
+    uint64_t all = FACT(0) | both;
+    uint64_t not_1 = FACT(0) | FACT(2);
+    uint64_t not_2 = FACT(0) | FACT(1);
+    struct card c1 = {empty, none, both,    FACT(2), FACT(1), none, none,
+                      FACT(2), both, not_2, all,     FACT(1), not_2};
+    struct card c2 = {empty, none, both,    FACT(1), FACT(2), none, none,
+                      FACT(1), both, not_1, all,     FACT(2), not_1};
     domain(3, 2, 2);
     action(FACT(1), FACT(2), FACT(1));
     action(FACT(2), FACT(1), FACT(2));

@@ -15,11 +15,14 @@ static const uint32_t library_l[L_WORDS] = {
     0x80000000, 0x70000000, 0x60000001, 0x70000000, 0x90000000,
     0x80000001, 0x60000002, 0x70000000, 0x90000002, 0xf00c019a};
 
-/* Its cards. Document 02, request 4: "L's lines now end in 0, 3 and 0". */
+/*
+ * Its cards. Document 02, request 4: "L's lines now end in 0, 3 and 0"; request
+ * 5: "L's lines go on with 1 7 7 0 7, 3 4 5 0 4 and five zeros".
+ */
 static const uint64_t cards_of_l[L_SEQUENCES][DULIMOVEN_CARD_WORDS] = {
-    {0x103, 0, 0, 1, 0, 0, 0, 0},
-    {0x201, 0, 1, 3, 0, 2, 0, 3},
-    {0, 0, 0, 0, 0, 0, 0, 0}};
+    {0x103, 0, 0, 1, 0, 0, 0, 0, 1, 7, 7, 0, 7},
+    {0x201, 0, 1, 3, 0, 2, 0, 3, 3, 4, 5, 0, 4},
+    {0, 0, 0, 0, 0, 0, 0, 0, 0, 0, 0, 0, 0}};
 
 /* Its chains of sequence 1 and fact 0, for question 2 and for question 0. */
 static const uint32_t untouched_in_l[2] = {0xa0000001, 0xc0000000};

@@ -9,7 +9,8 @@
  * their functions calls itself; so what they take depends on which functions an
  * image and a question lead to. Tried are L, L with each word in each kind, a
  * step that clears what it sets, the largest libraries that there can be, and
- * all questions.
+ * all questions; lists of none, one and the most sequences, and each refusal of
+ * a list.
  */
 #define _POSIX_C_SOURCE 200809L
 #include "harness.h"
@@ -18,29 +19,39 @@
 #include <pthread.h>
 #include <stdlib.h>
 
-/* What is measured: a call, for a chain with its question. */
-enum call { CHECK_CALL, CARDS_CALL, CHAIN_CALL, CALLS };
+/* What is measured: a call, for a chain with its question, for a list with its
+ * length and the sequences that there are. */
+enum call { CHECK_CALL, CARDS_CALL, CHAIN_CALL, LIST_CALL, CALLS };
 static enum call measured;
 static uint64_t question;
+static uint64_t sequences;
+static size_t members;
 
 static const struct {
     const char *name;
     size_t allowed;
 } calls[CALLS] = {{"dulimoven_check", DULIMOVEN_STACK_CHECK},
                   {"dulimoven_cards", DULIMOVEN_STACK_CARDS},
-                  {"dulimoven_chain", DULIMOVEN_STACK_CHAIN}};
+                  {"dulimoven_chain", DULIMOVEN_STACK_CHAIN},
+                  {"dulimoven_list", DULIMOVEN_STACK_LIST}};
 static size_t most_taken[CALLS];
 
-/* Calls on the image under test. Sequence and fact 0 are asked about. */
+/* Calls on the image under test, a list on the cards that were filled last.
+ * Sequence and fact 0 are asked about. */
 static void make_call(void)
 {
     static uint64_t cards[DULIMOVEN_MOST_CARD_WORDS];
     static uint32_t chain[DULIMOVEN_MOST_CHAIN_WORDS];
+    static uint32_t list[DULIMOVEN_MOST_LIST + 1];
+    static uint64_t card[DULIMOVEN_CARD_WORDS];
     const uint32_t *image = area + GUARD;
     if (measured == CHECK_CALL)
         dulimoven_check(image, words);
     else if (measured == CARDS_CALL)
         dulimoven_cards(image, words, cards, COUNT(cards));
+    else if (measured == LIST_CALL)
+        dulimoven_list(MOST_F, sequences, cards, COUNT(cards), list, members,
+                       card);
     else
         dulimoven_chain(image, words, 0, question, 0, chain, COUNT(chain));
 }
@@ -98,6 +109,24 @@ static void measure_calls(void)
     measured = CHAIN_CALL;
     for (question = 0; question <= DULIMOVEN_FIRST_UNTOUCHED; question++)
         measure_in_thread();
+    measured = LIST_CALL;
+    sequences = MOST_C;
+    for (members = 0; members <= 1; members++)
+        measure_in_thread();
+}
+
+/* The longest list, and refusals 14, 15 and 8. */
+static void long_lists(void)
+{
+    static const uint64_t counts[] = {MOST_C, 0, MOST_C + 1};
+    size_t i;
+    measured = LIST_CALL;
+    for (i = 0; i < COUNT(counts); i++)
+        for (members = DULIMOVEN_MOST_LIST; members <= DULIMOVEN_MOST_LIST + 1;
+             members++) {
+            sequences = counts[i];
+            measure_in_thread();
+        }
 }
 
 /*
@@ -169,11 +198,15 @@ int main(void)
     large(0);
     large(1);
     large(255);
+    long_lists();
     for (call = 0; call < CALLS; call++) {
         printf("%s takes %zu bytes of stack, and may take %zu\n",
                calls[call].name, most_taken[call], calls[call].allowed);
-        hold(calls[call].name, most_taken[call] > FRAME &&
-                                   most_taken[call] <= calls[call].allowed);
+        /* the list call may take so little that the bytes which are left as
+           they are hide it */
+        hold(calls[call].name,
+             (most_taken[call] > FRAME || call == LIST_CALL) &&
+                 most_taken[call] <= calls[call].allowed);
     }
     free(stack);
     printf("stack_test: %u checks, %u failed\n", ran, failed);

@@ -26,12 +26,41 @@ struct lent {
     uint32_t image[BEGINS + RING_WORDS];
     uint64_t cards[BEGINS + RING * DULIMOVEN_CARD_WORDS];
     uint32_t chain[BEGINS + RING * DULIMOVEN_LINK_WORDS];
+    uint32_t list[BEGINS + DULIMOVEN_MOST_LIST];
+    uint64_t card[BEGINS + DULIMOVEN_CARD_WORDS];
 };
 
 /* One number for all numbers so far: each counts, and so does its place. */
 static uint64_t folded(uint64_t fold, uint64_t number)
 {
     return (fold ^ number) * UINT64_C(0x100000001b3);
+}
+
+/*
+ * The card of each list of so many members, from one sequence on each with its
+ * next; as a number.
+ */
+static uint64_t lists(const struct library *library, struct lent *lent)
+{
+    static const size_t lengths[] = {0, 1, 2, 7, DULIMOVEN_MOST_LIST};
+    uint32_t *list = lent->list + lent->begin;
+    uint64_t *card = lent->card + lent->begin;
+    uint64_t fold = 0;
+    size_t i, j, first;
+    for (first = 0; first < library->sequences; first++)
+        for (i = 0; i < COUNT(lengths); i++) {
+            for (j = 0; j < lengths[i]; j++)
+                list[j] = (uint32_t)((first + j) % library->sequences);
+            fold = folded(fold,
+                          dulimoven_list(1, library->sequences,
+                                         lent->cards + lent->begin,
+                                         library->sequences *
+                                             DULIMOVEN_CARD_WORDS,
+                                         list, lengths[i], card));
+            for (j = 0; j < DULIMOVEN_CARD_WORDS; j++)
+                fold = folded(fold, card[j]);
+        }
+    return fold;
 }
 
 /* All answers and all words that the calls write for an image, as a number. */
@@ -49,6 +78,7 @@ static uint64_t answers(const uint32_t *image, const struct library *library,
     fold = folded(fold, answer);
     for (i = 0; i < card_words; i++)
         fold = folded(fold, cards[i]);
+    fold = folded(fold, lists(library, lent));
     for (sequence = 0; sequence < library->sequences; sequence++)
         for (question = 0; question <= DULIMOVEN_FIRST_UNTOUCHED; question++) {
             answer = dulimoven_chain(image, library->words, sequence, question,

@@ -116,7 +116,8 @@ static void write_cards(const uint32_t *image, size_t length, uint64_t *area)
     struct preconditions p;
     uint32_t c, f;
     read_domain(image, length, &d);
-    memset(area, 0, DULIMOVEN_CARD_WORDS * d.compounds * sizeof *area);
+    for (c = 0; c < d.compounds; c++)
+        memset(area + DULIMOVEN_CARD_WORDS * c, 0, SECOND_WORDS * sizeof *area);
     find_terminating(&d, &terminating);
     remove_endless(&d, &terminating);
     find_empty(&d, &empty);

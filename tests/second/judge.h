@@ -37,9 +37,10 @@ void judge_library(const uint32_t *image, size_t length);
 void judge_fact(uint32_t fact);
 
 /*
- * Two questions more, for the column "always stands", which the chain call does
- * not answer: some run's last item that sets, clears, needs or checks the fact
- * clears it; some run has no such item.
+ * Two questions more, for the columns "may end cleared", "may end unmentioned"
+ * and "always stands", which the chain call does not answer: some run's last
+ * item that sets, clears, needs or checks the fact clears it; some run has no
+ * such item.
  */
 enum {
     JUDGE_STANDING_CLEARED = 6,
