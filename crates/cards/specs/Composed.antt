@@ -1,5 +1,5 @@
 -- The card of a list of sequences, from F and the cards of an area alone, whatever its words are (document 02, request 5, "The composition").
--- What its words mean where the area holds a library's cards is shown in `proofs/` of later crates; here each is what the request says it is.
+-- What the words mean where the area holds a library's cards is shown in `proofs/Added`; here each is what the request says it is.
 use Prim.Native.Nat.{ℕ, _+_, _*_, _^_, min}
 use mathlib.Core.Bool.{Bool, false, not, cond, _&&_, _||_}
 use mathlib.Core.List.{List, [], _∷_}
@@ -10,6 +10,10 @@ use Rattle.general.specs.Scan.{every}
 use Rattle.cards.specs.Layout.{CardColumn, always-needed, may-need, may-set, may-clear, always-set, always-cleared, always-stands}
 use Rattle.cards.specs.Layout.{may-first-set, may-first-untouched, may-last-untouched, may-end-cleared, may-end-unmentioned}
 use Rattle.cards.specs.Area.{partWord, cardColumn}
+
+-- "A test is a list of up to 256 sequences"
+abbrev pub mostList : ℕ
+mostList = 256
 
 -- ---- the members
 

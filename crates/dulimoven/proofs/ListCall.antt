@@ -16,7 +16,8 @@ use Rattle.general.proofs.Tests.{some-found, some-intro}
 use Rattle.image.specs.declared.answer.Refusal.{Refusal}
 use Rattle.image.specs.declared.answer.Refusal.the-variants.{CardArea, ListLength, Member}
 use Rattle.cards.specs.Layout.{cardWords}
-use Rattle.list.specs.Answer.{mostList, listedAnswer, cardAfter}
+use Rattle.cards.specs.Composed.{mostList}
+use Rattle.list.specs.Answer.{listedAnswer, cardAfter}
 use Rattle.list.specs.declared.answer.Listed.{Listed}
 use Rattle.dulimoven.specs.Returned.{Returned, returned, turnedDown}
 use Rattle.dulimoven.specs.ListCall.{ListRefused, by-area, by-length, by-member, ListReturn, refused, composed}

@@ -10,7 +10,7 @@ use Rattle.runs.specs.Added.{withList, addedTo}
 use Rattle.cards.specs.Layout.{cardWords}
 use Rattle.cards.specs.Area.{partWord}
 use Rattle.cards.specs.Meaning.{Card, Runs}
-use Rattle.list.specs.Answer.{mostList}
+use Rattle.cards.specs.Composed.{mostList}
 use Rattle.dulimoven.specs.Returned.{Returned}
 use Rattle.dulimoven.specs.Demands.{Engine, count, Ready}
 

@@ -8,8 +8,7 @@ use Rattle.general.specs.Tests.{All}
 use Rattle.image.specs.declared.answer.Refusal.{Refusal}
 use Rattle.image.specs.declared.answer.Refusal.the-variants.{CardArea, ListLength, Member}
 use Rattle.cards.specs.Layout.{cardWords}
-use Rattle.cards.specs.Composed.{listCard}
-use Rattle.list.specs.Answer.{mostList}
+use Rattle.cards.specs.Composed.{mostList, listCard}
 use Rattle.dulimoven.specs.Returned.{Returned, returned, turnedDown}
 
 -- the first refusal that applies: "of the earlier ones only 8; 14 for a list of more than 256, after 8; then 15 for a member not below C"

@@ -12,7 +12,8 @@ use Rattle.general.specs.Tests.{some}
 use Rattle.image.specs.declared.answer.Refusal.the-variants.{CardArea, ListLength, Member}
 use Rattle.cards.specs.Layout.{cardWords}
 use Rattle.cards.specs.Composed.{listCard}
-use Rattle.list.specs.Answer.{mostList, listed, cardAfter, ListCalled}
+use Rattle.cards.specs.Composed.{mostList}
+use Rattle.list.specs.Answer.{listed, cardAfter, ListCalled}
 use Rattle.list.specs.declared.answer.Listed.{Listed}
 
 module _ (facts n : ℕ) (cards ms before : List ℕ) where

@@ -10,12 +10,8 @@ use Rattle.general.specs.Tests.{some}
 use Rattle.image.specs.Answer.{refusalAnswer}
 use Rattle.image.specs.declared.answer.Refusal.the-variants.{CardArea, ListLength, Member}
 use Rattle.cards.specs.Layout.{cardWords}
-use Rattle.cards.specs.Composed.{listCard}
+use Rattle.cards.specs.Composed.{mostList, listCard}
 use Rattle.list.specs.declared.answer.Listed.{Listed}
-
--- "A test is a list of up to 256 sequences"
-abbrev pub mostList : ℕ
-mostList = 256
 
 -- "of the earlier ones only 8" ("8 asks 13 × C"); "14 for a list of more than 256, after 8; then 15 for a member not below C"
 abbrev pub listed : ℕ → List ℕ → List ℕ → Listed
