@@ -8,7 +8,7 @@ use Rattle.image.specs.declared.answer.Checked.{Checked}
 use Rattle.image.specs.declared.answer.Checked.the-variants.{Accepted, Refused}
 
 -- "Turned down, in checking order"; document 02: "Demand 1 and document 01's list take in the answers that requests add". 13 comes
--- after 6 in that order
+-- after 6 in that order; 14 and 15 are of a list
 abbrev pub refusalNumber : Refusal → ℕ
 refusalNumber Length = 1
 refusalNumber (SumWord p) = 2

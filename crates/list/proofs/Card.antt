@@ -1,6 +1,6 @@
 -- The card written for the row of a list is the list's card: blank where a member has no run, and otherwise word by word.
 -- Assumes nothing.
-use Prim.Native.Nat.{ℕ, _+_, _-_, _*_, _%_, _^_, _≤_, _<_, min}
+use Prim.Native.Nat.{ℕ, _-_, _%_, _^_, _≤_, _<_}
 use native.Mathlib.Omega.{arith}
 use mathlib.Core.Path.{_≡_, refl, sym, ap, ap₂, _∙_}
 use mathlib.Core.Bool.{Bool, true, false, not, cond, _||_}
@@ -10,17 +10,16 @@ use lib.Count.{ones}
 use lib.Pow.{pow-pos}
 use mir.Val.{boolByte}
 use Rattle.column.specs.Column.{bit, column, columnWidth, allBelow}
-use Rattle.column.specs.Sets.{inColumn, difference, countBelow}
+use Rattle.column.specs.Sets.{inColumn, difference}
 use Rattle.column.proofs.Bits.{bit-le, bit-and, bit-column, column-is}
 use Rattle.column.proofs.Operations.{column-or, column-difference, column-all, ones-column}
 use Rattle.general.specs.Scan.{every}
 use Rattle.cards.specs.Layout.{CardColumn, may-need, may-set, may-clear}
 use Rattle.cards.specs.Layout.{may-first-set, may-first-untouched, may-last-untouched, may-end-cleared, may-end-unmentioned}
-use Rattle.cards.specs.Layout.{always-needed, always-set, always-cleared, always-stands}
 use Rattle.row.specs.Words.{noRow, isSet}
 use Rattle.row.specs.declared.words.Row.{Row}
 use Rattle.writer.specs.Card.{flagsOf, alwaysOf, rowCard}
-use Rattle.cards.specs.Composed.{hasRun, listHas, kept, listColumn, listCount, listFlags, composedCard, blankCard, listCard}
+use Rattle.cards.specs.Composed.{hasRun, listHas, kept, listCount, listFlags, composedCard, blankCard, listCard}
 use Rattle.list.specs.Fold.{rowWritten}
 use Rattle.list.proofs.Words.{listRow, list-bits, set-byte, list-run, list-empty}
 

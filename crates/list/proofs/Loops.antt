@@ -11,7 +11,6 @@ use lib.Seq.{drop-cons, drop-length}
 use lib.Dec.{leb}
 use borrow.Author.Tests.{le-leb, lt-leb, leb-false}
 use Rattle.general.specs.Tests.{some}
-use Rattle.general.proofs.Bools.{or-right}
 use Rattle.cards.specs.Layout.{cardWords}
 use Rattle.row.specs.Words.{startRow, allBits}
 use Rattle.row.specs.declared.words.Row.{Row}

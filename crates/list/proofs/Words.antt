@@ -1,9 +1,9 @@
 -- The fold on whole words, bit by bit: below the width each bit of the row that comes out is what the rules say of the members' bits.
 -- Assumes nothing.
-use Prim.Native.Nat.{ℕ, zero, suc, _-_, _/_, _%_, _^_, _≤_, _<_, min}
+use Prim.Native.Nat.{ℕ, zero, suc, _-_, _%_, _≤_, _<_}
 use native.Mathlib.Omega.{arith}
-use mathlib.Core.Path.{_≡_, refl, sym, ap, ap₂, _∙_, fun-ext, subst}
-use mathlib.Core.Bool.{Bool, true, false, _&&_, _||_}
+use mathlib.Core.Path.{_≡_, refl, sym, ap, _∙_, fun-ext, subst}
+use mathlib.Core.Bool.{Bool}
 use mathlib.Core.List.{List, [], _∷_}
 use lib.Dec.{eqb}
 use mir.Val.{boolByte}
@@ -16,7 +16,7 @@ use Rattle.runs.specs.Touch.{Mark, present, absent, untouched, Side, last, firs
 use Rattle.runs.specs.Rows as rows
 use Rattle.runs.specs.Rows.{columnNumber, joinRow}
 use Rattle.runs.proofs.Rows.{by-column}
-use Rattle.row.specs.Words.{rowWords, startRow, allBits, joinRows, isSet, bitRow}
+use Rattle.row.specs.Words.{rowWords, startRow, allBits, isSet, bitRow}
 use Rattle.row.specs.declared.words.Row.{Row}
 use Rattle.row.proofs.Bits.{and-set, none-set, later-set, side-bits, start-bits}
 use Rattle.cards.specs.Composed.{hasRun, hasEmptyRun}

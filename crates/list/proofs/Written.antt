@@ -1,7 +1,7 @@
 -- What is written for a row: its words in the order of the columns, their card, and the row's own flags in place of theirs.
 -- Assumes nothing.
 use Prim.Native.Nat.{ℕ}
-use mathlib.Core.Path.{_≡_, refl, sym, ap, ap₂, _∙_}
+use mathlib.Core.Path.{_≡_, ap, ap₂, _∙_}
 use mathlib.Core.List.{List, [], _∷_}
 use lib.ListN.{set}
 use Rattle.row.specs.Words.{withRow, wordsOf}
