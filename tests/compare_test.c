@@ -144,7 +144,7 @@
  *     entry does not give the touch, or is no sequence
  *   chain, a table of ranks is one word short, or has words for the checks of F
  *     facts alone (two breaks): none, and a run has the outcome
- * Not reported is that 8 asks 7 x C words (card/seven_words_suffice), since the
+ * Not reported is that 8 asks 8 x C words (card/eight_words_suffice), since the
  * card areas here have room; cards_test has it. Some breaks change no answer:
  * that kind 12 is an entry too (image), since no accepted library has one; that
  * a quick test knows no check, or nothing after one (rules), since the rules
@@ -158,7 +158,7 @@
  * last.
  * And the must-fail edits of the crates that changed the code of the three
  * calls when this was tried, 83 of them: all are reported but ten, one of which
- * is that of 7 x C words. What shows in no answer and no area is not: bits from
+ * is that of 8 x C words. What shows in no answer and no area is not: bits from
  * F upward in the outcome table (row/bits_above); an order of visits that is
  * never asked for (order/one_number), and the test that would ask for it
  * (order/untested); clear words judged one by one where they could be read
