@@ -144,20 +144,20 @@
  *     entry does not give the touch, or is no sequence
  *   chain, a table of ranks is one word short, or has words for the checks of F
  *     facts alone (two breaks): none, and a run has the outcome
- * Not reported is that 8 asks 7 x C words (card/seven_words_suffice), since the
- * card areas here have room; cards_test has it. Some breaks change no answer:
- * that kind 12 is an entry too (image), since no accepted library has one; that
- * a quick test knows no check, or nothing after one (rules), since the rules
- * then judge the word; that the reader of the words after the fours keeps the
- * word before them, of which only the kind is asked; that a check is taken for
- * a call (callers), which costs visits; a check's `run`, which is not read;
- * that the first side's `untouched` stands for `unmentioned` in the eighth word
- * (writer): a run that needs, sets and checks a fact nowhere either does not
- * mention it or clears it last. The breaks above were tried with cards of eight
- * words. These showed the same for a step that does not mention what it clears,
- * a row in which only `unmentioned` has grown and is the same, and the first
- * side's `untouched` for it in `joined` (row); "may end unmentioned" is that
- * column, and none of the three was tried since.
+ * Not reported is that 8 asks too few words (card/eight_words_suffice), since
+ * the card areas here have room; cards_test has it. Some breaks change no
+ * answer: that kind 12 is an entry too (image), since no accepted library has
+ * one; that a quick test knows no check, or nothing after one (rules), since
+ * the rules then judge the word; that the reader of the words after the fours
+ * keeps the word before them, of which only the kind is asked; that a check is
+ * taken for a call (callers), which costs visits; a check's `run`, which is not
+ * read; that the first side's `untouched` stands for `unmentioned` in the
+ * eighth word (writer): a run that needs, sets and checks a fact nowhere either
+ * does not mention it or clears it last. The breaks above were tried with cards
+ * of eight words. These showed the same for a step that does not mention what
+ * it clears, a row in which only `unmentioned` has grown and is the same, and
+ * the first side's `untouched` for it in `joined` (row); "may end unmentioned"
+ * is that column, and none of the three was tried since.
  * Breaks of the last five words, in which the words that the card call had
  * written were changed before they were looked at: words 9 and 10, 10 and 11 or
  * 12 and 13 exchanged; word 9 is "may set", or has what is needed and set too;
@@ -173,9 +173,9 @@
  * library fills or the list is not tried here.
  * And the must-fail edits of the crates that changed the code of the three
  * calls when this was tried, 83 of them: all are reported but ten, one of which
- * is that of 7 x C words. What shows in no answer and no area is not: bits from
- * F upward in the outcome table (row/bits_above); an order of visits that is
- * never asked for (order/one_number), and the test that would ask for it
+ * is that of too few words. What shows in no answer and no area is not: bits
+ * from F upward in the outcome table (row/bits_above); an order of visits that
+ * is never asked for (order/one_number), and the test that would ask for it
  * (order/untested); clear words judged one by one where they could be read
  * together (column/apart_if_empty); small areas for one sequence more, which
  * then have the room (tables/small_for_more); where a walk over entries ended
