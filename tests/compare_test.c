@@ -144,23 +144,38 @@
  *     entry does not give the touch, or is no sequence
  *   chain, a table of ranks is one word short, or has words for the checks of F
  *     facts alone (two breaks): none, and a run has the outcome
- * Not reported is that 8 asks 8 x C words (card/eight_words_suffice), since the
- * card areas here have room; cards_test has it. Some breaks change no answer:
- * that kind 12 is an entry too (image), since no accepted library has one; that
- * a quick test knows no check, or nothing after one (rules), since the rules
- * then judge the word; that the reader of the words after the fours keeps the
- * word before them, of which only the kind is asked; that a check is taken for
- * a call (callers), which costs visits; a check's `run`, which is not read;
- * that a step does not mention what it clears, that a row in which only
- * `unmentioned` has grown is the same, or that the first side's `untouched`
- * stands for it in `joined` or in the eighth word (row, writer): a run that
- * needs, sets and checks a fact nowhere either does not mention it or clears it
- * last.
+ * Not reported is that 8 asks too few words (card/eight_words_suffice), since
+ * the card areas here have room; cards_test has it. Some breaks change no
+ * answer: that kind 12 is an entry too (image), since no accepted library has
+ * one; that a quick test knows no check, or nothing after one (rules), since
+ * the rules then judge the word; that the reader of the words after the fours
+ * keeps the word before them, of which only the kind is asked; that a check is
+ * taken for a call (callers), which costs visits; a check's `run`, which is not
+ * read; that the first side's `untouched` stands for `unmentioned` in the
+ * eighth word (writer): a run that needs, sets and checks a fact nowhere either
+ * does not mention it or clears it last. The breaks above were tried with cards
+ * of eight words. These showed the same for a step that does not mention what
+ * it clears, a row in which only `unmentioned` has grown and is the same, and
+ * the first side's `untouched` for it in `joined` (row); "may end unmentioned"
+ * is that column, and none of the three was tried since.
+ * Breaks of the last five words, in which the words that the card call had
+ * written were changed before they were looked at: words 9 and 10, 10 and 11 or
+ * 12 and 13 exchanged; word 9 is "may set", or has what is needed and set too;
+ * word 10 lacks a fact without an empty run; word 11 is the empty run's alone,
+ * or has all facts without a run; word 12 is "may clear", or "always cleared"
+ * and not "always stands"; word 13 is word 10 or 11, or lacks what word 12 has;
+ * bits from F upward in word 10 or 13; the five are 0, or are not written (17
+ * breaks): all are reported.
+ * Breaks of the list call, in whose place the rule of list_model.h stood: of
+ * those that list_test names, the 36 that are about the card of a list over a
+ * library's cards, another answer or changed cards: all are reported, as words
+ * of the added sequence's card. What is about refusals, F, areas that no
+ * library fills or the list is not tried here.
  * And the must-fail edits of the crates that changed the code of the three
  * calls when this was tried, 83 of them: all are reported but ten, one of which
- * is that of 8 x C words. What shows in no answer and no area is not: bits from
- * F upward in the outcome table (row/bits_above); an order of visits that is
- * never asked for (order/one_number), and the test that would ask for it
+ * is that of too few words. What shows in no answer and no area is not: bits
+ * from F upward in the outcome table (row/bits_above); an order of visits that
+ * is never asked for (order/one_number), and the test that would ask for it
  * (order/untested); clear words judged one by one where they could be read
  * together (column/apart_if_empty); small areas for one sequence more, which
  * then have the room (tables/small_for_more); where a walk over entries ended

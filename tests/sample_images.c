@@ -192,6 +192,22 @@ static void twelve_image(void)
     write_image("twelve");
 }
 
+/*
+ * As many sequences as there can be, each with an alternative that sets fact 63
+ * of 64, one that clears it, one that needs it, and an empty one.
+ */
+static void full_image(void)
+{
+    uint32_t c;
+    start();
+    PUT(HEAD(64, 3, 256), STEP(0), SETS(63), STEP(1), CLEARS(63), STEP(2),
+        NEEDS(63));
+    for (c = 0; c < 256; c++)
+        PUT(SEQUENCE(c), TAKES(DO(0)), TAKES(DO(1)), TAKES(DO(2)), ALTERNATIVE);
+    put_sum();
+    write_image("full");
+}
+
 int main(int count, char **arguments)
 {
     if (count != 2) {
@@ -208,5 +224,6 @@ int main(int count, char **arguments)
     write_many();
     letters_image();
     twelve_image();
+    full_image();
     return failed == 0 ? 0 : 1;
 }
