@@ -144,6 +144,11 @@
  *     entry does not give the touch, or is no sequence
  *   chain, a table of ranks is one word short, or has words for the checks of F
  *     facts alone (two breaks): none, and a run has the outcome
+ *   row, a step does not mention what it clears, or the first side's
+ *     `untouched` stands for `unmentioned` in `joined` (two breaks): the last
+ *     five words of a card differ from the rounds
+ *   row, a row in which only `unmentioned` has grown is the same: the same, and
+ *     no other test reports it
  * Not reported is that 8 asks too few words (card/eight_words_suffice), since
  * the card areas here have room; cards_test has it. Some breaks change no
  * answer: that kind 12 is an entry too (image), since no accepted library has
@@ -153,11 +158,8 @@
  * taken for a call (callers), which costs visits; a check's `run`, which is not
  * read; that the first side's `untouched` stands for `unmentioned` in the
  * eighth word (writer): a run that needs, sets and checks a fact nowhere either
- * does not mention it or clears it last. The breaks above were tried with cards
- * of eight words. These showed the same for a step that does not mention what
- * it clears, a row in which only `unmentioned` has grown and is the same, and
- * the first side's `untouched` for it in `joined` (row); "may end unmentioned"
- * is that column, and none of the three was tried since.
+ * does not mention it or clears it last. All but the three of `row` were tried
+ * with cards of eight words.
  * Breaks of the last five words, in which the words that the card call had
  * written were changed before they were looked at: words 9 and 10, 10 and 11 or
  * 12 and 13 exchanged; word 9 is "may set", or has what is needed and set too;
