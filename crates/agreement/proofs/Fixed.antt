@@ -1,4 +1,4 @@
--- What the demands fix: every word of the card area by demand 2, those of a list's card by what it says of the added sequence, and by demand 3 that the links which a caller reads in the area show what
+-- What the demands fix: every word of the card area by demand 2, and by demand 3 that the links which a caller reads in the area show what
 -- was asked.
 -- Assumes nothing.
 use Prim.Native.Nat.{ℕ, _+_, _*_, _/_, _%_, _≤_, _<_}
@@ -16,7 +16,6 @@ use Rattle.image.specs.declared.answer.Head.{Head}
 use Rattle.image.specs.declared.answer.Checked.{Checked}
 use Rattle.library.proofs.Accepted.{counted}
 use Rattle.runs.specs.Touch.{questionOf}
-use Rattle.runs.specs.Added.{withList, addedTo}
 use Rattle.cards.specs.Area.{partWord}
 use Rattle.cards.specs.Layout.{place, cardWords}
 use Rattle.cards.specs.Meaning.{Always}
@@ -31,9 +30,7 @@ use Rattle.dulimoven.specs.Returned.{Returned}
 use Rattle.dulimoven.specs.ChainCall.{Links}
 use Rattle.dulimoven.specs.Demands.{Engine, count, Ready, Demand2, Asks, Proves, Demand3}
 use Rattle.dulimoven.specs.Engine.{engine}
-use Rattle.dulimoven.specs.Added.{Listed, listOver, Lists}
 use Rattle.dulimoven.proofs.Demands.{columns}
-use Rattle.dulimoven.proofs.Added.{lists-met}
 use Rattle.agreement.specs.Wrong.{Gets}
 
 -- ---- demand 2
@@ -58,16 +55,6 @@ module _ (e : Engine) (d : Demand2 e) (image area : List ℕ) (ready : Ready ima
           ap (λ (j : ℕ). getD (e .cards image area .area) j 0) place
           ∙ cards-fixed (i / cardWords) (i % cardWords) (omega arith) (mod-lt i (zero-lt-suc 12))
           ∙ ap (λ (j : ℕ). getD (engine .cards image area .area) j 0) (sym place)
-
--- ---- the card of a list
-
--- what the list's card says of the added sequence fixes its words
-pub list-fixed : (e : Engine) → Lists e → (image area list before : List ℕ) → Listed image area list → (k : ℕ) → k < cardWords
-    → getD (listOver e image area list before .area) k 0 ≡ getD (listOver engine image area list before .area) k 0
-list-fixed e d image area list before asked k u =
-    card-unique (withList (libraryOf image) list) (addedTo (libraryOf image)) (λ (j : ℕ). getD (listOver e image area list before .area) j 0)
-    (λ (j : ℕ). getD (listOver engine image area list before .area) j 0) (d .card image area list before asked)
-    (lists-met .card image area list before asked) k u
 
 -- ---- demand 3
 

@@ -45,8 +45,9 @@ use Rattle.agreement.specs.Wrong.{Gets, Unwritten, LongerChain, BlankCol
 use Rattle.agreement.specs.Wrong.{RefusesAllLists, UnwrittenLists, LastMember, noList, lazyLists, secondCard}
 use Rattle.agreement.specs.Wrong.{blankCards, flaglessCards, lazyCards, fixedChain, unwritten, fixedLinks, noImage}
 use Rattle.dulimoven.proofs.ChainCall.{chain-only}
-use Rattle.dulimoven.proofs.Demands.{only-engine, runs}
-use Rattle.agreement.proofs.Fixed.{cards-fixed, area-fixed, list-fixed, links-told, gets-chain, chain-shown}
+use Rattle.dulimoven.proofs.Demands.{only-engine, columns, runs}
+use Rattle.dulimoven.proofs.Added.{lists-met, list-words}
+use Rattle.agreement.proofs.Fixed.{cards-fixed, area-fixed, links-told, gets-chain, chain-shown}
 
 -- ---- the samples, by computation
 
@@ -268,14 +269,28 @@ blank-stands e wrong d =
 pub invented-count : (e : Engine) → InventedCount e → ¬ Demand2 e
 invented-count e wrong d = wrong .invented (d .card (wrong .image) (wrong .area) (wrong .ready) (wrong .sequence) (wrong .low) .flags .count)
 
--- the last member's card for the list's: sequence 1 of L, and then sequence 0
+-- sequence 1 of L, and then sequence 0
+asked-L : Listed L (zeros 39) (1 ∷ 0 ∷ [])
+asked-L =
+    let size = counted L _ accepted-L .sequences in
+    record { ready = ready-L; short = omega arith; below = (omega arith, (omega arith, tt)) }
+
+-- "refusing all .." lists
+pub refuses-listed : (e : Engine) → RefusesAllLists e → ¬ Lists e
+refuses-listed e wrong lists =
+    let right = lists .number L (zeros 39) (1 ∷ 0 ∷ []) [] asked-L in
+    let high = wrong (libraryOf L .facts) (count (libraryOf L)) (e .cards L (zeros 39) .area) (1 ∷ 0 ∷ []) [] in
+    omega arith
+
+-- the last member's card for the list's
 pub last-member : (e : Engine) → LastMember e → Demand2 e → ¬ Lists e
 last-member e wrong d lists =
     let size = counted L _ accepted-L .sequences in
-    let asked : Listed L (zeros 39) (1 ∷ 0 ∷ []) = record { ready = ready-L; short = omega arith; below = (omega arith, (omega arith, tt)) } in
-    let fixed = list-fixed e lists L (zeros 39) (1 ∷ 0 ∷ []) [] asked 0 (omega arith) in
+    let fixed =
+    list-words e d lists L (zeros 39) (1 ∷ 0 ∷ []) [] asked-L 0 (omega arith)
+    ∙ sym (list-words engine columns lists-met L (zeros 39) (1 ∷ 0 ∷ []) [] asked-L 0 (omega arith)) in
     let right : getD (listOver engine L (zeros 39) (1 ∷ 0 ∷ []) [] .area) 0 0 ≡ 0x201 = ap (λ (r : Returned). getD (r .area) 0 0) list-L in
-    let same = wrong L (zeros 39) [] 1 0 asked 0 (omega arith) in
+    let same = wrong L (zeros 39) [] 1 0 asked-L 0 (omega arith) in
     let first = cards-fixed e d L (zeros 39) ready-L 0 0 (omega arith) (omega arith) in
     let one : partWord (engine .cards L (zeros 39) .area) 0 0 ≡ 0x103 = ap (λ (r : Returned). partWord (r .area) 0 0) cards-L in
     omega arith

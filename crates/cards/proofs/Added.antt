@@ -1,6 +1,6 @@
 -- "Over an area that the card call filled, with that library's F and C, the list's card equals that of an added sequence, limits aside, whose
 -- one alternative names the list" (document 02, request 5).
--- It has: `card-kept`, that no other card moves; `list-added`; and of the shortest lists `list-one` and `list-none`.
+-- It has: `list-added`; `card-kept`, that no other card moves; and the shortest lists (`card-one`, `list-none`, `card-none`).
 -- Assumes nothing.
 use Prim.Native.Nat.{ℕ, _+_, _*_, _^_, _≤_, _<_}
 use native.Mathlib.Omega.{arith}
@@ -15,7 +15,7 @@ use Rattle.general.specs.Scan.{every}
 use Rattle.general.specs.Tests.{All}
 use Rattle.general.proofs.Numbers.{zeros}
 use Rattle.general.proofs.Bools.{passes-or-not, and-implied}
-use Rattle.column.specs.Column.{column, allBelow}
+use Rattle.column.specs.Column.{column}
 use Rattle.column.specs.Sets.{inColumn, countBelow}
 use Rattle.column.proofs.Bits.{column-same, column-none}
 use Rattle.column.proofs.Operations.{in-column, column-all, count-same, count-none}
@@ -34,7 +34,7 @@ use Rattle.cards.specs.Layout.{may-first-set, may-first-untouched, may-l
 use Rattle.cards.specs.Layout.{place, cardWords}
 use Rattle.cards.specs.Card.{every-run, claim, claimed, claimWord, columnWord, changeable, flags, card, cardWord, cards}
 use Rattle.cards.specs.Area.{partWord}
-use Rattle.cards.specs.Composed.{hasRun, hasEmptyRun, has, oneThenAll, allThenOne, listHas, listColumn, listCount, listFlags, composedCard, blankCard, listCard, kept}
+use Rattle.cards.specs.Composed.{hasRun, hasEmptyRun, has, oneThenAll, allThenOne, listHas, listColumn, listCount, listFlags, composedCard, blankCard, listCard, emptyListCard, kept}
 use Rattle.cards.proofs.Meaning.{by-word, card-column, card-blank, place-low, run-flag, empty-flag}
 use Rattle.cards.proofs.Area.{length-card, length-cards, card-words}
 use Rattle.cards.proofs.Rule.{every-same, one-then-same, all-then-same}
@@ -303,12 +303,10 @@ start-join Y = by-column (λ j. joinRow startRow Y j ≡ Y j) refl refl side ref
     side first absent = earlier (Y 6)
     side first untouched = and-true (Y 7)
 
--- the list of one member has that member's card
-pub list-one : (L : Library) (m : ℕ) (rest : List ℕ) → Whole L → m < length (L .sequences) → L .facts ≤ 64
-    → listCard (L .facts) (cards L ++ rest) (m ∷ []) ≡ card L m
+-- the sequence that names one member has that member's card
+pub card-one : (L : Library) (m : ℕ) → Whole L → m < length (L .sequences) → card (withList L (m ∷ [])) (addedTo L) ≡ card L m
 unfolding foldRow
-list-one L m rest whole low few =
-    list-added L (m ∷ []) rest whole (low, tt) few ∙ card-agrees (withList L (m ∷ [])) L (addedTo L) m refl column
+card-one L m whole low = card-agrees (withList L (m ∷ [])) L (addedTo L) m refl column
   where
     column : (j f : ℕ) → j < columnCount → columnPossible (withList L (m ∷ [])) j (addedTo L) f ≡ columnPossible L j m f
     column j f u =
@@ -317,10 +315,8 @@ list-one L m rest whole low few =
         ∙ and-implied (columnPossible L 0 m f) (columnPossible L j m f)
         (λ e. ⊎-elim (λ run. run) (λ none. absurd (true≢false (sym e ∙ blank-columns (columnOf j) L m f none))) (passes-or-not (possible.hasRun L m)))
 
--- "The empty list has just the empty run": it leaves every fact below F untouched on both sides and unmentioned, over any area
-pub list-none : (facts : ℕ) (area : List ℕ)
-    → listCard facts area []
-    ≡ 3 ∷ 0 ∷ 0 ∷ 0 ∷ 0 ∷ 0 ∷ 0 ∷ 0 ∷ 0 ∷ allBelow facts ∷ allBelow facts ∷ 0 ∷ allBelow facts ∷ []
+-- the empty list, over any area
+pub list-none : (facts : ℕ) (area : List ℕ) → listCard facts area [] ≡ emptyListCard facts
 unfolding listCard composedCard listFlags listCount listColumn every oneThenAll allThenOne
 list-none facts area i =
     let none = column-none (kept facts) in
@@ -329,3 +325,7 @@ list-none facts area i =
   where
     flag : 1 + 2 * 1 + 2 ^ 8 * countBelow (kept facts) (λ (f : ℕ). false) ≡ 3
     flag = omega (arith, count-none (kept facts))
+
+-- and so the sequence whose one alternative is empty
+pub card-none : (L : Library) → Whole L → L .facts ≤ 64 → card (withList L []) (addedTo L) ≡ emptyListCard (L .facts)
+card-none L whole few = sym (list-added L [] [] whole tt few) ∙ list-none (L .facts) (cards L ++ [])

@@ -4,7 +4,7 @@ use Prim.Native.Nat.{ℕ, _+_, _*_, _^_, min}
 use mathlib.Core.Bool.{Bool, false, not, cond, _&&_, _||_}
 use mathlib.Core.List.{List, [], _∷_}
 use mir.Val.{boolByte}
-use Rattle.column.specs.Column.{column, columnWidth}
+use Rattle.column.specs.Column.{column, columnWidth, allBelow}
 use Rattle.column.specs.Sets.{inColumn, countBelow}
 use Rattle.general.specs.Scan.{every}
 use Rattle.cards.specs.Layout.{CardColumn, always-needed, may-need, may-set, may-clear, always-set, always-cleared, always-stands}
@@ -107,7 +107,12 @@ composedCard facts area ms =
     ∷ listColumn facts area ms always-stands ∷ listColumn facts area ms may-first-set ∷ listColumn facts area ms may-first-untouched
     ∷ listColumn facts area ms may-last-untouched ∷ listColumn facts area ms may-end-cleared ∷ listColumn facts area ms may-end-unmentioned ∷ []
 
--- "blank unless every member has a run". "The empty list has just the empty run": the rule says so
+-- "blank unless every member has a run"
 unfoldable pub listCard : ℕ → List ℕ → List ℕ → List ℕ
 unfolding composedCard inColumn every
 listCard facts area ms = cond (every (hasRun area) ms) (composedCard facts area ms) blankCard
+
+-- "The empty list has just the empty run.": every fact below F is untouched on both sides, and no item mentions it. The rule says so
+-- (`list-none`, proofs/Added)
+abbrev pub emptyListCard : ℕ → List ℕ
+emptyListCard facts = 3 ∷ 0 ∷ 0 ∷ 0 ∷ 0 ∷ 0 ∷ 0 ∷ 0 ∷ 0 ∷ allBelow facts ∷ allBelow facts ∷ 0 ∷ allBelow facts ∷ []

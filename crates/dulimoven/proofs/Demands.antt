@@ -106,7 +106,7 @@ module _ (image area : List ℕ) (ready : Ready image area) where
       ∙ ap (λ (n : ℕ). cards (libraryOf image) ++ drop (cardWords * n) area) (sym size)
 
   -- a sequence's own part of the area has its card's words
-  pub part-words : (c k : ℕ) → c < count (libraryOf image) → k < cardWords
+  part-words : (c k : ℕ) → c < count (libraryOf image) → k < cardWords
       → partWord (engine .cards image area .area) c k ≡ partWord (cards (libraryOf image)) c k
   part-words c k l u =
       ap (λ (a : List ℕ). partWord a c k) filled-area
