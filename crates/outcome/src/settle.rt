@@ -3,10 +3,10 @@
 use crate::read::read_sequence;
 use callers::sets::ALL_SEQUENCES;
 use callers::sets::SET_WORDS;
-use row::words::put_row;
-use row::words::row_at;
 use row::words::same;
 use row::words::united;
+use rows::table::put_row;
+use rows::table::row_at;
 use settling::turns::after_visit;
 use settling::turns::first;
 use settling::turns::next;

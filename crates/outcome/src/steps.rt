@@ -2,7 +2,7 @@
 use library::tables::MASK_WORDS;
 use row::words::Row;
 use row::words::of_step;
-use row::words::put_row;
+use rows::table::put_row;
 ghost use mathlib.Core.Path.{_≡_};
 ghost use Prim.Native.Nat.{_+_, _*_, _≤_};
 ghost use lib.ListN.{length};

@@ -1,11 +1,11 @@
 -- Cards in the form that the code follows: each word of a card from the words of the sequence's row of the outcome table.
 use Prim.Native.Nat.{ℕ, zero, suc, _+_, _*_, _%_}
 use mathlib.Core.List.{List, [], _∷_, _++_}
-use lib.ListN.{getD, take, drop}
+use lib.ListN.{getD, set, take, drop}
 use lib.Bits.{bitOr}
 use lib.Count.{ones}
 use Rattle.column.specs.Sets.{difference}
-use Rattle.runs.specs.Touch.{present, absent, untouched, last, first}
+use Rattle.runs.specs.Touch.{Mark, present, absent, untouched, Side, last, first}
 use Rattle.runs.specs.Rows.{columnNumber, clearedColumn, unmentionedColumn}
 use Rattle.row.specs.Words.{rowWords}
 
@@ -17,20 +17,57 @@ flagsOf run empty set cleared = run % 2 + 2 * (empty % 2) + 256 * ones (bitOr se
 abbrev pub alwaysOf : ℕ → ℕ → ℕ → ℕ
 alwaysOf run rival none = difference 64 run (bitOr rival none)
 
+-- the words of a row by their names
+abbrev pub runWord : List ℕ → ℕ
+runWord row = getD row 0 0
+
+abbrev pub sideWord : List ℕ → Side → Mark → ℕ
+sideWord row s m = getD row (columnNumber s m) 0
+
+abbrev pub clearedWord : List ℕ → ℕ
+clearedWord row = getD row clearedColumn 0
+
+abbrev pub unmentionedWord : List ℕ → ℕ
+unmentionedWord row = getD row unmentionedColumn 0
+
+-- a part with the flags, "always needed" and the three "may" columns of document 01 written
+abbrev pub withMay : List ℕ → List ℕ → List ℕ
+withMay row part =
+    set
+    (set
+    (set
+    (set (set part 0 (flagsOf (runWord row) (getD row 1 0) (sideWord row last present) (sideWord row last absent))) 1
+    (alwaysOf (runWord row) (sideWord row first absent) (sideWord row first untouched)))
+    2 (sideWord row first present))
+    3 (sideWord row last present))
+    4 (sideWord row last absent)
+
+-- with the "always" columns that say how a fact is left
+abbrev pub withLeft : List ℕ → List ℕ → List ℕ
+withLeft row part =
+    set
+    (set (set part 5 (alwaysOf (runWord row) (sideWord row last absent) (sideWord row last untouched))) 6
+    (alwaysOf (runWord row) (sideWord row last present) (sideWord row last untouched)))
+    7 (alwaysOf (runWord row) (clearedWord row) (unmentionedWord row))
+
+-- and with the five columns of document 02, request 5
+abbrev pub withRest : List ℕ → List ℕ → List ℕ
+withRest row part =
+    set
+    (set
+    (set (set (set part 8 (sideWord row first absent)) 9 (sideWord row first untouched)) 10 (sideWord row last untouched))
+    11 (clearedWord row))
+    12 (unmentionedWord row)
+
 -- the card of a row
 unfoldable pub rowCard : List ℕ → List ℕ
 rowCard row =
-    let run = getD row 0 0 in
-    let set = getD row (columnNumber last present) 0 in
-    let cleared = getD row (columnNumber last absent) 0 in
-    let last-untouched = getD row (columnNumber last untouched) 0 in
-    let first-set = getD row (columnNumber first absent) 0 in
-    let first-untouched = getD row (columnNumber first untouched) 0 in
-    let end-cleared = getD row clearedColumn 0 in
-    let unmentioned = getD row unmentionedColumn 0 in
-    flagsOf run (getD row 1 0) set cleared ∷ alwaysOf run first-set first-untouched ∷ getD row (columnNumber first present) 0 ∷ set ∷ cleared
-    ∷ alwaysOf run cleared last-untouched ∷ alwaysOf run set last-untouched ∷ alwaysOf run end-cleared unmentioned ∷ first-set ∷ first-untouched
-    ∷ last-untouched ∷ end-cleared ∷ unmentioned ∷ []
+    flagsOf (runWord row) (getD row 1 0) (sideWord row last present) (sideWord row last absent)
+    ∷ alwaysOf (runWord row) (sideWord row first absent) (sideWord row first untouched) ∷ sideWord row first present ∷ sideWord row last present
+    ∷ sideWord row last absent ∷ alwaysOf (runWord row) (sideWord row last absent) (sideWord row last untouched)
+    ∷ alwaysOf (runWord row) (sideWord row last present) (sideWord row last untouched)
+    ∷ alwaysOf (runWord row) (clearedWord row) (unmentionedWord row) ∷ sideWord row first absent ∷ sideWord row first untouched
+    ∷ sideWord row last untouched ∷ clearedWord row ∷ unmentionedWord row ∷ []
 
 -- row c of a table
 abbrev pub rowAt : List ℕ → ℕ → List ℕ

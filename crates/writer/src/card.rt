@@ -20,7 +20,7 @@ ghost use Prim.Native.Nat.{_*_, _≤_};
 ghost use lib.ListN.{length, drop};
 ghost use Rattle.cards.specs.Layout.{cardWords};
 ghost use Rattle.row.specs.Words.{rowWords};
-ghost use Rattle.writer.specs.Card.{flagsOf, alwaysOf, rowCard, tableCards};
+ghost use Rattle.writer.specs.Card.{flagsOf, alwaysOf, withMay, withLeft, withRest, rowCard, tableCards};
 
 // The words of a card, in their order.
 pub const FLAGS: usize = 0;
@@ -75,32 +75,53 @@ fn always(run: u64, rival: u64, untouched: u64) -> u64
     without(run, union(rival, untouched))
 }
 
+// Writes the flags, "always needed" and the three "may" columns of document 01.
+fn write_may(row: &[u64], part: &mut [u64])
+    requires { ⌜ (length (now row) ≡ rowWords) × (length (now part) ≡ cardWords) ⌝ }
+    ensures { λ _. ⌜ now (part .exit) ≡ withMay (now (row .entry)) (now (part .entry)) ⌝ }
+{
+    let run = row[RUN];
+    let set = row[LAST_SET];
+    let cleared = row[LAST_CLEARED];
+    part[FLAGS] = flags(run, row[EMPTY_RUN], set, cleared);
+    part[ALWAYS_NEEDED] = always(run, row[FIRST_SET], row[FIRST_UNTOUCHED]);
+    part[MAY_NEED] = row[FIRST_NEEDED];
+    part[MAY_SET] = set;
+    part[MAY_CLEAR] = cleared;
+}
+
+// Writes the "always" columns that say how a fact is left.
+fn write_left(row: &[u64], part: &mut [u64])
+    requires { ⌜ (length (now row) ≡ rowWords) × (length (now part) ≡ cardWords) ⌝ }
+    ensures { λ _. ⌜ now (part .exit) ≡ withLeft (now (row .entry)) (now (part .entry)) ⌝ }
+{
+    let run = row[RUN];
+    let untouched = row[LAST_UNTOUCHED];
+    part[ALWAYS_SET] = always(run, row[LAST_CLEARED], untouched);
+    part[ALWAYS_CLEARED] = always(run, row[LAST_SET], untouched);
+    part[ALWAYS_STANDS] = always(run, row[CLEARED], row[UNMENTIONED]);
+}
+
+// Writes the five columns by which cards are put together: those of the row that no word before has.
+fn write_rest(row: &[u64], part: &mut [u64])
+    requires { ⌜ (length (now row) ≡ rowWords) × (length (now part) ≡ cardWords) ⌝ }
+    ensures { λ _. ⌜ now (part .exit) ≡ withRest (now (row .entry)) (now (part .entry)) ⌝ }
+{
+    part[MAY_FIRST_SET] = row[FIRST_SET];
+    part[MAY_FIRST_UNTOUCHED] = row[FIRST_UNTOUCHED];
+    part[MAY_LAST_UNTOUCHED] = row[LAST_UNTOUCHED];
+    part[MAY_END_CLEARED] = row[CLEARED];
+    part[MAY_END_UNMENTIONED] = row[UNMENTIONED];
+}
+
 // Writes a sequence's card into its own part of the card area, from its row of the outcome table.
 pub fn write_card(row: &[u64], part: &mut [u64])
     requires { ⌜ (length (now row) ≡ rowWords) × (length (now part) ≡ cardWords) ⌝ }
     ensures { λ _. ⌜ now (part .exit) ≡ rowCard (now (row .entry)) ⌝ }
 {
-    let run = row[RUN];
-    let set = row[LAST_SET];
-    let cleared = row[LAST_CLEARED];
-    let untouched = row[LAST_UNTOUCHED];
-    let first_set = row[FIRST_SET];
-    let first_untouched = row[FIRST_UNTOUCHED];
-    let end_cleared = row[CLEARED];
-    let unmentioned = row[UNMENTIONED];
-    part[FLAGS] = flags(run, row[EMPTY_RUN], set, cleared);
-    part[ALWAYS_NEEDED] = always(run, first_set, first_untouched);
-    part[MAY_NEED] = row[FIRST_NEEDED];
-    part[MAY_SET] = set;
-    part[MAY_CLEAR] = cleared;
-    part[ALWAYS_SET] = always(run, cleared, untouched);
-    part[ALWAYS_CLEARED] = always(run, set, untouched);
-    part[ALWAYS_STANDS] = always(run, end_cleared, unmentioned);
-    part[MAY_FIRST_SET] = first_set;
-    part[MAY_FIRST_UNTOUCHED] = first_untouched;
-    part[MAY_LAST_UNTOUCHED] = untouched;
-    part[MAY_END_CLEARED] = end_cleared;
-    part[MAY_END_UNMENTIONED] = unmentioned;
+    write_may(row, part);
+    write_left(row, part);
+    write_rest(row, part);
 }
 
 // Writes the cards of the first `n` sequences, sequence 0 first. Words past them stay.

@@ -7,7 +7,7 @@ use Rattle.list.proofs.compose.write_row.Tie as tie
 use Rattle.list.proofs.compose.write_row.Reads as reads
 use Rattle.list.proofs.compose.write_row.Lts as lts
 use Rattle.list.proofs.compose.kept_row.Reads as kept-row-reads
-use Rattle.row.proofs.words.put_row.Reads as put-row-reads
+use Rattle.rows.proofs.table.put_row.Reads as put-row-reads
 use Rattle.writer.proofs.card.flags.Reads as flags-reads
 use Rattle.writer.proofs.card.write_card.Reads as write-card-reads
 

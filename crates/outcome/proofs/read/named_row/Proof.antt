@@ -12,7 +12,7 @@ use Rattle.outcome.proofs.read.named_row.Reads as reads
 use Rattle.outcome.proofs.read.named_row.Lts as lts
 use Rattle.image.proofs.word.is_kind.Reads as is-kind-reads
 use Rattle.image.proofs.word.payload_of.Reads as payload-of-reads
-use Rattle.row.proofs.words.row_at.Reads as row-at-reads
+use Rattle.rows.proofs.table.row_at.Reads as row-at-reads
 
 is-kind-requires : tie.Need-is-kind-requires
 is-kind-requires c κs = search needs

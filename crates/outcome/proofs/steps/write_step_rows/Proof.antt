@@ -8,7 +8,7 @@ use Rattle.outcome.proofs.steps.write_step_rows.Statement.{statement}
 use Rattle.outcome.proofs.steps.write_step_rows.Tie as tie
 use Rattle.outcome.proofs.steps.write_step_rows.Reads as reads
 use Rattle.outcome.proofs.steps.write_step_rows.Lts as lts
-use Rattle.row.proofs.words.put_row.Reads as put-row-reads
+use Rattle.rows.proofs.table.put_row.Reads as put-row-reads
 use Rattle.outcome.proofs.steps.step_row.Reads as step-row-reads
 
 abbrev Inv-loop : tie.InvT-loop

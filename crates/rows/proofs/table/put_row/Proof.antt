@@ -1,12 +1,12 @@
--- `row::words::put_row` meets its contract: a store for each word.
+-- `rows::table::put_row` meets its contract: a store for each word.
 -- Assumes nothing.
 use borrow.Author.Needs.{needs}
 use native.Mathlib.Omega.{arith}
 use lib.ListN.{length-set}
-use Rattle.row.proofs.words.put_row.Statement.{statement}
-use Rattle.row.proofs.words.put_row.Tie as tie
-use Rattle.row.proofs.words.put_row.Reads as reads
-use Rattle.row.proofs.words.put_row.Lts as lts
+use Rattle.rows.proofs.table.put_row.Statement.{statement}
+use Rattle.rows.proofs.table.put_row.Tie as tie
+use Rattle.rows.proofs.table.put_row.Reads as reads
+use Rattle.rows.proofs.table.put_row.Lts as lts
 
 mul-at : tie.Need-mul-at
 mul-at c = search needs
