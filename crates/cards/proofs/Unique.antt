@@ -1,7 +1,6 @@
 -- What a card says fixes its words: any words of which `Card` holds are the same.
 -- Assumes nothing.
 use Prim.Native.Nat.{ℕ, zero, suc, _+_, _-_, _/_, _%_, _^_, _≤_, _<_}
-use native.Mathlib.Nat.{pow-suc}
 use native.Mathlib.Omega.{arith}
 use native.Mathlib.Decide.{decLt}
 use mathlib.Core.Path.{_≡_, refl, sym, ap, ap₂, _∙_}
@@ -10,7 +9,7 @@ use mathlib.Core.Bool.{_||_, true≢false}
 use lib.Pow.{shr-shr}
 use Rattle.column.specs.Column.{bit}
 use Rattle.column.specs.Sets.{inColumn, countBelow}
-use Rattle.column.proofs.Bits.{bit-le, bits-equal}
+use Rattle.column.proofs.Bits.{bit-le, all-bits}
 use Rattle.library.specs.Library.{Library}
 use Rattle.runs.specs.Possible.{hasRun}
 use Rattle.general.proofs.Bools.{passes-or-not}
@@ -18,15 +17,6 @@ use Rattle.runs.proofs.Columns.{hasRun-iff}
 use Rattle.cards.specs.Layout.{CardColumn, may-set, may-clear, place, cardWords}
 use Rattle.cards.specs.Meaning.{HasRun, NoRun, Card}
 use Rattle.cards.proofs.Meaning.{by-word}
-
-low-pow : (n : ℕ) → n < 2 ^ n
-low-pow zero = omega arith
-low-pow (suc n) = omega (arith, low-pow n, pow-suc 2 n)
-
--- numbers with the same bits are equal
-all-bits : (a b : ℕ) → ((k : ℕ) → bit a k ≡ bit b k) → a ≡ b
-all-bits a b same =
-    bits-equal (a + b) a b (omega (arith, low-pow (a + b))) (omega (arith, low-pow (a + b))) (λ k l. same k)
 
 -- bits that are 1 together are equal
 bit-iff : (a b k : ℕ) → (bit a k ≡ 1) ↔ (bit b k ≡ 1) → bit a k ≡ bit b k

@@ -117,3 +117,12 @@ pub column-none : (n : ℕ) → column n (λ (k : ℕ). false) ≡ 0
 unfolding column
 column-none zero = refl
 column-none (suc n) = omega (arith, column-none n)
+
+low-pow : (n : ℕ) → n < 2 ^ n
+low-pow zero = omega arith
+low-pow (suc n) = omega (arith, low-pow n, pow-suc 2 n)
+
+-- numbers with the same bits are equal
+pub all-bits : (a b : ℕ) → ((k : ℕ) → bit a k ≡ bit b k) → a ≡ b
+all-bits a b same =
+    bits-equal (a + b) a b (omega (arith, low-pow (a + b))) (omega (arith, low-pow (a + b))) (λ k l. same k)

@@ -22,7 +22,7 @@ use Rattle.runs.specs.Domain.{actionOf}
 use Rattle.runs.specs.Rows.{columnNumber, entryRow, foldRow, readRow, joinRow, touchRow}
 use Rattle.runs.specs.Rows as rows
 use Rattle.row.specs.Words.{rowWords, allFacts, noRow, startRow, stepRow, checkRow, joinRows, orRows, rowIn, isSet, bitRow}
-use Rattle.outcome.specs.Walks.{isDead, entryIn, joinedFrom, alternativeIn, unitedFrom}
+use Rattle.reading.specs.Walks.{isDead, entryIn, joinedFrom, alternativeIn, unitedFrom}
 use Rattle.row.specs.declared.words.Row.{Row}
 use Rattle.runs.specs.Touch.{Side, last, first, Mark, present, absent, untouched}
 use Rattle.runs.proofs.Rows.{by-column, itemRow-touch, join-agree, fold-dead}

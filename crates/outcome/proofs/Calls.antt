@@ -12,11 +12,12 @@ use Rattle.library.specs.Library.{Entry, item, call, Alternative}
 use lib.Dec.{ltb}
 use Rattle.walk.specs.Walk.{alternativesAt}
 use Rattle.general.specs.Tests.{All}
-use Rattle.outcome.specs.Walks.{isDead, entryIn, joinedFrom, alternativeIn, unitedFrom}
+use Rattle.reading.specs.Walks.{isDead, entryIn, joinedFrom, alternativeIn, unitedFrom}
 use Rattle.outcome.specs.Visited.{visitedRow, visited}
 use Rattle.callers.specs.Callers.{calls}
 use Rattle.row.specs.declared.words.Row.{Row}
-use Rattle.outcome.proofs.Stores.{rows-again, row-same, row-other, row-again}
+use Rattle.row.proofs.Bits.{rows-again}
+use Rattle.outcome.proofs.Stores.{row-same, row-other, row-again}
 use Rattle.callers.proofs.Calls.{calls-all}
 use Rattle.settling.proofs.Stale.{Local}
 

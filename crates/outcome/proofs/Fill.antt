@@ -27,7 +27,7 @@ use Rattle.rules.specs.Checked.{accepts}
 use Rattle.tables.proofs.Tables as tables
 use Rattle.tables.proofs.Tables.{step-masks, sequences-are, place-is, scheduled}
 use Rattle.outcome.specs.Area.{outcomes, OutcomesAsked}
-use Rattle.outcome.specs.Walks.{StepRows}
+use Rattle.reading.specs.Walks.{StepRows}
 use Rattle.outcome.specs.Visited.{RowsVisitable, visited}
 use Rattle.outcome.proofs.Bridge.{Stepped}
 use Rattle.outcome.proofs.Filled.{table-filled}

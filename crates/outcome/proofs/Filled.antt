@@ -24,7 +24,7 @@ use Rattle.outcome.specs.Area.{outcomeWord, outcomeRows, outcomes}
 use Rattle.runs.specs.Rows.{columnNumber}
 use Rattle.row.specs.Words.{rowWords, allFacts, rowIn, wordsOf}
 use Rattle.settling.specs.Settling.{Reached, Settled}
-use Rattle.outcome.specs.Walks.{isDead}
+use Rattle.reading.specs.Walks.{isDead}
 use Rattle.outcome.specs.Visited.{visited}
 use Rattle.row.specs.declared.words.Row.{Row}
 use Rattle.outcome.proofs.Low.{LowRow, none-low, reached-low}

@@ -6,6 +6,5 @@ pub mod Whole
 pub mod Settled
 pub mod Filled
 pub mod Fill
-pub mod Walks
 pub mod StepRows
 pub mod Calls

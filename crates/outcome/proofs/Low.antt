@@ -15,7 +15,7 @@ use Rattle.column.specs.Sets.{difference}
 use Rattle.library.specs.Library.{Entry, step, check, item, call, Alternative}
 use Rattle.walk.specs.Walk.{alternativesAt}
 use Rattle.row.specs.Words.{rowWords, allFacts, allBits, noRow, startRow, notWord, stepMarks, stepRow, checkRow, laterMarks, joinRows, orMarks, orRows, rowIn}
-use Rattle.outcome.specs.Walks.{isDead, entryIn, joinedFrom, alternativeIn, unitedFrom}
+use Rattle.reading.specs.Walks.{isDead, entryIn, joinedFrom, alternativeIn, unitedFrom}
 use Rattle.outcome.specs.Visited.{visited}
 use Rattle.settling.specs.Settling.{Reached, here, next}
 use Rattle.row.specs.declared.words.Marks.{Marks}

@@ -24,7 +24,7 @@ use Rattle.runs.specs.Algebra.{sideAlgebra}
 use Rattle.runs.specs.Possible.{columnPossible}
 use Rattle.runs.specs.Rows.{Row, columnNumber, readRow, GoodRow, GoodRows, ClosedRows}
 use Rattle.row.specs.Words.{rowWords, allFacts, noRow, orRows, rowIn, bitRow}
-use Rattle.outcome.specs.Walks.{unitedFrom}
+use Rattle.reading.specs.Walks.{unitedFrom}
 use Rattle.outcome.specs.Visited.{visited}
 use Rattle.settling.specs.Settling.{Reached, here, next, Settled}
 use Rattle.row.specs.declared.words.Row as words

@@ -7,7 +7,7 @@ use mathlib.Core.List.{List}
 use lib.ListN.{length}
 use borrow.Author.Count.{below-none, below-more}
 use Rattle.row.specs.Words.{rowWords, rowIn, withRow}
-use Rattle.outcome.specs.Walks.{maskRow, StepRows}
+use Rattle.reading.specs.Walks.{maskRow, StepRows}
 use Rattle.outcome.proofs.Stores.{row-length, row-same, row-other}
 
 module _ (all : ℕ) (masks : List ℕ) (n : ℕ) (t₀ : List ℕ) where

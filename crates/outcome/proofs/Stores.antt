@@ -3,7 +3,7 @@
 -- `lacking-falls`).
 -- Assumes nothing.
 use Prim.Native.Nat.{ℕ, zero, suc, _+_, _-_, _*_, _^_, _≤_, _<_}
-use native.Mathlib.Nat.{add-zero, add-suc, suc-add, pow-suc, le-of-suc-le-suc}
+use native.Mathlib.Nat.{add-zero, add-suc, suc-add, le-of-suc-le-suc}
 use native.Mathlib.Numerals.{towards-suc}
 use native.Mathlib.Decide.{decLt}
 use native.Mathlib.Omega.{arith}
@@ -15,9 +15,7 @@ use lib.ListN.{length, getD, set, take, drop, length-set, take-append-drop}
 use lib.Seq.{sets, sets-eq, length-sets, drop-cons, drop-drop, getD-set-same, getD-set-other, set-getD}
 use lib.Bits.{bitOr, or-add-and, and-le-r}
 use lib.Dec.{eqb}
-use lib.Pow.{pow-mono}
 use borrow.Author.Tests.{eq-eqb, eqb-true}
-use Rattle.column.proofs.Bits.{bit-or, bits-equal}
 use Rattle.general.specs.Tests.{All}
 use Rattle.general.proofs.Bools.{and-left, and-right}
 use Rattle.row.specs.Words.{rowWords, orRows, sameMarks, sameRows, rowIn, withRow, wordsOf}
@@ -136,23 +134,6 @@ lacking-row t c r room =
 
 or-le : (a b : ℕ) → a ≤ bitOr a b
 or-le a b = omega (arith, or-add-and a b, and-le-r a b)
-
-below-power : (m : ℕ) → m < 2 ^ m
-below-power zero = omega arith
-below-power (suc m) = omega (arith, below-power m, pow-suc 2 m)
-
-or-again : (a b : ℕ) → bitOr (bitOr a b) b ≡ bitOr a b
-or-again a b =
-    let x = bitOr a b in
-    let y = bitOr x b in
-    let w : ℕ = x + y in
-    let left : x ≤ w = omega arith in
-    let right : y ≤ w = omega arith in
-    bits-equal w y x (omega (arith, below-power y, pow-mono right)) (omega (arith, below-power x, pow-mono left)) (λ k l. omega (arith, bit-or x b k, bit-or a b k))
-
--- what is united again is there already
-pub rows-again : (x y : Row) → orRows (orRows x y) y ≡ orRows x y
-rows-again x y = simp or-again
 
 -- each word of the one list is at most that of the other
 Below : List ℕ → List ℕ → Type 0

@@ -10,7 +10,7 @@ use borrow.Author.Tests.{not-true, not-false}
 use Rattle.row.specs.Words.{rowWords, noRow, rowIn, withRow, sameRows}
 use Rattle.settling.proofs.Visits.{Lowers}
 use Rattle.walk.specs.Walk.{alternativesAt}
-use Rattle.outcome.specs.Walks.{unitedFrom}
+use Rattle.reading.specs.Walks.{unitedFrom}
 use Rattle.settling.specs.Settling.{Visit}
 use Rattle.outcome.specs.Visited.{lacking, RowsVisitable, visitedRow, visited}
 use Rattle.outcome.proofs.Stores.{Fitting, row-length, row-again, rows-equal, lacking-least, lacking-falls}

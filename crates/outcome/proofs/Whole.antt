@@ -14,7 +14,7 @@ use Rattle.walk.specs.Walk.{alternativesAt}
 use Rattle.row.specs.Words.{rowWords, noRow, startRow, joinRows, orRows, rowIn}
 use Rattle.row.specs.declared.words.Row.{Row}
 use Rattle.settling.specs.Settling.{Reached, here, next}
-use Rattle.outcome.specs.Walks.{isDead, entryIn, joinedFrom, alternativeIn, unitedFrom}
+use Rattle.reading.specs.Walks.{isDead, entryIn, joinedFrom, alternativeIn, unitedFrom}
 use Rattle.outcome.specs.Visited.{visited}
 use Rattle.outcome.proofs.Stores.{row-same, row-other}
 use Rattle.outcome.proofs.Visited.{visits-lower}

@@ -4,7 +4,7 @@ use mathlib.Core.List.{List, [], _∷_}
 use lib.ListN.{length, getD}
 use Rattle.walk.specs.Walk.{alternativesAt}
 use Rattle.row.specs.Words.{rowWords, noRow, orRows, rowIn, withRow}
-use Rattle.outcome.specs.Walks.{RowsReadable, unitedFrom}
+use Rattle.reading.specs.Walks.{RowsReadable, unitedFrom}
 use Rattle.row.specs.declared.words.Row.{Row}
 
 -- how much the words lack to the greatest number: what falls while the table grows

@@ -1,8 +1,8 @@
 // The outcome table settled: a visit unites the row of a sequence with what its alternatives give, and sequences are visited until no visit
 // changes a row.
-use crate::read::read_sequence;
 use callers::sets::ALL_SEQUENCES;
 use callers::sets::SET_WORDS;
+use reading::read::read_sequence;
 use row::words::same;
 use row::words::united;
 use rows::table::put_row;

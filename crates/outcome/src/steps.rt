@@ -6,7 +6,7 @@ use rows::table::put_row;
 ghost use mathlib.Core.Path.{_≡_};
 ghost use Prim.Native.Nat.{_+_, _*_, _≤_};
 ghost use lib.ListN.{length};
-ghost use Rattle.outcome.specs.Walks.{maskRow, StepRows};
+ghost use Rattle.reading.specs.Walks.{maskRow, StepRows};
 ghost use Rattle.row.specs.Words.{rowWords};
 ghost use Rattle.library.specs.Tables.{maskWords};
 

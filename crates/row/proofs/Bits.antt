@@ -11,7 +11,7 @@ use lib.Pow.{ones-split, high, ones-lt, pow-pos, pow-lt}
 use mir.Val.{boolByte}
 use Rattle.column.specs.Column.{bit, withFact}
 use Rattle.column.specs.Sets.{difference}
-use Rattle.column.proofs.Bits.{bit-le, bit-or, bit-and, bit-not, bit-none, bit-pow}
+use Rattle.column.proofs.Bits.{bit-le, bit-or, bit-and, bit-not, bit-none, bit-pow, all-bits}
 use Rattle.runs.specs.Touch.{Mark, present, absent, untouched, Side, last, first}
 use Rattle.runs.specs.Rows as rows
 use Rattle.runs.specs.Rows.{columnNumber, joinRow, touchRow}
@@ -173,3 +173,10 @@ check-bits g f l low =
     side first present = fact-set g f l low
     side first absent = none-set f
     side first untouched = others-set g f l low ∙ ap not (sym (or-false (eqb g f)))
+
+-- what is united again is there already
+or-again : (a b : ℕ) → bitOr (bitOr a b) b ≡ bitOr a b
+or-again a b = all-bits (bitOr (bitOr a b) b) (bitOr a b) (λ k. omega (arith, bit-or (bitOr a b) b k, bit-or a b k))
+
+pub rows-again : (x y : Row) → orRows (orRows x y) y ≡ orRows x y
+rows-again x y = simp or-again

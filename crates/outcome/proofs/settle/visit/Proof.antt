@@ -11,7 +11,7 @@ use Rattle.outcome.proofs.settle.visit.Statement.{statement}
 use Rattle.outcome.proofs.settle.visit.Tie as tie
 use Rattle.outcome.proofs.settle.visit.Reads as reads
 use Rattle.outcome.proofs.settle.visit.Lts as lts
-use Rattle.outcome.proofs.read.read_sequence.Reads as read-sequence-reads
+use Rattle.reading.proofs.read.read_sequence.Reads as read-sequence-reads
 use Rattle.rows.proofs.table.put_row.Reads as put-row-reads
 use Rattle.rows.proofs.table.row_at.Reads as row-at-reads
 use Rattle.row.proofs.words.same.Reads as same-reads

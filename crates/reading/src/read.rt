@@ -23,7 +23,7 @@ ghost use Rattle.image.specs.Word.{payload, isKind, isEntry, mostFacts};
 ghost use Rattle.library.specs.Library.{alternativesFrom};
 ghost use Rattle.library.specs.Library.{entryOf};
 ghost use Rattle.row.specs.Words.{noRow, checkRow};
-ghost use Rattle.outcome.specs.Walks.{RowWithin, RowsReadable, entryIn, unitedFrom, AlternativeFolded, EmptiesEnd};
+ghost use Rattle.reading.specs.Walks.{RowWithin, RowsReadable, entryIn, unitedFrom, AlternativeFolded, EmptiesEnd};
 
 // The row of an alternative, and the index at which the walk over its entries ended: that of the first dead one, or of the word after them.
 pub struct Read {

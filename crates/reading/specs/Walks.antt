@@ -12,7 +12,7 @@ use Rattle.library.specs.Accepted.{HighEntry}
 use Rattle.walk.specs.Walk.{namesNone, walkEnd}
 use Rattle.row.specs.Words.{rowWords, noRow, startRow, stepRow, checkRow, joinRows, orRows, rowIn}
 use Rattle.row.specs.declared.words.Row.{Row}
-use Rattle.outcome.specs.declared.read.Read.{Read}
+use Rattle.reading.specs.declared.read.Read.{Read}
 use Rattle.library.specs.Tables.{maskWords}
 
 -- a word of the sequences' part; an entry names a row of the steps' table, in which a run is found, one of the table of outcomes, or a fact that

@@ -1,4 +1,4 @@
--- `outcome::read::read_sequence` meets its contract: what is united so far, with the alternatives to come, is the whole sequence.
+-- `reading::read::read_sequence` meets its contract: what is united so far, with the alternatives to come, is the whole sequence.
 -- Assumes nothing.
 use borrow.Author.Needs.{needs}
 use borrow.Author.Tests.{not-true, not-false}
@@ -11,10 +11,10 @@ use Rattle.image.specs.Word.{isKind, isEntry}
 use Rattle.library.specs.Library.{alternativesFrom}
 use Rattle.walk.proofs.Walking.{tested, Walking, walking-start, walking-opener-inside, walking-turn, walking-pass, walking-entry-inside, walking-out}
 use Rattle.row.specs.Words.{noRow}
-use Rattle.outcome.specs.Walks.{isDead, unitedFrom}
-use Rattle.outcome.proofs.Walks.{uniting-empties}
-use Rattle.outcome.proofs.read.read_sequence.Statement.{statement}
-use Rattle.outcome.proofs.read.read_sequence.Tie as tie
+use Rattle.reading.specs.Walks.{isDead, unitedFrom}
+use Rattle.reading.proofs.Walks.{uniting-empties}
+use Rattle.reading.proofs.read.read_sequence.Statement.{statement}
+use Rattle.reading.proofs.read.read_sequence.Tie as tie
 
 abbrev Inv-loop : tie.InvT-loop
 Inv-loop all steps table part at x₀ i₀ x i = Walking part (unitedFrom all steps table noRow (alternativesFrom (drop at part))) (unitedFrom all steps table x) i

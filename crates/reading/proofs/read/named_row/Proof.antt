@@ -1,4 +1,4 @@
--- `outcome::read::named_row` meets its contract: an entry that is neither a step nor a check is a sequence.
+-- `reading::read::named_row` meets its contract: an entry that is neither a step nor a check is a sequence.
 -- Assumes nothing.
 use borrow.Author.Needs.{needs}
 use borrow.Author.Tests.{eqb-true, eqb-false}
@@ -6,10 +6,10 @@ use mathlib.Core.Path.{sym, _∙_, ap}
 use Rattle.image.specs.Word.{kind}
 use Rattle.row.specs.Words.{rowIn}
 use Rattle.image.proofs.Words.{entry-kinds}
-use Rattle.outcome.proofs.read.named_row.Statement.{statement}
-use Rattle.outcome.proofs.read.named_row.Tie as tie
-use Rattle.outcome.proofs.read.named_row.Reads as reads
-use Rattle.outcome.proofs.read.named_row.Lts as lts
+use Rattle.reading.proofs.read.named_row.Statement.{statement}
+use Rattle.reading.proofs.read.named_row.Tie as tie
+use Rattle.reading.proofs.read.named_row.Reads as reads
+use Rattle.reading.proofs.read.named_row.Lts as lts
 use Rattle.image.proofs.word.is_kind.Reads as is-kind-reads
 use Rattle.image.proofs.word.payload_of.Reads as payload-of-reads
 use Rattle.rows.proofs.table.row_at.Reads as row-at-reads

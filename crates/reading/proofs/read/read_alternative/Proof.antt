@@ -1,4 +1,4 @@
--- `outcome::read::read_alternative` meets its contract: what is joined so far, with the entries to come, is the whole alternative.
+-- `reading::read::read_alternative` meets its contract: what is joined so far, with the entries to come, is the whole alternative.
 -- Assumes nothing.
 use borrow.Author.Needs.{needs}
 use borrow.Author.Tests.{not-true, not-false, lt-ltb, eqb-true}
@@ -15,10 +15,10 @@ use Rattle.library.specs.Library.{entryOf}
 use Rattle.walk.proofs.Walking.{tested, folding-inside, folding-out, Leaving, leaving-start, leaving-turn, leaving-dead, leaving-rest, leaving-out}
 use Rattle.row.specs.Words.{startRow, checkRow}
 use Rattle.row.specs.declared.words.Row.{Row}
-use Rattle.outcome.specs.Walks.{isDead, entryIn, joinedFrom}
-use Rattle.outcome.proofs.Walks.{dead-is, joined-live, joined-dead}
-use Rattle.outcome.proofs.read.read_alternative.Statement.{statement}
-use Rattle.outcome.proofs.read.read_alternative.Tie as tie
+use Rattle.reading.specs.Walks.{isDead, entryIn, joinedFrom}
+use Rattle.reading.proofs.Walks.{dead-is, joined-live, joined-dead}
+use Rattle.reading.proofs.read.read_alternative.Statement.{statement}
+use Rattle.reading.proofs.read.read_alternative.Tie as tie
 
 abbrev Inv-loop : tie.InvT-loop
 Inv-loop all steps table part at x₀ i₀ x i =

@@ -12,9 +12,9 @@ use Rattle.image.specs.Word.{kind, payload, isKind, isEntry}
 use Rattle.library.specs.Library.{Entry, step, check, item, call, entryOf, Alternative, alternativesFrom}
 use Rattle.walk.proofs.Walking.{opener-inside, entries-at, alternatives-at, Walking, walking-here}
 use Rattle.row.specs.Words.{noRow, startRow, joinRows, orRows, rowIn}
-use Rattle.outcome.specs.Walks.{RowWithin, isDead, entryIn, joinedFrom, unitedFrom, EmptiesEnd}
+use Rattle.reading.specs.Walks.{RowWithin, isDead, entryIn, joinedFrom, unitedFrom, EmptiesEnd}
 use Rattle.row.specs.declared.words.Row.{Row}
-use Rattle.outcome.proofs.Stores.{rows-again}
+use Rattle.row.proofs.Bits.{rows-again}
 
 -- an entry in whose row no run is found names a sequence, since a run is found in the row of a step and in that of a check
 pub dead-is : (steps table : List ℕ) (w : ℕ) → RowWithin steps table w → isEntry w ≡ true

@@ -1,4 +1,4 @@
--- `outcome::read::empties_end` meets its contract: the alternatives so far have no entries.
+-- `reading::read::empties_end` meets its contract: the alternatives so far have no entries.
 -- Assumes nothing.
 use borrow.Author.Needs.{needs}
 use native.Mathlib.Omega.{arith}
@@ -8,10 +8,10 @@ use Prim.Native.Nat.{_-_}
 use lib.ListN.{length, getD}
 use Rattle.image.specs.Word.{isKind, isEntry}
 use Rattle.walk.proofs.Walking.{tested, opener-inside}
-use Rattle.outcome.specs.Walks.{EmptiesEnd}
-use Rattle.outcome.proofs.Walks.{empties-start, empties-turn}
-use Rattle.outcome.proofs.read.empties_end.Statement.{statement}
-use Rattle.outcome.proofs.read.empties_end.Tie as tie
+use Rattle.reading.specs.Walks.{EmptiesEnd}
+use Rattle.reading.proofs.Walks.{empties-start, empties-turn}
+use Rattle.reading.proofs.read.empties_end.Statement.{statement}
+use Rattle.reading.proofs.read.empties_end.Tie as tie
 
 abbrev Inv-loop : tie.InvT-loop
 Inv-loop part at i₀ i = EmptiesEnd part at i

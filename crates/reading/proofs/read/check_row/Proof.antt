@@ -1,12 +1,12 @@
--- `outcome::read::check_row` meets its contract.
+-- `reading::read::check_row` meets its contract.
 -- Assumes nothing.
 use borrow.Author.Needs.{needs}
 use mathlib.Core.Path.{_∙_, ap}
 use Rattle.row.specs.Words.{checkRow}
-use Rattle.outcome.proofs.read.check_row.Statement.{statement}
-use Rattle.outcome.proofs.read.check_row.Tie as tie
-use Rattle.outcome.proofs.read.check_row.Reads as reads
-use Rattle.outcome.proofs.read.check_row.Lts as lts
+use Rattle.reading.proofs.read.check_row.Statement.{statement}
+use Rattle.reading.proofs.read.check_row.Tie as tie
+use Rattle.reading.proofs.read.check_row.Reads as reads
+use Rattle.reading.proofs.read.check_row.Lts as lts
 use Rattle.image.proofs.word.payload_of.Reads as payload-of-reads
 use Rattle.row.proofs.words.of_check.Reads as of-check-reads
 
