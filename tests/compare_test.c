@@ -181,7 +181,7 @@
  * (order/untested); clear words judged one by one where they could be read
  * together (column/apart_if_empty); small areas for one sequence more, which
  * then have the room (tables/small_for_more); where a walk over entries ended
- * (outcome/left_where_it_began, rank/all_ranked_where_it_began), or that it
+ * (reading/left_where_it_began, rank/all_ranked_where_it_began), or that it
  * went on past a dead one (rank/dead_unasked). Nor is the order of refusals 10
  * and 11 (question/eleven_before_ten), since all questions here are in range;
  * chain_test has it.
