@@ -42,7 +42,7 @@ allThenOne one rest [] = false
 allThenOne one rest (m ∷ ms) = one m || rest m && allThenOne one rest ms
 
 module _ (area ms : List ℕ) (f : ℕ) where
-  -- "a[n] .. untouched or "no such item" bit where all members have it"
+  -- "a flag, untouched or "no such item" bit where all members have it"
   abbrev allHave : CardColumn → Bool
   allHave k = every (has area f k) ms
 
