@@ -167,19 +167,20 @@
  * or has all facts without a run; word 12 is "may clear", or "always cleared"
  * and not "always stands"; word 13 is word 10 or 11, or lacks what word 12 has;
  * bits from F upward in word 10 or 13; the five are 0, or are not written (17
- * breaks): all are reported.
+ * breaks, over a quarter of the libraries): all are reported.
  * Breaks of the list call, in whose place the rule of list_model.h stood: of
  * those that list_test names, the 36 that are about the card of a list over a
- * library's cards, another answer or changed cards: all are reported, as words
- * of the added sequence's card. What is about refusals, F, areas that no
+ * library's cards, another answer or changed cards, over a quarter of the
+ * libraries: all are reported, as words of the added sequence's card. What is about refusals, F, areas that no
  * library fills or the list is not tried here.
  * And breaks of the code that request 5 brought or moved, compiled without its
  * proofs: 26 of the list call and of all facts below a number, of which those
  * about refusals, about F = 0 and about bits that no library's cards have are
  * reported by list_test alone (eight), and all others here too; ten of the card
  * writer, three of a row's columns of what stands, one of a table of rows: all
- * are reported. Where the first word of every row is read from row 0, the card
- * call does not end, nor does cards_test.
+ * are reported. Where the first word of every row is read from row 0,
+ * cards_test had not ended after half a minute and was stopped; it was not
+ * tried here.
  * And the must-fail edits of the crates that changed the code of the three
  * calls when this was tried, 83 of them: all are reported but ten, one of which
  * is that of too few words. What shows in no answer and no area is not: bits
