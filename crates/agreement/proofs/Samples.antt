@@ -13,6 +13,7 @@ use Rattle.rules.specs.Checked.{scan, checked}
 use Rattle.library.specs.Library.{Library, has, libraryOf, Item, step, check}
 use Rattle.rules.specs.Rules.{opened, lastOf, setsOf}
 use Rattle.general.specs.Numbers.{total}
+use Rattle.image.specs.Word.{runningSums}
 use Rattle.runs.specs.Run.{Run, Gives, nothing, by-item, by-call, alternativeOf}
 use Rattle.runs.specs.Execution.{Fact, State, Executes, end}
 use Rattle.runs.specs.Possible.{possible}
@@ -129,6 +130,6 @@ check-fails = (check-run, λ executing. false≢true (executing .0 0 refl .1))
 -- ---- the one fact
 
 pub starred-hold : All Holds starred
-unfolding checked scan total opened lastOf setsOf inColumn bit libraryOf has possible cards card chained chainWords printed wordsOf cardLines linesFrom cardLine spaced numeral numeralIn refusalLine listCard some
+unfolding checked scan total runningSums opened lastOf setsOf inColumn bit libraryOf has possible cards card chained chainWords printed wordsOf cardLines linesFrom cardLine spaced numeral numeralIn refusalLine listCard some
 starred-hold =
     (refl, (refl, (refl, (refl, (refl, (refl, (refl, (refl, (both-steps, (second-fails, (second-executes, (refl, (refl, (refl, (refl, (refl, (refl, (refl, (clear-executes, (refl, (need-fails, (refl, (refl, (refl, (refl, (refl, (refl, (refl, (check-executes, (check-fails, (refl, (refl, (refl, (refl, (refl, (refl, (refl, (refl, (refl, (refl, (refl, (refl, (refl, (refl, (refl, (refl, tt))))))))))))))))))))))))))))))))))))))))))))))

@@ -20,51 +20,51 @@ use Rattle.dulimoven.specs.Engine.{engine}
 abbrev pub L : List ℕ
 L =
     0x100c0183 ∷ 0x50000000 ∷ 0x30000000 ∷ 0x50000001 ∷ 0x20000000 ∷ 0x30000001 ∷ 0x50000002 ∷ 0x40000001 ∷ 0x60000000 ∷ 0x70000000
-    ∷ 0x80000000 ∷ 0x70000000 ∷ 0x60000001 ∷ 0x70000000 ∷ 0x90000000 ∷ 0x80000001 ∷ 0x60000002 ∷ 0x70000000 ∷ 0x90000002 ∷ 0xf00c019a
+    ∷ 0x80000000 ∷ 0x70000000 ∷ 0x60000001 ∷ 0x70000000 ∷ 0x90000000 ∷ 0x80000001 ∷ 0x60000002 ∷ 0x70000000 ∷ 0x90000002 ∷ 0xf0f20910
     ∷ []
 
--- one fact and nothing else: 10000001 f0000002
+-- one fact and nothing else
 abbrev pub bare : List ℕ
-bare = 0x10000001 ∷ 0xf0000002 ∷ []
+bare = 0x10000001 ∷ 0xf0000401 ∷ []
 
 -- one sequence with the alternatives <itself> and <>
 abbrev pub selfCall : List ℕ
-selfCall = 0x10040001 ∷ 0x60000000 ∷ 0x70000000 ∷ 0x90000000 ∷ 0x70000000 ∷ 0xf004000f ∷ []
+selfCall = 0x10040001 ∷ 0x60000000 ∷ 0x70000000 ∷ 0x90000000 ∷ 0x70000000 ∷ 0xf0152c05 ∷ []
 
 -- sequence 0 with the alternatives <set f, sequence 1> and <clear f>; sequence 1 is endless, its one alternative is <itself>
 abbrev pub endlessFirst : List ℕ
 endlessFirst =
     0x10080101 ∷ 0x50000000 ∷ 0x30000000 ∷ 0x50000001 ∷ 0x40000000 ∷ 0x60000000 ∷ 0x70000000 ∷ 0x80000000 ∷ 0x90000001 ∷ 0x70000000
-    ∷ 0x80000001 ∷ 0x60000001 ∷ 0x70000000 ∷ 0x90000001 ∷ 0xf008010b ∷ []
+    ∷ 0x80000001 ∷ 0x60000001 ∷ 0x70000000 ∷ 0x90000001 ∷ 0xf0787627 ∷ []
 
 -- one alternative <clear f, need f>
 abbrev pub clearThenNeed : List ℕ
 clearThenNeed =
-    0x10040101 ∷ 0x50000000 ∷ 0x40000000 ∷ 0x50000001 ∷ 0x20000000 ∷ 0x60000000 ∷ 0x70000000 ∷ 0x80000000 ∷ 0x80000001 ∷ 0xf0040111 ∷ []
+    0x10040101 ∷ 0x50000000 ∷ 0x40000000 ∷ 0x50000001 ∷ 0x20000000 ∷ 0x60000000 ∷ 0x70000000 ∷ 0x80000000 ∷ 0x80000001 ∷ 0xf026f110 ∷ []
 
 -- one alternative with one step that sets and clears f
 abbrev pub pulse : List ℕ
-pulse = 0x10040081 ∷ 0x50000000 ∷ 0x30000000 ∷ 0x40000000 ∷ 0x60000000 ∷ 0x70000000 ∷ 0x80000000 ∷ 0xf0040083 ∷ []
+pulse = 0x10040081 ∷ 0x50000000 ∷ 0x30000000 ∷ 0x40000000 ∷ 0x60000000 ∷ 0x70000000 ∷ 0x80000000 ∷ 0xf01db387 ∷ []
 
 -- steps 0 to 3 set fact 0, clear it, need it and do neither. Sequence 0 is <set, set>, <other, set>, <sequence 1>, <need>; sequence 1 is <set>
 abbrev pub fewestFirst : List ℕ
 fewestFirst =
     0x10080201 ∷ 0x50000000 ∷ 0x30000000 ∷ 0x50000001 ∷ 0x40000000 ∷ 0x50000002 ∷ 0x20000000 ∷ 0x50000003 ∷ 0x60000000 ∷ 0x70000000
     ∷ 0x80000000 ∷ 0x80000000 ∷ 0x70000000 ∷ 0x80000003 ∷ 0x80000000 ∷ 0x70000000 ∷ 0x90000001 ∷ 0x70000000 ∷ 0x80000002 ∷ 0x60000001
-    ∷ 0x70000000 ∷ 0x80000000 ∷ 0xf0080214 ∷ []
+    ∷ 0x70000000 ∷ 0x80000000 ∷ 0xf0c4d0a4 ∷ []
 
 -- the same steps. Sequence 0 is <1, 1>, <1, other, 1, 1>; sequence 1 is <set>, <>, <set>
 abbrev pub lowestOfCalls : List ℕ
 lowestOfCalls =
     0x10080201 ∷ 0x50000000 ∷ 0x30000000 ∷ 0x50000001 ∷ 0x40000000 ∷ 0x50000002 ∷ 0x20000000 ∷ 0x50000003 ∷ 0x60000000 ∷ 0x70000000
     ∷ 0x90000001 ∷ 0x90000001 ∷ 0x70000000 ∷ 0x90000001 ∷ 0x80000003 ∷ 0x90000001 ∷ 0x90000001 ∷ 0x60000001 ∷ 0x70000000 ∷ 0x80000000
-    ∷ 0x70000000 ∷ 0x70000000 ∷ 0x80000000 ∷ 0xf0080212 ∷ []
+    ∷ 0x70000000 ∷ 0x70000000 ∷ 0x80000000 ∷ 0xf0cfc2d2 ∷ []
 
 -- one fact, one step, which needs and clears it. Sequence 0 is <check 0>, sequence 1 is <sequence 0, step 0>
 abbrev pub skips : List ℕ
 skips =
     0x10080081 ∷ 0x50000000 ∷ 0x20000000 ∷ 0x40000000 ∷ 0x60000000 ∷ 0x70000000 ∷ 0xd0000000 ∷ 0x60000001 ∷ 0x70000000 ∷ 0x90000000
-    ∷ 0x80000000 ∷ 0xf0080086 ∷ []
+    ∷ 0x80000000 ∷ 0xf05d318f ∷ []
 
 -- ---- the table
 
@@ -169,12 +169,12 @@ starred =
     ∷ executes L 1 (step 0 ∷ step 1 ∷ []) [] (0 ∷ 1 ∷ [])
     ∷ fails L 1 (step 1 ∷ []) []
     ∷ executes L 1 (step 1 ∷ []) (0 ∷ []) (0 ∷ 1 ∷ [])
-    -- "10000001 f0000002 is accepted and prints nothing"
+    -- "10000001 .. is accepted and prints nothing"
     ∷ accepts bare 1 0 0
     ∷ fills bare []
     ∷ prints bare ""
-    -- "10000000 f0000001 gets 3"
-    ∷ refuses (0x10000000 ∷ 0xf0000001 ∷ []) 3 0
+    -- "10000000 .. gets 3"
+    ∷ refuses (0x10000000 ∷ 0xf0000400 ∷ []) 3 0
     -- "Alternatives <itself> and <>: flags 3; question 2 names alternative 1." The empty run leaves the fact untouched on both sides, and has
     -- no item
     ∷ fills selfCall ((3 ∷ 0 ∷ 0 ∷ 0 ∷ 0 ∷ 0 ∷ 0 ∷ 0 ∷ 0 ∷ 1 ∷ 1 ∷ 0 ∷ 1 ∷ []) ∷ [])
@@ -210,8 +210,8 @@ starred =
     ∷ executes skips 0 (check 0 ∷ []) (0 ∷ []) (0 ∷ [])
     ∷ fails skips 0 (check 0 ∷ []) []
     -- "its payload is below F under 5": F = 2, the check names fact 2; and a check right after a sequence's opener, where no entry stands
-    ∷ refuses (0x10040002 ∷ 0x60000000 ∷ 0x70000000 ∷ 0xd0000002 ∷ 0xf004000f ∷ []) 5 3
-    ∷ refuses (0x10040002 ∷ 0x60000000 ∷ 0xd0000000 ∷ 0xf0040006 ∷ []) 4 2
+    ∷ refuses (0x10040002 ∷ 0x60000000 ∷ 0x70000000 ∷ 0xd0000002 ∷ 0xf010c40a ∷ []) 5 3
+    ∷ refuses (0x10040002 ∷ 0x60000000 ∷ 0xd0000000 ∷ 0xf00c7006 ∷ []) 4 2
     -- document 02, request 5, over L's cards: "The empty list has just the empty run."
     ∷ composes 3 3 cardsL [] (3 ∷ 0 ∷ 0 ∷ 0 ∷ 0 ∷ 0 ∷ 0 ∷ 0 ∷ 0 ∷ 7 ∷ 7 ∷ 0 ∷ 7 ∷ [])
     -- sequence 0 can be empty, and what it may set sequence 1 may set: with it before or after sequence 1 the card is that of sequence 1

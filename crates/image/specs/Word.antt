@@ -1,7 +1,7 @@
--- Words, their kinds and payloads, and the two words at the ends of an image: the head and the sum word (document 01, "The image").
-use Prim.Native.Nat.{ℕ, _+_, _/_, _%_, _^_}
+-- Words, their kinds and payloads, and the two words at the ends of an image: the head and the sum word (document 01, "The image"; document 02, request 6).
+use Prim.Native.Nat.{ℕ, _+_, _*_, _/_, _%_, _^_}
 use mathlib.Core.Bool.{Bool, _&&_, _||_}
-use mathlib.Core.List.{List}
+use mathlib.Core.List.{List, [], _∷_}
 use lib.Dec.{leb, eqb}
 use Rattle.general.specs.Numbers.{total}
 use Rattle.image.specs.declared.answer.Head.{Head}
@@ -38,17 +38,26 @@ isFact w = isKind 2 w || isKind 3 w || isKind 4 w
 abbrev pub isEntry : ℕ → Bool
 isEntry w = isKind 8 w || isKind 9 w || isKind 13 w
 
--- "Let s be the sum of all earlier words with wrap at 2^32"
-abbrev pub wrappedSum : List ℕ → ℕ
-wrappedSum earlier = total earlier % 2 ^ 32
+-- "A word now counts as its payload plus 1,024 times its kind." (document 02, request 6)
+abbrev pub countsAs : ℕ → ℕ
+countsAs w = payload w + 1024 * kind w
 
--- "its payload is (s + s / 2^28) mod 2^28, the quotient whole"
-abbrev pub folded : ℕ → ℕ
-folded s = (s + s / 2 ^ 28) % 2 ^ 28
+-- "Keep the running sum of these with wrap at 2^32": its values after each of the words, where it is s before them
+unfoldable pub runningSums : ℕ → List ℕ → List ℕ
+runningSums s [] = []
+runningSums s (w ∷ ws) = let next : ℕ = (s + countsAs w) % 2 ^ 32 in next ∷ runningSums next ws
+
+-- "let b be the wrapping sum of its values after each earlier word"
+abbrev pub wrappedSum : List ℕ → ℕ
+wrappedSum values = total values % 2 ^ 32
+
+-- "The sum word's payload is now b mod 2^28."
+abbrev pub orderedSum : List ℕ → ℕ
+orderedSum earlier = wrappedSum (runningSums 0 earlier) % 2 ^ 28
 
 -- "Kind 15 is the sum word", with the payload that the rule gives over the words before it
 abbrev pub sumRight : List ℕ → ℕ → Bool
-sumRight earlier w = isKind 15 w && eqb (payload w) (folded (wrappedSum earlier))
+sumRight earlier w = isKind 15 w && eqb (payload w) (orderedSum earlier)
 
 -- "bits 0 to 6 hold F, the number of facts", "bits 7 to 17 hold A, steps", "bits 18 to 26 hold C, sequences"
 abbrev pub headOf : ℕ → Head
