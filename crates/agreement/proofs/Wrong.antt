@@ -20,6 +20,7 @@ use Rattle.rules.specs.Checked.{scan, checked}
 use Rattle.library.specs.Library.{Library, has, libraryOf}
 use Rattle.rules.specs.Rules.{opened, lastOf, setsOf}
 use Rattle.general.specs.Numbers.{total}
+use Rattle.image.specs.Word.{runningSums}
 use Rattle.image.specs.declared.answer.Checked.{Checked}
 use Rattle.library.proofs.Accepted.{counted}
 use Rattle.runs.specs.Possible.{possible}
@@ -65,33 +66,33 @@ abbrev oneSet : List ℕ
 oneSet = 0x10040081 ∷ 0x50000000 ∷ 0x30000000 ∷ 0x60000000 ∷ 0x70000000 ∷ 0x80000000 ∷ 0xf004008f ∷ []
 
 accepted-L : checked L ≡ Checked.Accepted (record { facts = 3; steps = 3; sequences = 3 })
-unfolding checked scan total opened lastOf setsOf inColumn bit
+unfolding checked scan total runningSums opened lastOf setsOf inColumn bit
 accepted-L = refl
 
 accepted-selfCall : checked selfCall ≡ Checked.Accepted (record { facts = 1; steps = 0; sequences = 1 })
-unfolding checked scan total opened lastOf setsOf inColumn bit
+unfolding checked scan total runningSums opened lastOf setsOf inColumn bit
 accepted-selfCall = refl
 
 accepted-clearThenNeed : checked clearThenNeed ≡ Checked.Accepted (record { facts = 1; steps = 2; sequences = 1 })
-unfolding checked scan total opened lastOf setsOf inColumn bit
+unfolding checked scan total runningSums opened lastOf setsOf inColumn bit
 accepted-clearThenNeed = refl
 
 accepted-oneSet : checked oneSet ≡ Checked.Accepted (record { facts = 1; steps = 1; sequences = 1 })
-unfolding checked scan total opened lastOf setsOf inColumn bit
+unfolding checked scan total runningSums opened lastOf setsOf inColumn bit
 accepted-oneSet = refl
 
 cards-L : engine .cards L (zeros 39)
     ≡ returned 3
     (0x103 ∷ 0 ∷ 0 ∷ 1 ∷ 0 ∷ 0 ∷ 0 ∷ 0 ∷ 1 ∷ 7 ∷ 7 ∷ 0 ∷ 7 ∷ 0x201 ∷ 0 ∷ 1 ∷ 3 ∷ 0 ∷ 2 ∷ 0 ∷ 3 ∷ 3 ∷ 4 ∷ 5 ∷ 0 ∷ 4 ∷ blank)
-unfolding checked scan total opened lastOf setsOf inColumn bit libraryOf has possible cards card
+unfolding checked scan total runningSums opened lastOf setsOf inColumn bit libraryOf has possible cards card
 cards-L = refl
 
 cards-clearThenNeed : engine .cards clearThenNeed (zeros 13) ≡ returned 1 (0x101 ∷ 1 ∷ 1 ∷ 0 ∷ 1 ∷ 0 ∷ 1 ∷ 1 ∷ 0 ∷ 0 ∷ 0 ∷ 0 ∷ 0 ∷ [])
-unfolding checked scan total opened lastOf setsOf inColumn bit libraryOf has possible cards card
+unfolding checked scan total runningSums opened lastOf setsOf inColumn bit libraryOf has possible cards card
 cards-clearThenNeed = refl
 
 cards-oneSet : engine .cards oneSet (zeros 13) ≡ returned 1 (0x101 ∷ 0 ∷ 0 ∷ 1 ∷ 0 ∷ 1 ∷ 0 ∷ 1 ∷ 1 ∷ 0 ∷ 0 ∷ 0 ∷ 0 ∷ [])
-unfolding checked scan total opened lastOf setsOf inColumn bit libraryOf has possible cards card
+unfolding checked scan total runningSums opened lastOf setsOf inColumn bit libraryOf has possible cards card
 cards-oneSet = refl
 
 -- the empty list without a sequence
@@ -101,24 +102,24 @@ no-list = refl
 
 -- sequences 1 and 0 of L
 list-L : listOver engine L (zeros 39) (1 ∷ 0 ∷ []) [] ≡ returned 0 card1
-unfolding checked scan total opened lastOf setsOf inColumn bit libraryOf has possible cards card listCard some
+unfolding checked scan total runningSums opened lastOf setsOf inColumn bit libraryOf has possible cards card listCard some
 list-L = refl
 
 chain-selfCall : chained selfCall 0 2 0 (length (zeros 2)) ≡ answered (shown (untouchedLink 0 1 ∷ []))
-unfolding chained checked scan total opened lastOf setsOf inColumn bit libraryOf has possible
+unfolding chained checked scan total runningSums opened lastOf setsOf inColumn bit libraryOf has possible
 chain-selfCall = refl
 
 chain-L : chained L 1 0 0 (length (zeros 6)) ≡ answered (shown (touchLink 1 0 0 ∷ touchLink 0 0 0 ∷ []))
-unfolding chained checked scan total opened lastOf setsOf inColumn bit libraryOf has possible
+unfolding chained checked scan total runningSums opened lastOf setsOf inColumn bit libraryOf has possible
 chain-L = refl
 
 -- sequence 1 of L, question 3, fact 0: entry 1 of its alternative, step 1, needs the fact
 chain-needed : chained L 1 3 0 (length (zeros 2)) ≡ answered (shown (touchLink 1 0 1 ∷ []))
-unfolding chained checked scan total opened lastOf setsOf inColumn bit libraryOf has possible
+unfolding chained checked scan total runningSums opened lastOf setsOf inColumn bit libraryOf has possible
 chain-needed = refl
 
 chain-detour : chained detour 0 0 0 (length (zeros 4)) ≡ answered (shown (touchLink 0 0 0 ∷ []))
-unfolding chained checked scan total opened lastOf setsOf inColumn bit libraryOf has possible
+unfolding chained checked scan total runningSums opened lastOf setsOf inColumn bit libraryOf has possible
 chain-detour = refl
 
 ready-L : Ready L (zeros 39)

@@ -17,3 +17,12 @@ withWord sums w =
 unfoldable pub sumsAfter : Sums → List ℕ → Sums
 sumsAfter sums [] = sums
 sumsAfter sums (w ∷ ws) = sumsAfter (withWord sums w) ws
+
+-- b without wrap, where the running sum is s and the sum of its values b before the words
+unfoldable pub plainSum : ℕ → ℕ → List ℕ → ℕ
+plainSum s b [] = b
+plainSum s b (w ∷ ws) = plainSum (s + countsAs w) (b + (s + countsAs w)) ws
+
+-- two numbers as sums with wrap
+abbrev pub wrapped : ℕ → ℕ → Sums
+wrapped s b = record { running = s % 2 ^ 32; values = b % 2 ^ 32 }
