@@ -1,16 +1,10 @@
-// Words: kind and payload, the head, and the sum word.
+// Words: kind and payload, and the head.
 use crate::answer::Head;
 ghost use mathlib.Core.Path.{_≡_};
-ghost use Prim.Native.Nat.{_≤_};
-ghost use lib.ListN.{length, drop};
-ghost use Rattle.image.specs.Sums.{withWord, sumsAfter};
-ghost use Rattle.image.specs.Word.{kind, payload, isFact, isEntry, isKind, countsAs, orderedSum, sumRight, headOf, headRight};
+ghost use Rattle.image.specs.Word.{kind, payload, isFact, isEntry, isKind, headOf, headRight};
 
 // A payload is below this, 2^28; the kind is what stands above it.
 pub const PAYLOADS: u32 = 0x10000000;
-
-// In the sum a word's kind counts so many times.
-const KIND_COUNTS: u32 = 1024;
 
 // The kinds of words, of an image and of a chain's links.
 pub const KIND_HEAD: u32 = 1;
@@ -109,63 +103,6 @@ pub fn is_entry(w: u32) -> bool
     ensures { λ r. ⌜ r ≡ isEntry w ⌝ }
 {
     (ENTRY_KINDS >> (w / PAYLOADS)) % 2 == 1
-}
-
-// What a word counts as in the sum: its payload plus 1,024 times its kind.
-pub fn counts_as(w: u32) -> u32
-    ensures { λ r. ⌜ r ≡ countsAs w ⌝ }
-{
-    w % PAYLOADS + KIND_COUNTS * (w / PAYLOADS)
-}
-
-// The running sum of what words count as, and the sum of its values after each of them, both with wrap at 2^32.
-pub struct Sums {
-    pub running: u32,
-    pub values: u32,
-}
-
-// The sums with one word more.
-fn with_word(sums: Sums, w: u32) -> Sums
-    ensures { λ r. ⌜ r ≡ withWord sums w ⌝ }
-{
-    let running = std::num::wrapping_add_u32(sums.running, counts_as(w));
-    Sums {
-        running: running,
-        values: std::num::wrapping_add_u32(sums.values, running),
-    }
-}
-
-// The sums of all words, where those before index `at` have the sums `from`.
-fn sums_from(from: Sums, words: &[u32], at: usize) -> Sums
-    requires { ⌜ at ≤ length (now words) ⌝ }
-    ensures { λ r. ⌜ r ≡ sumsAfter from (drop at (now (words .entry))) ⌝ }
-{
-    let mut sums = from;
-    let mut i = at;
-    while i < words.len() {
-        sums = with_word(sums, words[i]);
-        i += 1;
-    }
-    sums
-}
-
-// The payload of the sum word after these words.
-pub fn sum_of(words: &[u32]) -> u32
-    ensures { λ r. ⌜ r ≡ orderedSum (now (words .entry)) ⌝ }
-{
-    let none = Sums {
-        running: 0,
-        values: 0,
-    };
-    sums_from(none, words, 0).values % PAYLOADS
-}
-
-// Whether `w` is the sum word after the words `earlier`.
-pub fn sum_right(earlier: &[u32], w: u32) -> bool
-    ensures { λ r. ⌜ r ≡ sumRight (now (earlier .entry)) w ⌝ }
-{
-    let s = sum_of(earlier);
-    (w / PAYLOADS == KIND_SUM) & (w % PAYLOADS == s)
 }
 
 // What the head counts.

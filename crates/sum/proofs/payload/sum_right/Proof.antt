@@ -1,8 +1,8 @@
--- `image::word::sum_right` meets its contract.
+-- `sum::payload::sum_right` meets its contract.
 -- Assumes nothing.
 use borrow.Author.Needs.{needs}
-use Rattle.image.proofs.word.sum_right.Statement.{statement}
-use Rattle.image.proofs.word.sum_right.Tie as tie
+use Rattle.sum.proofs.payload.sum_right.Statement.{statement}
+use Rattle.sum.proofs.payload.sum_right.Tie as tie
 
 sum-of-requires : tie.Need-sum-of-requires
 sum-of-requires c κs = search needs

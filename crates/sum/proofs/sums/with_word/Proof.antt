@@ -1,11 +1,11 @@
--- `image::word::with_word` meets its contract.
+-- `sum::sums::with_word` meets its contract.
 -- Assumes nothing.
 use borrow.Author.Needs.{needs}
-use Rattle.image.proofs.word.with_word.Statement.{statement}
-use Rattle.image.proofs.word.with_word.Tie as tie
-use Rattle.image.proofs.word.with_word.Reads as reads
-use Rattle.image.proofs.word.with_word.Lts as lts
-use Rattle.image.proofs.word.counts_as.Reads as counts-as-reads
+use Rattle.sum.proofs.sums.with_word.Statement.{statement}
+use Rattle.sum.proofs.sums.with_word.Tie as tie
+use Rattle.sum.proofs.sums.with_word.Reads as reads
+use Rattle.sum.proofs.sums.with_word.Lts as lts
+use Rattle.sum.proofs.sums.counts_as.Reads as counts-as-reads
 use Rattle.std.proofs.num.wrapping_add_u32.Reads as wrapping-add-u32-reads
 
 counts-as-requires : tie.Need-counts-as-requires

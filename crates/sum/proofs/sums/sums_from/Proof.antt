@@ -1,18 +1,18 @@
--- `image::word::sums_from` meets its contract. The invariant: the sums so far, with the words to come, give the sums of all.
+-- `sum::sums::sums_from` meets its contract. The invariant: the sums so far, with the words to come, give the sums of all.
 -- Assumes nothing.
 use borrow.Author.Needs.{needs}
 use native.Mathlib.Omega.{arith}
 use Prim.Native.Nat.{_+_, _-_, _≤_}
 use mathlib.Core.Path.{_≡_, sym, ap, _∙_}
 use lib.ListN.{length, drop}
-use Rattle.image.specs.Sums.{sumsAfter}
-use Rattle.image.specs.declared.word.Sums.{Sums}
-use Rattle.image.proofs.Sum.{sums-turn, sums-end}
-use Rattle.image.proofs.word.sums_from.Statement.{statement}
-use Rattle.image.proofs.word.sums_from.Tie as tie
-use Rattle.image.proofs.word.sums_from.Reads as reads
-use Rattle.image.proofs.word.sums_from.Lts as lts
-use Rattle.image.proofs.word.with_word.Reads as with-word-reads
+use Rattle.sum.specs.Sums.{sumsAfter}
+use Rattle.sum.specs.declared.sums.Sums.{Sums}
+use Rattle.sum.proofs.Loop.{sums-turn, sums-end}
+use Rattle.sum.proofs.sums.sums_from.Statement.{statement}
+use Rattle.sum.proofs.sums.sums_from.Tie as tie
+use Rattle.sum.proofs.sums.sums_from.Reads as reads
+use Rattle.sum.proofs.sums.sums_from.Lts as lts
+use Rattle.sum.proofs.sums.with_word.Reads as with-word-reads
 
 abbrev Inv-loop : tie.InvT-loop
 Inv-loop words at sums₀ i₀ sums i = (i ≤ length words) × (sumsAfter sums (drop i words) ≡ sumsAfter sums₀ (drop at words))
