@@ -26,7 +26,8 @@ pub struct Sums {
 pub fn with_word(sums: Sums, w: u32) -> Sums
     ensures { λ r. ⌜ r ≡ withWord sums w ⌝ }
 {
-    let running = std::num::wrapping_add_u32(sums.running, counts_as(w));
+    let counts = counts_as(w);
+    let running = std::num::wrapping_add_u32(sums.running, counts);
     Sums {
         running: running,
         values: std::num::wrapping_add_u32(sums.values, running),
