@@ -17,7 +17,7 @@ use Rattle.reader.proofs.check.check.Reads as reads
 use Rattle.reader.proofs.check.check.Lts as lts
 use Rattle.reader.proofs.check.read.Reads as read-reads
 use Rattle.image.proofs.word.head_right.Reads as head-right-reads
-use Rattle.image.proofs.word.sum_right.Reads as sum-right-reads
+use Rattle.sum.proofs.payload.sum_right.Reads as sum-right-reads
 
 returns : tie.Need-returns
 returns c = refused-short (c .before .before .args .image .now) (c .if1 .taken)
