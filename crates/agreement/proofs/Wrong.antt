@@ -59,11 +59,11 @@ zeros n = replicate n 0
 abbrev detour : List ℕ
 detour =
     0x10080081 ∷ 0x50000000 ∷ 0x30000000 ∷ 0x60000000 ∷ 0x70000000 ∷ 0x80000000 ∷ 0x70000000 ∷ 0x90000001 ∷ 0x60000001 ∷ 0x70000000
-    ∷ 0x80000000 ∷ 0xf0080086 ∷ []
+    ∷ 0x80000000 ∷ 0xf05d6592 ∷ []
 
 -- one alternative with one step that sets the fact
 abbrev oneSet : List ℕ
-oneSet = 0x10040081 ∷ 0x50000000 ∷ 0x30000000 ∷ 0x60000000 ∷ 0x70000000 ∷ 0x80000000 ∷ 0xf004008f ∷ []
+oneSet = 0x10040081 ∷ 0x50000000 ∷ 0x30000000 ∷ 0x60000000 ∷ 0x70000000 ∷ 0x80000000 ∷ 0xf0194f06 ∷ []
 
 accepted-L : checked L ≡ Checked.Accepted (record { facts = 3; steps = 3; sequences = 3 })
 unfolding checked scan total runningSums opened lastOf setsOf inColumn bit
