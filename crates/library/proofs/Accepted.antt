@@ -1,8 +1,8 @@
 -- What acceptance says, proved from the check's definition: no word has a fault, each part holds its own kinds of words with their
 -- numbers, and the library is counted as the head says.
 -- It has, in this order: where a word may stand; the words of either part; the numbers of openers and how many there are; the parts of the
--- words between; the library's steps and entries; and of an accepted image `faultless`, `parts`, `counted`, `library-is`, `steps-below` and
--- `alternatives-named`, which are what other crates cite. What a passed test says stands in Passed, that no step clears what it sets in
+-- words between; the library's steps and entries; and of an accepted image `checks`, `faultless`, `parts`, `counted`, `library-is`, `steps-below`
+-- and `alternatives-named`, which are what other crates cite. What a passed test says stands in Passed, that no step clears what it sets in
 -- Apart, how large a library can be in Sizes, where its parts meet in Seam.
 -- Assumes nothing.
 use Prim.Native.Nat.{ℕ, zero, suc, _+_, _-_, _≤_, _<_}
@@ -281,14 +281,14 @@ scanned h before (w ∷ ws) g a (suc i) l =
     ap₂ (λ (b : List ℕ) (p : ℕ). faultAt h (earlier b) p (getD ws i 0)) (sym (append-snoc before w (take i ws))) n
     ∙ scanned h (before ++ (w ∷ [])) ws g (passed-word (faultAt h (earlier before) (length before) w) _ g a .1) i (le-of-suc-le-suc l)
 
-record Checks (image : List ℕ) (h : Head) : Type 0 where
-  low : 2 ≤ length image
-  high : length image ≤ 8192
-  sum : sumRight (allButLast image) (lastWord image) ≡ true
-  head : headRight (firstWord image) ≡ true
-  scans : scan (headOf (firstWord image)) (take 1 image) (between image) ≡ Accepted h
+pub record Checks (image : List ℕ) (h : Head) : Type 0 where
+  pub low : 2 ≤ length image
+  pub high : length image ≤ 8192
+  pub sum : sumRight (allButLast image) (lastWord image) ≡ true
+  pub head : headRight (firstWord image) ≡ true
+  pub scans : scan (headOf (firstWord image)) (take 1 image) (between image) ≡ Accepted h
 
-checks : (image : List ℕ) (h : Head) → checked image ≡ Accepted h → Checks image h
+pub checks : (image : List ℕ) (h : Head) → checked image ≡ Accepted h → Checks image h
 unfolding checked
 checks image h a =
     let l = passed (leb 2 (length image) && leb (length image) 8192) _ Length h a in
