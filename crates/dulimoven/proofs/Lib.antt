@@ -4,3 +4,4 @@ pub mod ChainCall
 pub mod ListCall
 pub mod Demands
 pub mod Added
+pub mod Swapped

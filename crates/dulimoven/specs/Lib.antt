@@ -5,3 +5,4 @@ pub mod ListCall
 pub mod Demands
 pub mod Engine
 pub mod Added
+pub mod Swapped
