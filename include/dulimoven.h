@@ -30,16 +30,17 @@ extern "C" {
 #endif
 
 /*
- * The format is how the words of an image and of a card are laid out. Its
- * number rises with every change of either, so that a program that was written
- * for one layout can tell. The version is 1,000 times the format, plus the
- * number of changes since that leave the format as it is, such as a new call, a
- * new refusal, another choice among chains, or calls that take less time.
+ * The format is how the words of an image and of a card are laid out, and what
+ * the sum word is. Its number rises with every change of these, so that a
+ * program that was written for one layout can tell. The version is 1,000 times
+ * the format, plus the number of changes since that leave the format as it is,
+ * such as a new call, a new refusal, another choice among chains, or calls that
+ * take less time.
  *
  * The numbers from here to the refusals are plain numbers and no enumerators,
  * since they are multiplied and added with one another.
  */
-#define DULIMOVEN_FORMAT 3
+#define DULIMOVEN_FORMAT 4
 #define DULIMOVEN_VERSION (DULIMOVEN_FORMAT * 1000 + 0)
 
 /* How many words of 64 bits a card has, and how many of 32 bits a link. */
@@ -92,7 +93,10 @@ enum dulimoven_kind {
     /* an entry: checks that the fact of that number stands. It is no step and
      * changes nothing, and a run executes only if its checks are met. */
     DULIMOVEN_KIND_CHECK = 13,
-    /* the last word */
+    /* the last word: a sum of all words before it, each in its place. A word
+     * counts as its payload plus 1,024 times its kind. A running sum of these
+     * is kept, and its values after each word are added up, both with wrap at
+     * 2^32. The payload is what they come to, mod 2^28. */
     DULIMOVEN_KIND_SUM = 15
 };
 
@@ -105,7 +109,8 @@ enum dulimoven_kind {
 enum dulimoven_refusal {
     /* fewer than 2 or more than 8,192 words; position 0 */
     DULIMOVEN_LENGTH = 1,
-    /* the last word is no sum word or has a wrong sum; its position */
+    /* the last word is no sum word or has a wrong sum: a word was damaged or
+     * left out, or two entries changed places; its position */
     DULIMOVEN_SUM_WORD = 2,
     /* the first word breaks the rule for the head; position 0 */
     DULIMOVEN_HEAD_WORD = 3,

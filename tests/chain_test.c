@@ -655,7 +655,7 @@ static void newest(void)
           SEQUENCE(0), ALTERNATIVE, SET, SET, ALTERNATIVE, OTHER, SET,
               ALTERNATIVE, CALL(1), ALTERNATIVE, NEED,
           SEQUENCE(1), ALTERNATIVE, SET);
-    sealed("newest first, the sum word", 0xf0080214);
+    sealed("newest first, the sum word", 0xf0c4d0a4);
     SHOWN("newest first, question 0", 0, 0, 0, CHOICE(0, 1), AT(1));
     none("newest first, question 1", 0, 1, 0);
     SHOWN("newest first, question 2", 0, 2, 0, CHOICE(0, 3), UNTOUCHED);
@@ -671,7 +671,7 @@ static void newest(void)
           SEQUENCE(0), ALTERNATIVE, CALL(1), CALL(1),
               ALTERNATIVE, CALL(1), OTHER, CALL(1), CALL(1),
           SEQUENCE(1), ALTERNATIVE, SET, ALTERNATIVE, ALTERNATIVE, SET);
-    sealed("lowest of calls, the sum word", 0xf0080212);
+    sealed("lowest of calls, the sum word", 0xf0cfc2d2);
     SHOWN("lowest of calls, 0, question 0", 0, 0, 0, CHOICE(0, 1), AT(0),
           CHOICE(1, 2), AT(0));
     SHOWN("lowest of calls, 0, question 2", 0, 2, 0, CHOICE(0, 1), UNTOUCHED);
@@ -689,7 +689,7 @@ static void newest(void)
           SEQUENCE(1), ALTERNATIVE, CALL(2), ALTERNATIVE, SET,
               ALTERNATIVE, CALL(2),
           SEQUENCE(2), ALTERNATIVE, SET, ALTERNATIVE);
-    sealed("fewest first, the sum word", 0xf00c021e);
+    sealed("fewest first, the sum word", 0xf147c6f5);
     SHOWN("fewest first, 0, question 0", 0, 0, 0, CHOICE(0, 0), AT(1));
     SHOWN("fewest first, 1, question 0", 1, 0, 0, CHOICE(1, 1), AT(0));
     SHOWN("fewest first, 0, question 2", 0, 2, 0, CHOICE(0, 1), UNTOUCHED);
@@ -706,7 +706,7 @@ static void newest(void)
           SEQUENCE(0), ALTERNATIVE, DO(0), ALTERNATIVE, ALTERNATIVE, CALL(1),
           SEQUENCE(1), ALTERNATIVE, CALL(2), ALTERNATIVE, CALL(2),
           SEQUENCE(2), ALTERNATIVE, ALTERNATIVE);
-    sealed("least depth first, the sum word", 0xf00c0095);
+    sealed("least depth first, the sum word", 0xf0cd543b);
     SHOWN("least depth first, 0, question 2", 0, 2, 0, CHOICE(0, 1), UNTOUCHED);
     SHOWN("least depth first, 0, question 5", 0, 5, 0, CHOICE(0, 1), UNTOUCHED);
     SHOWN("least depth first, 1, question 2", 1, 2, 0, CHOICE(1, 1), UNTOUCHED);
@@ -721,7 +721,7 @@ static void newest(void)
               ALTERNATIVE, SET, CALL(1), ALTERNATIVE, CALL(2),
           SEQUENCE(1), ALTERNATIVE, CALL(1),
           SEQUENCE(2));
-    sealed("newer, no run, the sum word", 0xf00c0214);
+    sealed("newer, no run, the sum word", 0xf11ccc91);
     SHOWN("newer, no run, question 0", 0, 0, 0, CHOICE(0, 1), AT(0));
     none("newer, no run, question 1", 0, 1, 0);
     none("newer, no run, question 2", 0, 2, 0);
@@ -734,7 +734,7 @@ static void newest(void)
     BUILD(HEAD(1, 4, 2), FOUR_STEPS,
           SEQUENCE(0),
           SEQUENCE(1), ALTERNATIVE, SET, ALTERNATIVE, CLEAR, ALTERNATIVE, SET);
-    sealed("last words, the sum word", 0xf0080210);
+    sealed("last words, the sum word", 0xf089b058);
     all_none("last words, 0", 0);
     SHOWN("last words, 1, question 0", 1, 0, 0, CHOICE(1, 2), AT(0));
     SHOWN("last words, 1, question 1", 1, 1, 0, CHOICE(1, 1), AT(0));

@@ -90,7 +90,7 @@ static void samples(void)
     hold("L's sum word", *word_at(L_SUM) == library_l[L_SUM]);
     accepts("L with a sum word from the builder");
 
-    /* "10000001 f0000002 is accepted [..]; 10000000 f0000001 gets 3" */
+    /* 10000001 with its sum word is accepted, 10000000 gets 3 */
     take(no_sequence, COUNT(no_sequence));
     accepts("the empty library: A and C are 0, so nothing is missing");
     take(no_fact, COUNT(no_fact));
@@ -136,7 +136,6 @@ static void accepted_sequences(void)
             HEAD(1, 0, 1), SEQUENCE(0));
     ACCEPTS("an alternative without entry", HEAD(1, 0, 1), SEQUENCE(0),
             ALTERNATIVE);
-    /* s is 0x150040001, which wraps to 0x50040001: the quotient is 5, not 21 */
     ACCEPTS("two empty alternatives", HEAD(1, 0, 1), SEQUENCE(0), ALTERNATIVE,
             ALTERNATIVE);
     ACCEPTS("an entry names its own sequence", HEAD(1, 0, 1), SEQUENCE(0),
@@ -401,43 +400,281 @@ static void all_facts(void)
  */
 static void wrong_sums(void)
 {
-    /* s = 0x10000001, so the right payload is 1 + 1 = 2 */
-    WRONG_SUM(-1, "one too low: without the quotient 1", HEAD(1, 0, 0));
+    /* the head counts 1 + 1024, so the right payload is 0x401 */
+    WRONG_SUM(-1, "one too low: 1,023 for 1,024", HEAD(1, 0, 0));
     WRONG_SUM(1, "one too high", HEAD(1, 0, 0));
-    WRONG_SUM(-2, "the payload for no earlier words", HEAD(1, 0, 0));
+    WRONG_SUM(-0x400, "without the kind", HEAD(1, 0, 0));
+    WRONG_SUM(-0x401, "the payload for no earlier words", HEAD(1, 0, 0));
     WRONG_SUM(0x10000, "wrong in bit 16", HEAD(1, 0, 0));
     WRONG_SUM(0x8000000, "wrong in the highest payload bit", HEAD(1, 0, 0));
-    /* s wraps from 0x150040001, so 5 is right to add and 0x15 is not */
-    WRONG_SUM(16, "the quotient without the wrap", HEAD(1, 0, 1), SEQUENCE(0),
-              ALTERNATIVE, ALTERNATIVE);
-    /* s = 0x1fffffff, and 0xfffffff + 1 is 2^28, so 0 is right */
-    WRONG_SUM(1, "the fold reaches 2^28, and 1 is left",
+    /* the words count 0x40401, 0x1800, 0x1c00 and 0x1c00; the running sums are
+       0x40401, 0x41c01, 0x43801 and 0x45401, so b is 0x10ac04 */
+    WRONG_SUM(0x45401 - 0x10ac04, "the running sum and not those before it",
+              HEAD(1, 0, 1), SEQUENCE(0), ALTERNATIVE, ALTERNATIVE);
+    WRONG_SUM(-0x45401, "the running sums before each word", HEAD(1, 0, 1),
+              SEQUENCE(0), ALTERNATIVE, ALTERNATIVE);
+    WRONG_SUM(0x4f801 - 0x10ac04, "the words from the last to the first",
+              HEAD(1, 0, 1), SEQUENCE(0), ALTERNATIVE, ALTERNATIVE);
+    /* 0xfffffff + 0x400 is 0x100003ff, so 0x3ff is right */
+    WRONG_SUM(1, "2^28 is reached, and 1 is kept of it",
               WORD(KIND_HEAD, PAYLOAD_MASK));
-    /* s = 0xf0000000, so 15 is right */
-    WRONG_SUM(-15, "a sum word twice: 2 comes before 3", WORD(KIND_SUM, 0));
+    /* 0x3c00 is right */
+    WRONG_SUM(-0x3c00, "a sum word twice: 2 comes before 3", WORD(KIND_SUM, 0));
     WRONG_SUM(-1, "F = 0: 2 comes before 3", HEAD(0, 0, 0));
     WRONG_SUM(-1, "a head in the middle: 2 comes before 4", HEAD(1, 0, 0),
               HEAD(1, 0, 0));
     WRONG_SUM(-1, "no step of one: 2 comes before 7", HEAD(1, 1, 0));
 }
 
+/* L's sum word is f0f20910. */
 static void wrong_sums_of_l(void)
 {
-    build(library_l, L_SUM);
-    miss_sum(1);
-    refuses(2, L_SUM, "L with a sum one too high");
-    build(library_l, L_SUM);
-    miss_sum(-1);
-    refuses(2, L_SUM, "L with a sum one too low");
-    /* s = 0xc00c018e, whose quotient is 12 */
-    build(library_l, L_SUM);
-    miss_sum(-12);
-    refuses(2, L_SUM, "L with the sum without the fold");
+    static const struct {
+        const char *name;
+        uint32_t sum;
+    } wrong[] = {{"L with a sum one too low", 0xf0f2090f},
+                 {"L with a sum one too high", 0xf0f20911},
+                 {"L with the right payload under kind 14", 0xe0f20910},
+                 {"L with the right payload under kind 7", 0x70f20910},
+                 {"L with a sum that differs in bit 20", 0xf0e20910},
+                 {"L with its sum word of the rule before", 0xf00c019a}};
+    size_t i;
+    for (i = 0; i < COUNT(wrong); i++) {
+        take(library_l, L_SUM);
+        put(wrong[i].sum);
+        refuses(2, L_SUM, wrong[i].name);
+    }
     take(library_l, L_SUM);
     refuses(2, L_SUM - 1, "L without its sum word: the last word is an entry");
     take(library_l, L_WORDS);
     *word_at(2) = SETS(1);
     refuses(2, L_SUM, "L under its own sum word, but step 0 sets fact 1");
+}
+
+/* Two words change places. */
+static void exchange(size_t i, size_t j)
+{
+    uint32_t word = *word_at(i);
+    *word_at(i) = *word_at(j);
+    *word_at(j) = word;
+}
+
+/* They do, the image gets 2, and once they are back it is as it was. */
+static void exchanged(size_t i, size_t j, const char *name)
+{
+    exchange(i, j);
+    refuses(2, words - 1, name);
+    exchange(i, j);
+    accepts(name);
+}
+
+/*
+ * "An accepted image in which two different entries change places then gets 2".
+ * Where the one at j counts d more than the one at i, b is (j - i) * d more.
+ */
+static void exchanged_entries(void)
+{
+    take(library_l, L_WORDS);
+    /* 8193 - 9216 is -1023, so b would be 0xf20511 */
+    exchanged(14, 15, "L with 90000000 and 80000001 exchanged");
+    /* 4 * (9216 - 8192) is 0x1000, so b would be 0xf21910 */
+    exchanged(10, 14, "L with 80000000 and 90000000 exchanged");
+    /* 8 * (9218 - 8192) is 0x2010, so b would be 0xf22920 */
+    exchanged(10, 18, "L with 80000000 and 90000002 exchanged");
+    exchange(9, 13);
+    accepts("L with its openers at 9 and 13 exchanged, which are equal");
+
+    /* the words count 263426, 5120, 5121, 6144, 7168, 8193, 9216 and 13313,
+       taken 8 times, 7 times and so on: 2289690, which is 0x22f01a */
+    start();
+    PUT(0x10040102, 0x50000000, 0x50000001, 0x60000000, 0x70000000, 0x80000001,
+        0x90000000, 0xd0000001, 0xf022f01a);
+    accepts("an entry of each kind");
+    exchanged(5, 6, "a step and a sequence exchanged");
+    exchanged(5, 7, "a step and a check exchanged");
+    exchanged(6, 7, "a sequence and a check exchanged");
+
+    /* 8186 * (13375 - 8192) is 42428038, below 2^28 */
+    start();
+    PUT(HEAD(MOST_F, 1, 1), STEP(0), SEQUENCE(0), ALTERNATIVE);
+    fill(DO(0), FULL - 2);
+    put(CHECK(MOST_F - 1));
+    put_sum();
+    hold("a check stands at 8,190", words == FULL);
+    exchanged(4, FULL - 2, "entries at both ends of 8,192 words exchanged");
+    exchanged(FULL - 3, FULL - 2, "the last two of them exchanged");
+}
+
+/* Entries in two alternatives, of one sequence or of two. */
+static void exchanged_far(void)
+{
+    enum { FIRST_ENTRY = 5 };
+    BUILD(HEAD(2, 2, 2), STEP(0), STEP(1),
+          SEQUENCE(0), ALTERNATIVE, DO(0), DO(1), ALTERNATIVE, CALL(0), CALL(1),
+          SEQUENCE(1), ALTERNATIVE, CHECK(0), CHECK(1));
+    exchanged(FIRST_ENTRY, FIRST_ENTRY + 1, "two steps");
+    exchanged(FIRST_ENTRY, FIRST_ENTRY + 3, "in two alternatives");
+    exchanged(FIRST_ENTRY + 3, FIRST_ENTRY + 4, "two sequences");
+    exchanged(FIRST_ENTRY + 1, FIRST_ENTRY + 7, "in two sequences");
+    exchanged(FIRST_ENTRY + 7, FIRST_ENTRY + 8, "two checks");
+}
+
+/*
+ * The images that were issued again, and some whose sum is past 2^28. A word
+ * of ones counts 0xfffffff + 15 * 1024, which is 0x10003bff.
+ */
+static void issued_again(void)
+{
+    static const struct {
+        const char *name;
+        uint64_t number, position;
+        size_t count;
+        uint32_t words[19];
+    } rows[] = {
+        {"one fact and nothing else", 0, 0, 2, {0x10000001, 0xf0000401}},
+        {"no fact", 3, 0, 2, {0x10000000, 0xf0000400}},
+        {"64 facts", 0, 0, 2, {0x10000040, 0xf0000440}},
+        {"65 facts", 3, 0, 2, {0x10000041, 0xf0000441}},
+        {"<itself>, <>", 0, 0, 6,
+         {0x10040001, 0x60000000, 0x70000000, 0x90000000, 0x70000000,
+          0xf0152c05}},
+        {"<set, endless>, <clear>", 0, 0, 15,
+         {0x10080101, 0x50000000, 0x30000000, 0x50000001, 0x40000000,
+          0x60000000, 0x70000000, 0x80000000, 0x90000001, 0x70000000,
+          0x80000001, 0x60000001, 0x70000000, 0x90000001, 0xf0787627}},
+        {"<clear, need>", 0, 0, 10,
+         {0x10040101, 0x50000000, 0x40000000, 0x50000001, 0x20000000,
+          0x60000000, 0x70000000, 0x80000000, 0x80000001, 0xf026f110}},
+        {"a step sets and clears a fact", 13, 3, 8,
+         {0x10040081, 0x50000000, 0x30000000, 0x40000000, 0x60000000,
+          0x70000000, 0x80000000, 0xf01db387}},
+        /* 0x10000000 + 0x3ff */
+        {"a head with every payload bit", 3, 0, 2, {0x1fffffff, 0xf00003ff}},
+        /* 0x8000001 + 0x400 */
+        {"a head with bit 27", 3, 0, 2, {0x18000001, 0xf8000401}},
+        /* 2 * 0x401 + 0x10003bff is 0x10004401 */
+        {"a word of ones", 4, 1, 3, {0x10000001, 0xffffffff, 0xf0004401}},
+        /* 4 * 0x401 + 6 * 0x10003bff is 0x600177fe, past 2^28 */
+        {"three words of ones", 4, 1, 5,
+         {0x10000001, 0xffffffff, 0xffffffff, 0xffffffff, 0xf00177fe}},
+        /* 7 * 0x401 + 21 * 0x10003bff is 0x1500507f2, the first past 2^32 */
+        {"six words of ones", 4, 1, 8,
+         {0x10000001, 0xffffffff, 0xffffffff, 0xffffffff, 0xffffffff,
+          0xffffffff, 0xffffffff, 0xf00507f2}},
+        /* 18 * 0x401 + 153 * 0x10003bff is 0x990242379; the running sum is
+           past 2^32 from the sixteenth of them on */
+        {"17 words of ones", 4, 1, 19,
+         {0x10000001, 0xffffffff, 0xffffffff, 0xffffffff, 0xffffffff,
+          0xffffffff, 0xffffffff, 0xffffffff, 0xffffffff, 0xffffffff,
+          0xffffffff, 0xffffffff, 0xffffffff, 0xffffffff, 0xffffffff,
+          0xffffffff, 0xffffffff, 0xffffffff, 0xf0242379}}};
+    size_t i;
+    for (i = 0; i < COUNT(rows); i++) {
+        take(rows[i].words, rows[i].count);
+        if (rows[i].number == 0)
+            accepts(rows[i].name);
+        else
+            refuses(rows[i].number, rows[i].position, rows[i].name);
+        sum_again();
+        hold(rows[i].name,
+             *word_at(words - 1) == rows[i].words[rows[i].count - 1]);
+        miss_sum(1);
+        refuses(2, words - 1, rows[i].name);
+    }
+
+    /* 8191 * 8192 / 2 times 0x10003bff is 0x1fff77fa401000 */
+    start();
+    fill(WORD(15, PAYLOAD_MASK), FULL - 1);
+    put(0xfa401000);
+    refuses(3, 0, "8,191 words of ones");
+    miss_sum(-1);
+    refuses(2, FULL - 1, "8,191 words of ones, one too low");
+    /* the head counts 263169, a sequence 6144 and an alternative 7168. Taken
+       8191, 8190, and 8189 times and so on to once: 263169 * 8191 + 6144 * 8190
+       + 7168 * 8189 * 8190 / 2 is 0x387abc3fff */
+    build_long(FULL);
+    hold("8,192 words, the sum word", *word_at(FULL - 1) == 0xfabc3fff);
+    accepts("8,192 words with this sum word");
+}
+
+/*
+ * An image of so many words: a head, a step, a sequence, an alternative, and
+ * entries of each kind by turns.
+ */
+static void build_mixed(size_t count)
+{
+    start();
+    put(HEAD(MOST_F, count > 2, count > 3));
+    if (count > 2)
+        put(STEP(0));
+    if (count > 3)
+        put(SEQUENCE(0));
+    if (count > 4)
+        put(ALTERNATIVE);
+    while (words + 1 < count) {
+        uint32_t turn = (uint32_t)(words % 7);
+        put(turn == 0   ? CALL(0)
+            : turn == 3 ? DO(0)
+                        : CHECK((uint32_t)(words * 5 % MOST_F)));
+    }
+    put_sum();
+}
+
+/*
+ * The word at `position` becomes one that counts `more`. It is in so many
+ * running sums as there are words from it up to the sum word, so the payload of
+ * that is so many times `more` greater: with it the image does not get 2, with
+ * the one before and with one that is wrong by one word's turn it does.
+ */
+static void counts_more(size_t position, uint32_t by, uint32_t more)
+{
+    uint32_t word = *word_at(position), sum = *word_at(words - 1);
+    uint32_t turns = (uint32_t)(words - 1 - position);
+    *word_at(position) = word + by;
+    refuses(2, words - 1, "a word is changed");
+    *word_at(words - 1) = WORD(KIND_SUM, payload_of(sum + (turns + 1) * more));
+    refuses(2, words - 1, "a word is changed, and counts once too often");
+    *word_at(words - 1) = WORD(KIND_SUM, payload_of(sum + (turns - 1) * more));
+    if (turns > 1)
+        refuses(2, words - 1, "a word is changed, and counts once too seldom");
+    *word_at(words - 1) = WORD(KIND_SUM, payload_of(sum + turns * more));
+    keep();
+    hold("a word is changed, and the sum word is right again",
+         dulimoven_refusal_of(dulimoven_check(area + GUARD, words)) !=
+             DULIMOVEN_SUM_WORD);
+    kept("a word is changed, and the sum word is right again");
+    *word_at(position) = word;
+    *word_at(words - 1) = sum;
+}
+
+/*
+ * Every length up to 40 and the four greatest: words that are summed up four at
+ * a time leave each rest. The payload of a word is 1 greater, or its kind, or
+ * its payload is greater by 2^20 - 1, which a few turns take past 2^28; in long
+ * images that is done to words at both ends and to some between.
+ */
+static void each_rest(void)
+{
+    enum { SHORT = 40, ENDS = 16, BETWEEN = 61, MUCH = 0xfffff };
+    size_t count, i;
+    for (count = 2; count <= FULL; count++) {
+        if (count == SHORT + 1)
+            count = FULL - 3;
+        build_mixed(count);
+        hold("so many words are built", words == count);
+        accepts("a length with each rest");
+        miss_sum(1);
+        refuses(2, count - 1, "a length with each rest, a wrong sum");
+        miss_sum(-1);
+        for (i = 0; i + 1 < count; i++) {
+            if (i >= ENDS && i + ENDS < count && i % BETWEEN != 0)
+                continue;
+            counts_more(i, 1, 1);
+            counts_more(i, UINT32_C(1) << PAYLOAD_BITS, 1024);
+            counts_more(i, MUCH, MUCH);
+        }
+        accepts("a length with each rest, as it was");
+    }
 }
 
 static void wrong_kind_of_sum(void)
@@ -469,7 +706,6 @@ static void head(void)
     REFUSES(3, 0, "bit 27", HEAD(1, 0, 0) | HEAD_ZERO_BIT);
     REFUSES(3, 0, "bit 27 beside the greatest counts: 3 comes before 7",
             HEAD(MOST_F, MOST_A, MOST_C) | HEAD_ZERO_BIT);
-    /* s = 0x1fffffff, so the sum word's payload is 2^28 mod 2^28 = 0 */
     REFUSES(3, 0, "every payload bit", WORD(KIND_HEAD, PAYLOAD_MASK));
     REFUSES(3, 0, "F = 0: 3 comes before 4", HEAD(0, 0, 0), WORD(0, 0));
     REFUSES(3, 0, "F = 0, so fact 0 is not below F: 3 comes before 5",
@@ -1010,6 +1246,10 @@ int main(void)
     all_facts();
     wrong_sums();
     wrong_sums_of_l();
+    exchanged_entries();
+    exchanged_far();
+    issued_again();
+    each_rest();
     wrong_kind_of_sum();
     head();
     kind_of_head();

@@ -33,8 +33,9 @@ struct checks {
  * One alternative each, over one fact. Step 0 sets it, 1 clears it, 2 needs it,
  * 3 neither, 4 needs and clears it.
  *
- * The sum word: beside the head's the payloads add up to 60, and the kinds to
- * 300, which is 12 mod 16. So it is the head's payload and 72: 240281 + 48.
+ * The sum word: taken 43 times for the head, 42 times for the next word and so
+ * on to once for the last, the payloads after the head's add up to 888, and the
+ * kinds to 5898: 43 * 0x240281 + 888 + 1024 * 5898 = 0x6689723.
  */
 static const uint32_t single_words[] = {
     HEAD(1, 5, 9),
@@ -52,7 +53,7 @@ static const uint32_t single_words[] = {
     SEQUENCE(6), ALTERNATIVE, DO(2),
     SEQUENCE(7), ALTERNATIVE, CHECK(0), DO(3),
     SEQUENCE(8), ALTERNATIVE, DO(3),
-    0xf02402c9};
+    0xf6689723};
 
 static const uint64_t single_cards[][DULIMOVEN_CARD_WORDS] = {
     /* <check>: the run has no step, so it is empty; the check is a need on the
@@ -82,8 +83,8 @@ static const uint64_t single_cards[][DULIMOVEN_CARD_WORDS] = {
  * <check 0>; 1 is <0, step 1>; 2 is <0>, <check 1>; 3 is <itself, check 0>,
  * <check 0, check 0>; 4 is <>, <check 1, itself>.
  *
- * The sum word: the payloads add up to 22, the kinds to 242, which is 2 mod 16:
- * 140102 + 18.
+ * The sum word: so taken, 32 times for the head, the payloads add up to 234,
+ * the kinds to 3421: 32 * 0x140102 + 234 + 1024 * 3421 = 0x2b5952a.
  */
 static const uint32_t nested_words[] = {
     HEAD(2, 2, 5),
@@ -94,7 +95,7 @@ static const uint32_t nested_words[] = {
     SEQUENCE(2), TAKES(CALL(0)), TAKES(CHECK(1)),
     SEQUENCE(3), TAKES(CALL(3), CHECK(0)), TAKES(CHECK(0), CHECK(0)),
     SEQUENCE(4), ALTERNATIVE, TAKES(CHECK(1), CALL(4)),
-    0xf014011a};
+    0xf2b5952a};
 
 static const uint64_t nested_cards[][DULIMOVEN_CARD_WORDS] = {
     /* fact 0 is set or checked, so it may be needed and set, and stands; the
@@ -114,15 +115,15 @@ static const uint64_t nested_cards[][DULIMOVEN_CARD_WORDS] = {
 /*
  * 64 facts. Sequence 0 is <check 63>, <set 63>; 1 is <check 0, check 63>.
  *
- * The sum word: the payloads add up to 190, the kinds to 89, which is 9 mod 16:
- * 800c0 + c7.
+ * The sum word: so taken, 12 times for the head, the payloads add up to 1138,
+ * the kinds to 464: 12 * 0x800c0 + 1138 + 1024 * 464 = 0x674d72.
  */
 static const uint32_t widest_words[] = {
     HEAD(64, 1, 2),
     STEP(0), SETS(63),
     SEQUENCE(0), TAKES(CHECK(63)), TAKES(DO(0)),
     SEQUENCE(1), TAKES(CHECK(0), CHECK(63)),
-    0xf0080187};
+    0xf0674d72};
 
 #define FACT_63 UINT64_C(0x8000000000000000)
 #define ALL_FACTS UINT64_C(0xffffffffffffffff)
@@ -142,10 +143,10 @@ static const uint64_t widest_cards[][DULIMOVEN_CARD_WORDS] = {
  * The library of examples/skip.image. Request sets fact 0, unit needs 0 and
  * sets 1, release needs and clears 0, measure needs 0 and 1 and sets 2.
  *
- * The sum word: the payloads add up to 34, the kinds to 228, which is 4 mod 16:
- * 100203 + 26.
+ * The sum word: so taken, 37 times for the head, the payloads add up to 516,
+ * the kinds to 3618: 37 * 0x100203 + 516 + 1024 * 3618 = 0x288d473.
  */
-static const uint32_t skip_words[] = {SKIP, 0xf0100229};
+static const uint32_t skip_words[] = {SKIP, 0xf288d473};
 
 static const uint64_t skip_cards[][DULIMOVEN_CARD_WORDS] = {
     /* <request, unit, release> sets fact 1 and clears 0; <check 1> is empty,
@@ -167,14 +168,14 @@ static const uint64_t skip_cards[][DULIMOVEN_CARD_WORDS] = {
  * Checks before, between and after the other entries of an alternative that
  * calls its own sequence: no run, so that the card is blank.
  *
- * The sum word: the payloads add up to 2, the kinds to 75, which is 11 mod 16:
- * 40082 + d.
+ * The sum word: so taken, 9 times for the head, the payloads add up to 4, the
+ * kinds to 300: 9 * 0x40082 + 4 + 1024 * 300 = 0x28b496.
  */
 static const uint32_t around_words[] = {
     HEAD(2, 1, 1),
     STEP(0),
     SEQUENCE(0), TAKES(CHECK(0), DO(0), CHECK(1), CALL(0), CHECK(1)),
-    0xf004008f};
+    0xf028b496};
 
 static const uint64_t around_cards[][DULIMOVEN_CARD_WORDS] = {
     {0, 0, 0, 0, 0, 0, 0, 0, 0, 0, 0, 0, 0}};

@@ -48,9 +48,9 @@ static_assert(DULIMOVEN_KIND_STEP_ENTRY == 8 &&
 /* the second word of the last link that there can be: 511 */
 static_assert(DULIMOVEN_MOST_CHAIN_WORDS - DULIMOVEN_LINK_WORDS + 1 == 511, "");
 
-/* format 3, which has the five last words of a card, and no change since then;
-   a preprocessor can tell */
+/* format 4, which has another sum word, and no change since then; a
+   preprocessor can tell */
 static_assert(DULIMOVEN_VERSION / 1000 == DULIMOVEN_FORMAT, "");
-#if DULIMOVEN_FORMAT != 3 || DULIMOVEN_VERSION != 3000
-#error "the format is 3, the version 3000"
+#if DULIMOVEN_FORMAT != 4 || DULIMOVEN_VERSION != 4000
+#error "the format is 4, the version 4000"
 #endif

@@ -121,17 +121,28 @@ static inline uint32_t sequences_of(uint32_t head)
     return field_of(head, HEAD_SEQUENCES, HEAD_SEQUENCES_BITS);
 }
 
+/* "A word now counts as its payload plus 1,024 times its kind." */
+static inline uint32_t counts_as(uint32_t word)
+{
+    return payload_of(word) + 1024 * kind_of(word);
+}
+
 /*
- * The sum word after these words: s is their sum with wrap at 2^32, the payload
- * (s + s / 2^28) mod 2^28.
+ * The sum word after these words. "Keep the running sum of these with wrap at
+ * 2^32, and let b be the wrapping sum of its values after each earlier word.
+ * The sum word's payload is now b mod 2^28."
+ *
+ * The word at p is in the running sums after p and after each later word, which
+ * are count - p. So b is the sum of (count - p) * counts_as(words[p]), and is
+ * worked out so: the engine and the second one add up running sums.
  */
 static inline uint32_t sum_word_after(const uint32_t *words, size_t count)
 {
-    uint32_t s = 0;
-    size_t i;
-    for (i = 0; i < count; i++)
-        s += words[i];
-    return word_of(KIND_SUM, payload_of(s + (s >> PAYLOAD_BITS)));
+    uint32_t b = 0;
+    size_t p;
+    for (p = 0; p < count; p++)
+        b += (uint32_t)(count - p) * counts_as(words[p]);
+    return word_of(KIND_SUM, payload_of(b));
 }
 
 /*

@@ -1,19 +1,25 @@
 /*
- * What document 01 prints under "Sample libraries", word by word. C11 and
- * C++17.
+ * What document 01 prints under "Sample libraries", word by word, with the sum
+ * words of document 02, request 6. C11 and C++17.
  */
 #ifndef DULIMOVEN_TESTS_SAMPLES_H
 #define DULIMOVEN_TESTS_SAMPLES_H
 
 #include "dulimoven.h"
 
-/* Library L: 3 facts, 3 steps, 3 sequences. */
+/*
+ * Library L: 3 facts, 3 steps, 3 sequences. Its sum word: the words count
+ * 787843 5120 3072 5121 2048 3073 5122 4097 6144 7168 8192 7168 6145 7168 9216
+ * 8193 6146 7168 9218. The running sums are 787843 792963 796035 801156 803204
+ * 806277 811399 815496 821640 828808 837000 844168 850313 857481 866697 874890
+ * 881036 888204 897422, and they add up to 15862032, which is 0xf20910.
+ */
 enum { L_WORDS = 20, L_SUM = L_WORDS - 1, L_SEQUENCES = 3 };
 static const uint32_t library_l[L_WORDS] = {
     0x100c0183, 0x50000000, 0x30000000, 0x50000001, 0x20000000,
     0x30000001, 0x50000002, 0x40000001, 0x60000000, 0x70000000,
     0x80000000, 0x70000000, 0x60000001, 0x70000000, 0x90000000,
-    0x80000001, 0x60000002, 0x70000000, 0x90000002, 0xf00c019a};
+    0x80000001, 0x60000002, 0x70000000, 0x90000002, 0xf0f20910};
 
 /*
  * Its cards. Document 02, request 4: "L's lines now end in 0, 3 and 0"; request
@@ -29,8 +35,11 @@ static const uint32_t untouched_in_l[2] = {0xa0000001, 0xc0000000};
 static const uint32_t set_in_l[4] = {0xa0000001, 0xb0000000, 0xa0000000,
                                      0xb0000000};
 
-/* An image that is accepted and has no sequence, and one that gets 3. */
-static const uint32_t no_sequence[2] = {0x10000001, 0xf0000002};
-static const uint32_t no_fact[2] = {0x10000000, 0xf0000001};
+/*
+ * An image that is accepted and has no sequence, and one that gets 3. The head
+ * counts 1 + 1024 and 0 + 1024, and there is one running sum.
+ */
+static const uint32_t no_sequence[2] = {0x10000001, 0xf0000401};
+static const uint32_t no_fact[2] = {0x10000000, 0xf0000400};
 
 #endif

@@ -1,6 +1,6 @@
 /*
  * The check: document 01, "Turned down, in checking order", refusals 1 to 7,
- * and refusal 13 of document 02.
+ * and of document 02 refusal 13 and the sum of request 6.
  */
 #include "../image.h"
 #include "dulimoven.h"
@@ -112,6 +112,22 @@ static void read_word(struct reading *r, uint32_t word)
     }
 }
 
+/*
+ * Rule 2, word by word. Document 02, request 6: "Keep the running sum of these
+ * with wrap at 2^32, and let b be the wrapping sum of its values after each
+ * earlier word. The sum word's payload is now b mod 2^28."
+ */
+static int sum_right(const uint32_t *image, size_t length)
+{
+    uint32_t running = 0, b = 0;
+    size_t i;
+    for (i = 0; i + 1 < length; i++) {
+        running += counts_as(image[i]);
+        b += running;
+    }
+    return image[length - 1] == word_of(KIND_SUM, payload_of(b));
+}
+
 static int head_right(uint32_t head)
 {
     return head == head_word(facts_of(head), steps_of(head),
@@ -144,7 +160,7 @@ uint64_t second_check(const uint32_t *image, size_t image_len)
 {
     if (image_len < LEAST_WORDS || image_len > MOST_WORDS)
         return refusal(DULIMOVEN_LENGTH, 0);
-    if (image[image_len - 1] != sum_word_after(image, image_len - 1))
+    if (!sum_right(image, image_len))
         return refusal(DULIMOVEN_SUM_WORD, image_len - 1);
     if (!head_right(image[0]))
         return refusal(DULIMOVEN_HEAD_WORD, 0);

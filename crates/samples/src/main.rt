@@ -2,7 +2,7 @@
 // answer. The file `stdout` has what must be printed.
 use libc::STDOUT_FILENO;
 
-// Library L, as document 01 prints it.
+// Library L, as document 01 prints it, with the sum word of document 02, request 6.
 const L: [u32; 20] = [
     0x100c0183,
     0x50000000,
@@ -23,13 +23,13 @@ const L: [u32; 20] = [
     0x60000002,
     0x70000000,
     0x90000002,
-    0xf00c019a,
+    0xf0f20910,
 ];
 
-// Heads with F = 64 and F = 65, A = C = 0. The sum s is the head, and its quotient by 2^28 is 1: 0x40 + 1 = 0x41, 0x41 + 1 = 0x42.
-const FACTS_64: [u32; 2] = [0x10000040, 0xf0000041];
+// Heads with F = 64 and F = 65, A = C = 0. There is one running sum, what the head counts as: 0x40 + 1024 = 0x440, 0x41 + 1024 = 0x441.
+const FACTS_64: [u32; 2] = [0x10000040, 0xf0000440];
 
-const FACTS_65: [u32; 2] = [0x10000041, 0xf0000042];
+const FACTS_65: [u32; 2] = [0x10000041, 0xf0000441];
 
 // An answer is the number that the C side gets: N × 2^32 + P for refusal N at position P, below 2^32 what the call is for.
 fn show(sample: &[u8], answer: u64) {
