@@ -12,7 +12,8 @@
  * rounds. The check is compared with the second engine's over each library, and
  * over the same with some damage. A library with a pulse must get refusal 13
  * from all calls, at the clear word; with some damage beside it the check is
- * compared again.
+ * compared again. One in which two different entries have changed places must
+ * get refusal 2, at the last word, and once they are back be accepted.
  *
  * To each library with room for it a sequence is added with one alternative,
  * which names a list of 0 to 5 sequences. The list's card by dulimoven_list,
@@ -29,7 +30,8 @@
  * stay untouched; more links than the fewest; a choice that is not the newest;
  * words changed past a chain or on "none"; a library refused, or a damaged one
  * judged otherwise; a pulse that is not refused, or at another word, or with a
- * word of an area changed; a call that does not end.
+ * word of an area changed; two entries that change places without being
+ * noticed; a call that does not end.
  *
  * Tried: the engine was broken on a copy, compiled without its proofs and
  * linked with this test. Each break was reported, first by the words after it.
@@ -171,8 +173,8 @@
  * Breaks of the list call, in whose place the rule of list_model.h stood: of
  * those that list_test names, the 36 that are about the card of a list over a
  * library's cards, another answer or changed cards, over a quarter of the
- * libraries: all are reported, as words of the added sequence's card. What is about refusals, F, areas that no
- * library fills or the list is not tried here.
+ * libraries: all are reported, as words of the added sequence's card. What is
+ * about refusals, F, areas that no library fills or the list is not tried here.
  * And breaks of the code that request 5 brought or moved, compiled without its
  * proofs: 26 of the list call and of all facts below a number, of which those
  * about refusals, about F = 0 and about bits that no library's cards have are
@@ -234,11 +236,11 @@ static const uint64_t first_seed = UINT64_C(0x2545f4914f6cdd1d);
 /*
  * What is counted of the libraries of a kind, or of all. `pulses` are the
  * libraries with a pulse, `pulses_damaged` the damaged ones of them that still
- * get refusal 13.
+ * get refusal 13, `exchanges` those in which two entries changed places.
  */
 struct tally {
     uint64_t libraries, sequences, card_words, checks, pulses, pulses_damaged,
-        questions, chains, links, lists, members, differences;
+        exchanges, questions, chains, links, lists, members, differences;
 };
 
 static struct tally tally;
@@ -619,55 +621,114 @@ static void try_pulse(struct seed *seed)
             DULIMOVEN_SET_AND_CLEARED;
 }
 
-/* Lists have a seed of their own, so that the libraries do not depend on it. */
-static void try_library(const struct trial *trial, struct seed *seed,
-                        struct seed *list_seed)
+/* The positions of the library's entries, in their order; answers how many. */
+static uint32_t find_entries(size_t *places)
+{
+    uint32_t count = 0;
+    size_t i;
+    for (i = 1; i + 1 < image.length; i++)
+        if (is_entry(image.words[i]))
+            places[count++] = i;
+    return count;
+}
+
+/* Two words of an image change places. */
+static void exchange(struct image *changed, size_t i, size_t j)
+{
+    uint32_t word = changed->words[i];
+    changed->words[i] = changed->words[j];
+    changed->words[j] = word;
+}
+
+/*
+ * "An accepted image in which two different entries change places then gets 2":
+ * a drawn entry, and of those from another drawn one on the first that differs.
+ */
+static void try_exchange(struct seed *seed)
+{
+    static struct image changed;
+    static size_t places[MOST_WORDS];
+    uint32_t count = find_entries(places), n;
+    size_t i = places[draw(seed, count)], from = draw(seed, count), j = 0;
+    uint64_t accepted = payload_of(image.words[0]);
+    uint64_t expected = (uint64_t)DULIMOVEN_SUM_WORD << 32 | (image.length - 1);
+    for (n = 0; n < count && j == 0; n++)
+        if (image.words[places[(from + n) % count]] != image.words[i])
+            j = places[(from + n) % count];
+    if (j == 0)
+        return;
+    image_copy(&changed, &image);
+    exchange(&changed, i, j);
+    tally.exchanges++;
+    tally.checks += 2;
+    if (check(&changed) != expected)
+        differs("two entries are exchanged, and the library does not notice");
+    if (second_check(changed.words, changed.length) != expected)
+        differs("two entries are exchanged, unnoticed by the second engine");
+    exchange(&changed, i, j);
+    if (check(&changed) != accepted)
+        differs("refused by the library once they are exchanged back");
+}
+
+/*
+ * Lists and exchanged entries have seeds of their own, so that the libraries do
+ * not depend on them.
+ */
+struct seeds {
+    struct seed library, list, exchange;
+};
+
+static void try_library(const struct trial *trial, struct seeds *seeds)
 {
     uint32_t fact, n;
     begin_library();
     try_check();
     for (n = 0; n < DAMAGES; n++)
-        try_damage(seed, &image);
-    try_pulse(seed);
+        try_damage(&seeds->library, &image);
+    try_pulse(&seeds->library);
+    try_exchange(&seeds->exchange);
     try_cards();
     judge_library(image.words, image.length);
     for (fact = 0; fact < facts_of(image.words[0]); fact += trial->facts)
         ask_fact(trial, fact);
-    try_list(list_seed);
+    try_list(&seeds->list);
 }
 
 static void print_tally(const char *name, const struct tally *t)
 {
     printf("%s: libraries %" PRIu64 ", sequences %" PRIu64
            ", card words %" PRIu64 ", checks %" PRIu64 ", pulses %" PRIu64
-           ", refused with 13 after damage %" PRIu64 ", questions %" PRIu64
-           ", chains %" PRIu64 ", links %" PRIu64 ", lists %" PRIu64
-           ", members %" PRIu64 ", differences %" PRIu64 "\n",
+           ", refused with 13 after damage %" PRIu64 ", exchanges %" PRIu64
+           ", questions %" PRIu64 ", chains %" PRIu64 ", links %" PRIu64
+           ", lists %" PRIu64 ", members %" PRIu64 ", differences %" PRIu64
+           "\n",
            name, t->libraries, t->sequences, t->card_words, t->checks,
-           t->pulses, t->pulses_damaged, t->questions, t->chains, t->links,
-           t->lists, t->members, t->differences);
+           t->pulses, t->pulses_damaged, t->exchanges, t->questions, t->chains,
+           t->links, t->lists, t->members, t->differences);
     fflush(stdout);
 }
 
 /*
  * Libraries of a kind. Some questions must have a chain, and some none; some
- * libraries must have room for a pulse.
+ * libraries must have room for a pulse, and some two entries that differ.
  */
 static void try_kind(unsigned kind)
 {
-    struct seed seed = {first_seed + kind};
-    struct seed list_seed = {first_seed - 1 - kind};
+    struct seeds seeds = {
+        {first_seed + kind}, {first_seed - 1 - kind}, {~first_seed - kind}};
     unsigned n;
     memset(&tally, 0, sizeof tally);
     kind_name = seeded_name(kind);
     for (n = 0; n < trials[kind].libraries; n += SHARE) {
-        make_library(&seed, kind, &image);
-        try_library(&trials[kind], &seed, &list_seed);
+        make_library(&seeds.library, kind, &image);
+        try_library(&trials[kind], &seeds);
     }
     if (tally.chains == 0 || tally.chains == tally.questions)
         differs("no chain in any library, or no \"none\"");
     if (tally.pulses == 0)
         differs("no pulse in any library");
+    if (tally.exchanges == 0)
+        differs("no two entries that differ in any library");
     print_tally(kind_name, &tally);
 }
 
@@ -679,6 +740,7 @@ static void add_tally(struct tally *total)
     total->checks += tally.checks;
     total->pulses += tally.pulses;
     total->pulses_damaged += tally.pulses_damaged;
+    total->exchanges += tally.exchanges;
     total->questions += tally.questions;
     total->chains += tally.chains;
     total->links += tally.links;
@@ -689,7 +751,7 @@ static void add_tally(struct tally *total)
 
 int main(void)
 {
-    struct tally total = {0, 0, 0, 0, 0, 0, 0, 0, 0, 0, 0, 0};
+    struct tally total = {0, 0, 0, 0, 0, 0, 0, 0, 0, 0, 0, 0, 0};
     unsigned kind;
     signal(SIGALRM, time_is_up);
     for (kind = 0; kind < SEEDED_KINDS; kind++) {
