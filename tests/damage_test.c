@@ -10,6 +10,9 @@
  * not written on either side, by the library's code too, which no sanitizer
  * watches.
  *
+ * In each example image all pairs of entries change places, and the sum word of
+ * the rule before document 02's request 6 is tried: both get refusal 2.
+ *
  * The answers are held against each other: a refusal of the image is the same
  * from all three calls that take one, the card and the chains of a sequence say
  * the same, and each chain is of links that there can be. The list call is held
@@ -409,23 +412,132 @@ static const uint32_t poll[] = {
     SEQUENCE(3), ALTERNATIVE, DO(3), CALL(0), ALTERNATIVE, CALL(3), CALL(3),
         ALTERNATIVE};
 
-/* The library of examples/skip.image: an alternative with a check. */
+/* Those of setup.image, of refused.image, which clears fact 3 of three, and of
+   skip.image, which has an alternative with a check. */
+static const uint32_t setup[] = {SETUP};
+static const uint32_t refused[] = {REFUSED_SETUP};
 static const uint32_t skip[] = {SKIP};
 
 /*
- * The library of examples/pulse.image: the same, and step 3 clears the fact
- * that it sets.
+ * The library of examples/pulse.image: that of poll.image, and step 3 clears
+ * the fact that it sets.
  */
-static void pulse(void)
+enum { CLEAR = 11 };
+static uint32_t pulse[COUNT(poll) + 1];
+
+static void make_pulse(void)
 {
-    enum { CLEAR = 11 };
+    memcpy(pulse, poll, sizeof pulse[0] * CLEAR);
+    pulse[CLEAR] = CLEARS(2);
+    memcpy(pulse + CLEAR + 1, poll + CLEAR,
+           sizeof pulse[0] * (COUNT(poll) - CLEAR));
+}
+
+/*
+ * An image of examples/: its words without the sum word, and the answer of the
+ * check; its sum word, and the one that it had by the rule before.
+ */
+struct example {
+    const char *name;
+    const uint32_t *words;
+    size_t count;
+    uint64_t answer;
+    uint32_t sum, old_sum;
+};
+
+static const struct example examples[] = {
+    {"l.image", library_l, L_SUM, ACCEPTED(3, 3, 3), 0xf0f20910, 0xf00c019a},
+    {"setup.image", setup, COUNT(setup), ACCEPTED(3, 4, 4), 0xf273d251,
+     0xf010022b},
+    {"poll.image", poll, COUNT(poll), ACCEPTED(3, 4, 4), 0xf2656c95,
+     0xf0100234},
+    {"skip.image", skip, COUNT(skip), ACCEPTED(3, 4, 4), 0xf288d473,
+     0xf0100229},
+    {"pulse.image", pulse, COUNT(pulse), REFUSED(13, CLEAR), 0xf2779ad7,
+     0xf010022a},
+    {"refused.image", refused, COUNT(refused), REFUSED(5, 8), 0xf273d2a5,
+     0xf010022e}};
+
+/*
+ * "An accepted image in which two different entries change places then gets 2".
+ * The two images that are refused for a fact word get 2, too: their entries are
+ * in range. Equal entries leave the image as it was.
+ */
+static void exchange_pairs(const struct example *e)
+{
+    unsigned pairs = 0;
+    size_t i, j;
+    for (i = 0; i < e->count; i++)
+        for (j = i + 1; j < e->count; j++) {
+            if (!is_entry(e->words[i]) || !is_entry(e->words[j]))
+                continue;
+            build(e->words, e->count);
+            *word_at(i) = e->words[j];
+            *word_at(j) = e->words[i];
+            holds("two entries changed places",
+                  all_calls(e->name) == (e->words[i] == e->words[j]
+                                             ? e->answer
+                                             : REFUSED(2, e->count)));
+            pairs += e->words[i] != e->words[j];
+        }
+    holds("no two entries differ", pairs > 0);
+}
+
+/* "one under the old rule is judged by 2 like any other" */
+static void under_old_rule(const char *name, const uint32_t *given,
+                           size_t count, uint32_t old_sum)
+{
     start();
-    put_all(poll, CLEAR);
-    put(CLEARS(2));
-    put_all(poll + CLEAR, COUNT(poll) - CLEAR);
-    put_sum();
-    holds("the pulse is not refused",
-          all_calls("pulse.image") == REFUSED(13, CLEAR));
+    put_all(given, count);
+    put(old_sum);
+    holds("the sum word of the rule before is taken",
+          all_calls(name) == REFUSED(2, count));
+}
+
+/* Images beside the examples that were issued again, with the old sum words. */
+static void old_images(void)
+{
+    static const struct {
+        const char *name;
+        size_t count;
+        uint32_t words[15];
+    } old[] = {
+        {"one fact", 2, {0x10000001, 0xf0000002}},
+        {"no fact", 2, {0x10000000, 0xf0000001}},
+        {"F = 64", 2, {0x10000040, 0xf0000041}},
+        {"F = 65", 2, {0x10000041, 0xf0000042}},
+        {"<itself>, <>", 6,
+         {0x10040001, 0x60000000, 0x70000000, 0x90000000, 0x70000000,
+          0xf004000f}},
+        {"<set, endless>, <clear>", 15,
+         {0x10080101, 0x50000000, 0x30000000, 0x50000001, 0x40000000,
+          0x60000000, 0x70000000, 0x80000000, 0x90000001, 0x70000000,
+          0x80000001, 0x60000001, 0x70000000, 0x90000001, 0xf008010b}},
+        {"<clear, need>", 10,
+         {0x10040101, 0x50000000, 0x40000000, 0x50000001, 0x20000000,
+          0x60000000, 0x70000000, 0x80000000, 0x80000001, 0xf0040111}},
+        {"a step sets and clears a fact", 8,
+         {0x10040081, 0x50000000, 0x30000000, 0x40000000, 0x60000000,
+          0x70000000, 0x80000000, 0xf0040083}}};
+    size_t i;
+    for (i = 0; i < COUNT(old); i++)
+        under_old_rule(old[i].name, old[i].words, old[i].count - 1,
+                       old[i].words[old[i].count - 1]);
+}
+
+static void example_images(void)
+{
+    size_t i;
+    for (i = 0; i < COUNT(examples); i++) {
+        const struct example *e = &examples[i];
+        start();
+        put_all(e->words, e->count);
+        put(e->sum);
+        holds("an example image gets another answer",
+              all_calls(e->name) == e->answer);
+        exchange_pairs(e);
+        under_old_rule(e->name, e->words, e->count, e->old_sum);
+    }
 }
 
 static int sum_is_right(void)
@@ -715,10 +827,12 @@ int main(void)
         list_pages[which] = pages(LIST_BYTES);
         one_card_pages[which] = pages(ONE_CARD_BYTES);
     }
+    make_pulse();
     nibbles("L", library_l, L_SUM);
     nibbles("poll.image", poll, COUNT(poll));
     nibbles("skip.image", skip, COUNT(skip));
-    pulse();
+    example_images();
+    old_images();
     noise();
     libraries();
     lists();
