@@ -12,6 +12,7 @@ use lib.ListN.{length, getD, drop, replicate}
 use lib.ListN as list
 use Rattle.general.specs.Tests.{some}
 use Rattle.general.proofs.Scan.{getD-listBelow}
+use Rattle.swap.specs.Swapped.{swapped, DifferentEntries}
 use Rattle.column.specs.Column.{bit}
 use Rattle.column.specs.Sets.{inColumn, countBelow}
 use Rattle.column.proofs.Bits.{bit-zero, bit-none}
@@ -43,11 +44,12 @@ use Rattle.dulimoven.specs.Demands.{Engine, count, Ready, Demand1, Demand2, Pro
 use Rattle.dulimoven.specs.Added.{Listed, listOver, Lists}
 use Rattle.dulimoven.specs.Engine.{engine}
 use Rattle.agreement.specs.Wrong.{Gets, Unwritten, LongerChain, BlankColumn, OneCard, Untouched, NoneAtOnce, AlwaysTwelve, SameLink, InventedLinks, InventedCount, RefusesAll, RefusesAllCards, RefusesAllChains}
-use Rattle.agreement.specs.Wrong.{RefusesAllLists, UnwrittenLists, LastMember, noList, lazyLists, secondCard}
+use Rattle.agreement.specs.Wrong.{RefusesAllLists, UnwrittenLists, LastMember, OrderUnnoticed, noList, lazyLists, secondCard}
 use Rattle.agreement.specs.Wrong.{blankCards, flaglessCards, lazyCards, fixedChain, unwritten, fixedLinks, noImage}
 use Rattle.dulimoven.proofs.ChainCall.{chain-only}
 use Rattle.dulimoven.proofs.Demands.{only-engine, columns, runs}
 use Rattle.dulimoven.proofs.Added.{lists-met, list-words}
+use Rattle.dulimoven.proofs.Swapped.{engines-notice}
 use Rattle.agreement.proofs.Fixed.{cards-fixed, area-fixed, links-told, gets-chain, chain-shown}
 
 -- ---- the samples, by computation
@@ -157,6 +159,17 @@ pub refuses-all : (e : Engine) → RefusesAll e → ¬ Demand1 e
 refuses-all e wrong d =
     let right : e .check L ≡ 786819 = d .check L ∙ ap checkedAnswer accepted-L in
     let high = wrong L in
+    omega arith
+
+-- L's words 14 and 15, <sequence 0> and <step 1>
+entries-L : DifferentEntries L 14 15
+entries-L = record { one-before = omega arith; other-before = omega arith; one-entry = refl; other-entry = refl; differ = omega arith }
+
+pub order-unnoticed : (e : Engine) → OrderUnnoticed e → ¬ Demand1 e
+order-unnoticed e wrong d =
+    let right : e .check L ≡ 786819 = d .check L ∙ ap checkedAnswer accepted-L in
+    let noticed : e .check (swapped L 14 15) ≡ 2 * 2 ^ 32 + 19 = engines-notice e d .swap L _ 14 15 accepted-L entries-L in
+    let same = wrong L 14 15 entries-L in
     omega arith
 
 pub refuses-all-cards : (e : Engine) → RefusesAllCards e → ¬ Demand1 e
@@ -483,6 +496,9 @@ lazy-lists-goes facts sequences cards list card = refl
 
 pub last-member-goes : LastMember secondCard
 last-member-goes image area before m n asked k u = getD-listBelow (partWord (engine .cards image area .area) n) cardWords k 0 u
+
+pub order-unnoticed-goes : OrderUnnoticed noImage
+order-unnoticed-goes image i j entries = refl
 
 pub refuses-goes : RefusesAll noImage
 refuses-goes image = omega arith

@@ -7,8 +7,9 @@ use Prim.Native.String.{String}
 use Prim.Native.String as string
 use mathlib.Core.Path.{_≡_}
 use mathlib.Core.List.{List, [], _∷_, _++_}
-use lib.ListN.{length, replicate}
+use lib.ListN.{length, replicate, set}
 use Rattle.library.specs.Library.{Library, has, libraryOf, Item, step, check}
+use Rattle.swap.specs.Swapped.{swapped}
 use Rattle.runs.specs.Run.{Run}
 use Rattle.runs.specs.Execution.{Fact, State, Executes, end}
 use Rattle.cards.specs.Layout.{cardWords}
@@ -65,6 +66,11 @@ abbrev pub skips : List ℕ
 skips =
     0x10080081 ∷ 0x50000000 ∷ 0x20000000 ∷ 0x40000000 ∷ 0x60000000 ∷ 0x70000000 ∷ 0xd0000000 ∷ 0x60000001 ∷ 0x70000000 ∷ 0x90000000
     ∷ 0x80000000 ∷ 0xf05d318f ∷ []
+
+-- two facts, two steps, one sequence, whose one alternative has an entry of each kind: <step 1, itself, check 1>
+abbrev pub everyKind : List ℕ
+everyKind =
+    0x10040102 ∷ 0x50000000 ∷ 0x50000001 ∷ 0x60000000 ∷ 0x70000000 ∷ 0x80000001 ∷ 0x90000000 ∷ 0xd0000001 ∷ 0xf022f01a ∷ []
 
 -- ---- the table
 
@@ -236,4 +242,16 @@ starred =
     ∷ declines 3 3 cardsL (replicate 257 3) 14
     ∷ composes 3 3 cardsL (replicate 256 0) card0
     ∷ declines 3 3 cardsL (0 ∷ 3 ∷ []) 15
+    -- document 02, request 6: "An accepted image in which two different entries change places then gets 2": entries of each two kinds, whichever of
+    -- them is named first, and two of L that stand in different alternatives
+    ∷ accepts everyKind 2 2 1
+    ∷ refuses (swapped everyKind 5 6) 2 8
+    ∷ refuses (swapped everyKind 7 5) 2 8
+    ∷ refuses (swapped everyKind 6 7) 2 8
+    ∷ refuses (swapped L 10 14) 2 19
+    -- "one under the old rule is judged by 2 like any other": L with the sum word that document 01 prints
+    ∷ refuses (set L 19 0xf00c019a) 2 19
+    -- "b mod 2^28": the head counts 401 and the others 10003bff each, so the running sums are 401, 10004000, 20007bff and 3000b7fe, and b is
+    -- 600177fe; "A word now counts as ..", whatever may stand there: the sum is right, and 4 at 1
+    ∷ refuses (0x10000001 ∷ 0xffffffff ∷ 0xffffffff ∷ 0xffffffff ∷ 0xf00177fe ∷ []) 4 1
     ∷ []

@@ -1,7 +1,8 @@
 -- The wrong engines that "Agreement" of document 01 lists, each by what is wrong with it: "These must be unprovable". Each is wrong in that
 -- one way, and nothing is said of what else it does. "Always stands" of document 02, request 4, counts among the columns. Two more are wrong about
 -- chains: one that never writes them for a question, and one with a link more than the fewest. Three are wrong about lists (request 5): one
--- refuses all, one writes no card, and one takes the last member's card for the list's.
+-- refuses all, one writes no card, and one takes the last member's card for the list's. One does not notice entries that change places
+-- (request 6).
 use Prim.Native.Nat.{ℕ, _*_, _/_, _^_, _≤_, _<_}
 use mathlib.Core.Path.{_≡_}
 use mathlib.Core.Logic.{_≢_}
@@ -11,6 +12,7 @@ use lib.Dec.{eqb}
 use lib.ListN.{length, getD, drop, replicate, set}
 use Rattle.general.specs.Scan.{listBelow}
 use Rattle.library.specs.Library.{libraryOf}
+use Rattle.swap.specs.Swapped.{swapped, DifferentEntries}
 use Rattle.column.specs.Sets.{inColumn, countBelow}
 use Rattle.cards.specs.Layout.{CardColumn, may-set, may-clear, place, cardWords}
 use Rattle.cards.specs.Area.{partWord}
@@ -105,6 +107,10 @@ pub record InventedCount (e : Engine) : Type 0 where
 -- "refusing all images"
 abbrev pub RefusesAll : Engine → Type 0
 RefusesAll e = (image : List ℕ) → Refuses (e .check image)
+
+-- entries that change places go unnoticed: the image gets the answer that it got before
+abbrev pub OrderUnnoticed : Engine → Type 0
+OrderUnnoticed e = (image : List ℕ) (i j : ℕ) → DifferentEntries image i j → e .check (swapped image i j) ≡ e .check image
 
 abbrev pub RefusesAllCards : Engine → Type 0
 RefusesAllCards e = (image area : List ℕ) → Refuses (e .cards image area .number)

@@ -11,9 +11,15 @@ use lib.ListN.{length, getD, set, length-set, length-drop}
 use lib.Seq.{getD-set-other}
 use Rattle.image.specs.Word.{countsAs, orderedSum}
 use Rattle.image.proofs.Sum.{weighted, payload-weighted, weighted-set}
-use Rattle.swap.specs.Swapped.{swapped, Close}
+use Rattle.swap.specs.Swapped.{swapped}
 
 -- ---- numbers
+
+-- different numbers, neither of which is 8,192 or more above the other: the product of two such differences is below 2^28
+pub record Close (x y : ℕ) : Type 0 where
+  pub differ : x ≡ y → ⊥
+  pub one-low : x < y + 8192
+  pub other-low : y < x + 8192
 
 -- p is q, but with a and c times each other's weight, x and y
 abbrev Crossed : (p q x y a c : ℕ) → Type 0

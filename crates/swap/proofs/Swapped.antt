@@ -24,8 +24,8 @@ use Rattle.rules.proofs.Checked.{refused-sum}
 use Rattle.rules.proofs.Faultless.{fine, payloads}
 use Rattle.library.proofs.Decode.{kind-is}
 use Rattle.library.proofs.Accepted.{checks, faultless}
-use Rattle.swap.specs.Swapped.{swapped, Close, Noticed}
-use Rattle.swap.proofs.Sums.{payload-apart}
+use Rattle.swap.specs.Swapped.{swapped, Noticed}
+use Rattle.swap.proofs.Sums.{Close, payload-apart}
 
 -- ---- lists in which two words change places
 

@@ -1,2 +1,1 @@
 pub mod Swapped
-pub mod Sample

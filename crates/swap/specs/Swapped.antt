@@ -22,12 +22,6 @@ pub record DifferentEntries (image : List ℕ) (i j : ℕ) : Type 0 where
   pub other-entry : isEntry (getD image j 0) ≡ true
   pub differ : getD image i 0 ≡ getD image j 0 → ⊥
 
--- different numbers, neither of which is 8,192 or more above the other: the product of two such differences is below 2^28
-pub record Close (x y : ℕ) : Type 0 where
-  pub differ : x ≡ y → ⊥
-  pub one-low : x < y + 8192
-  pub other-low : y < x + 8192
-
 -- "An accepted image in which two different entries change places then gets 2, and this is proved." (`swap-noticed`, proofs/Swapped)
 abbrev pub Noticed : Type 0
 Noticed =
