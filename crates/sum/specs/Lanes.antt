@@ -25,8 +25,8 @@ pub record Lanes (a b c d : Sums) : Type 0 where
   pub third : c ≡ wrapped running₂ values₂
   pub fourth : d ≡ wrapped running₃ values₃
   pub together : running ≡ running₀ + running₁ + running₂ + running₃
-  -- a value of each lane's running sum is one of all words' too from its word on, up to four words: it counts four times, less the
-  -- words of the four that stand before its own
+  -- a word that the values of its lane have taken in t times has been taken in 4 × t times by those of all words, less 1, 2 or 3 in the second,
+  -- third and fourth lane: when it came, as many of its four were before it
   pub weighed : 4 * (values₀ + values₁ + values₂ + values₃) ≡ values + running₁ + 2 * running₂ + 3 * running₃
 
 -- the sums of all words, of words in four lanes
