@@ -16,7 +16,7 @@ use Rattle.sum.proofs.Loop.{sums-turn}
 -- ---- numbers with wrap
 
 -- a word more, before or after the wrap
-pub wrapped-turn : (s b w : ℕ) → withWord (wrapped s b) w ≡ wrapped (s + countsAs w) (b + (s + countsAs w))
+wrapped-turn : (s b w : ℕ) → withWord (wrapped s b) w ≡ wrapped (s + countsAs w) (b + (s + countsAs w))
 wrapped-turn s b w i =
     let running = mod-add-mod s (2 ^ 32) (countsAs w) in
     let values = ap (λ (x : ℕ). (b % 2 ^ 32 + x) % 2 ^ 32) running ∙ sym (add-mod b (s + countsAs w) (2 ^ 32)) in
@@ -40,6 +40,9 @@ weighed-wraps x p q t v e = same-remainder (2 ^ 32) _ _ (4 * (x / 2 ^ 32)) (6 + 
 
 -- ---- the lanes
 
+lane-is : (lane : Sums) (s b : ℕ) → lane ≡ wrapped s b → (lane .running ≡ s % 2 ^ 32) × (lane .values ≡ b % 2 ^ 32)
+lane-is lane s b e = (ap (λ (x : Sums). x .running) e, ap (λ (x : Sums). x .values) e)
+
 module _ (a b c d : Sums) (running values : ℕ) (added : running ≡ (a .running + b .running + c .running + d .running) % 2 ^ 32)
     (added-values : values ≡ (a .values + b .values + c .values + d .values) % 2 ^ 32) where
   pub lanes-joined : Joined a b c d (record {
@@ -47,14 +50,10 @@ module _ (a b c d : Sums) (running values : ℕ) (added : running ≡ (a .runnin
     values = (4 * values + 6 * 2 ^ 32 - (b .running + 2 * (c .running) + 3 * (d .running))) % 2 ^ 32;
   })
   lanes-joined lanes i =
-      let a₁ : a .running ≡ lanes .running₀ % 2 ^ 32 = ap (λ (s : Sums). s .running) (lanes .first) in
-      let b₁ : b .running ≡ lanes .running₁ % 2 ^ 32 = ap (λ (s : Sums). s .running) (lanes .second) in
-      let c₁ : c .running ≡ lanes .running₂ % 2 ^ 32 = ap (λ (s : Sums). s .running) (lanes .third) in
-      let d₁ : d .running ≡ lanes .running₃ % 2 ^ 32 = ap (λ (s : Sums). s .running) (lanes .fourth) in
-      let a₂ : a .values ≡ lanes .values₀ % 2 ^ 32 = ap (λ (s : Sums). s .values) (lanes .first) in
-      let b₂ : b .values ≡ lanes .values₁ % 2 ^ 32 = ap (λ (s : Sums). s .values) (lanes .second) in
-      let c₂ : c .values ≡ lanes .values₂ % 2 ^ 32 = ap (λ (s : Sums). s .values) (lanes .third) in
-      let d₂ : d .values ≡ lanes .values₃ % 2 ^ 32 = ap (λ (s : Sums). s .values) (lanes .fourth) in
+      let first = lane-is a (lanes .running₀) (lanes .values₀) (lanes .first) in
+      let second = lane-is b (lanes .running₁) (lanes .values₁) (lanes .second) in
+      let third = lane-is c (lanes .running₂) (lanes .values₂) (lanes .third) in
+      let fourth = lane-is d (lanes .running₃) (lanes .values₃) (lanes .fourth) in
       let whole : running ≡ lanes .running % 2 ^ 32 = cc (added-wrapped (lanes .running₀) (lanes .running₁) (lanes .running₂) (lanes .running₃), lanes .together) in
       let sum = lanes .values₀ + lanes .values₁ + lanes .values₂ + lanes .values₃ in
       let values-whole : values ≡ sum % 2 ^ 32 = cc (added-wrapped (lanes .values₀) (lanes .values₁) (lanes .values₂) (lanes .values₃)) in

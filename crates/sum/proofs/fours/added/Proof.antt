@@ -4,9 +4,6 @@ use borrow.Author.Needs.{needs}
 use Rattle.sum.proofs.Lanes.{added-wraps}
 use Rattle.sum.proofs.fours.added.Statement.{statement}
 use Rattle.sum.proofs.fours.added.Tie as tie
-use Rattle.sum.proofs.fours.added.Reads as reads
-use Rattle.sum.proofs.fours.added.Lts as lts
-use Rattle.std.proofs.num.wrapping_add_u32.Reads as wrapping-add-u32-reads
 
 wrapping-add-u32-requires : tie.Need-wrapping-add-u32-requires
 wrapping-add-u32-requires c κs = search needs

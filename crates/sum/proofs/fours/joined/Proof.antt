@@ -4,9 +4,6 @@ use borrow.Author.Needs.{needs}
 use Rattle.sum.proofs.Lanes.{lanes-joined}
 use Rattle.sum.proofs.fours.joined.Statement.{statement}
 use Rattle.sum.proofs.fours.joined.Tie as tie
-use Rattle.sum.proofs.fours.joined.Reads as reads
-use Rattle.sum.proofs.fours.joined.Lts as lts
-use Rattle.sum.proofs.fours.added.Reads as added-reads
 
 added-requires : tie.Need-added-requires
 added-requires c κs = search needs

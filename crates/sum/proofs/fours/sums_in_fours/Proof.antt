@@ -8,10 +8,6 @@ use lib.ListN.{length}
 use Rattle.sum.proofs.Lanes.{InFours, fours-none, fours-turn, fours-end}
 use Rattle.sum.proofs.fours.sums_in_fours.Statement.{statement}
 use Rattle.sum.proofs.fours.sums_in_fours.Tie as tie
-use Rattle.sum.proofs.fours.sums_in_fours.Reads as reads
-use Rattle.sum.proofs.fours.sums_in_fours.Lts as lts
-use Rattle.sum.proofs.fours.joined.Reads as joined-reads
-use Rattle.sum.proofs.sums.with_word.Reads as with-word-reads
 
 abbrev Inv-loop : tie.InvT-loop
 Inv-loop words a₀ b₀ c₀ d₀ i₀ a b c d i = InFours words a b c d i

@@ -10,9 +10,6 @@ use Rattle.sum.specs.declared.sums.Sums.{Sums}
 use Rattle.sum.proofs.Loop.{sums-turn, sums-end}
 use Rattle.sum.proofs.sums.sums_from.Statement.{statement}
 use Rattle.sum.proofs.sums.sums_from.Tie as tie
-use Rattle.sum.proofs.sums.sums_from.Reads as reads
-use Rattle.sum.proofs.sums.sums_from.Lts as lts
-use Rattle.sum.proofs.sums.with_word.Reads as with-word-reads
 
 abbrev Inv-loop : tie.InvT-loop
 Inv-loop words at sums₀ i₀ sums i = (i ≤ length words) × (sumsAfter sums (drop i words) ≡ sumsAfter sums₀ (drop at words))

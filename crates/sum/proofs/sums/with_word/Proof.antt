@@ -3,10 +3,6 @@
 use borrow.Author.Needs.{needs}
 use Rattle.sum.proofs.sums.with_word.Statement.{statement}
 use Rattle.sum.proofs.sums.with_word.Tie as tie
-use Rattle.sum.proofs.sums.with_word.Reads as reads
-use Rattle.sum.proofs.sums.with_word.Lts as lts
-use Rattle.sum.proofs.sums.counts_as.Reads as counts-as-reads
-use Rattle.std.proofs.num.wrapping_add_u32.Reads as wrapping-add-u32-reads
 
 counts-as-requires : tie.Need-counts-as-requires
 counts-as-requires c κs = search needs
