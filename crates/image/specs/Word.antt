@@ -1,4 +1,5 @@
--- Words, their kinds and payloads, and the two words at the ends of an image: the head and the sum word (document 01, "The image"; document 02, request 6).
+-- Words, their kinds and payloads, and the two words at the ends of an image: the head and the sum word (document 01, "The image"; document 02,
+-- requests 4 and 6).
 use Prim.Native.Nat.{ℕ, _+_, _*_, _/_, _%_, _^_}
 use mathlib.Core.Bool.{Bool, _&&_, _||_}
 use mathlib.Core.List.{List, [], _∷_}

@@ -1,4 +1,4 @@
--- The sums of words in four lanes: a turn of the loop, and its end.
+-- The sums of words in four lanes. It has, in this order: numbers with wrap; the lanes joined; the start, a turn and the end of the loop.
 -- Assumes nothing.
 use Prim.Native.Nat.{ℕ, _+_, _*_, _-_, _/_, _%_, _^_, _≤_, _<_}
 use native.Mathlib.Omega.{arith}
