@@ -23,6 +23,7 @@ use Rattle.image.proofs.Words.{entry-of}
 use Rattle.general.specs.Tests.{some}
 use Rattle.general.proofs.Bools.{or-right, or-cases, nor-left, nor-right}
 use Rattle.library.specs.Library.{Item, step, check, Entry, item, entryOf, Alternative, entriesFrom, alternativesFrom}
+use Rattle.library.specs.Calls.{isCallOf, callsOf}
 use Rattle.walk.specs.Walk.{entriesEnd}
 use Rattle.library.proofs.Decode.{kind-is, step-entry, check-entry, call-entry}
 use Rattle.walk.proofs.Walking.{end-skips, end-ends}
@@ -31,7 +32,7 @@ use Rattle.column.specs.Column.{bit, withFact}
 use Rattle.column.specs.Sets.{inColumn, difference}
 use Rattle.column.proofs.Bits.{bit-none, bit-le, bit-or, bit-and, bit-not, bit-pow}
 use Rattle.general.specs.Numbers.{Zeros}
-use Rattle.callers.specs.Callers.{inSet, isCaller, isCallOf, callsOf, calls, Removed, United, Put, CallersWritten}
+use Rattle.callers.specs.Callers.{inSet, isCaller, calls, Removed, United, Put, CallersWritten}
 
 -- ---- one bit
 

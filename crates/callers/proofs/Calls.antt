@@ -14,7 +14,7 @@ use Rattle.library.proofs.Decode.{entry-opens-none}
 use Rattle.walk.proofs.Walking.{entries-at, alternatives-at}
 use Rattle.general.specs.Tests.{All, some}
 use Rattle.general.proofs.Bools.{or-left, or-right}
-use Rattle.callers.specs.Callers.{isCallOf, callsOf}
+use Rattle.library.specs.Calls.{isCallOf, callsOf}
 
 -- ---- something of each entry
 

@@ -9,8 +9,7 @@ use lib.ListN.{length, getD}
 use Rattle.column.specs.Sets.{inColumn}
 use Rattle.image.specs.Word.{mostSequences}
 use Rattle.general.specs.Numbers.{Zeros}
-use Rattle.general.specs.Tests.{some}
-use Rattle.library.specs.Library.{Entry, item, call, Alternative}
+use Rattle.library.specs.Calls.{callsOf}
 use Rattle.walk.specs.Walk.{alternativesAt}
 
 -- the words of a set: four, of 64 bits, room for 256 sequences
@@ -24,15 +23,6 @@ inSet set c = inColumn (getD set (c / 64) 0) (c % 64)
 -- sequence c is one of the callers of sequence d
 abbrev pub isCaller : List ℕ → ℕ → ℕ → Bool
 isCaller callers d c = inColumn (getD callers (setWords * d + c / 64) 0) (c % 64)
-
--- the entry calls sequence d
-abbrev pub isCallOf : ℕ → Entry → Bool
-isCallOf d (item i) = false
-isCallOf d (call e) = eqb e d
-
--- an entry of one of the alternatives does
-abbrev pub callsOf : List Alternative → ℕ → Bool
-callsOf alts d = some (some (isCallOf d)) alts
 
 -- sequence c calls sequence d
 abbrev pub calls : List ℕ → List ℕ → ℕ → ℕ → Bool

@@ -17,8 +17,9 @@ ghost use Prim.Native.Nat.{_≤_, _<_};
 ghost use lib.ListN.{length, drop};
 ghost use lib.Dec.{eqb};
 ghost use Rattle.image.specs.Word.{mostSequences, payload, isKind};
+ghost use Rattle.library.specs.Calls.{callsOf};
 ghost use Rattle.library.specs.Library.{alternativesFrom};
-ghost use Rattle.callers.specs.Callers.{callsOf, Put, CallersAsked, CallersWritten};
+ghost use Rattle.callers.specs.Callers.{Put, CallersAsked, CallersWritten};
 
 // Makes sequence `c` a caller of the one that a call names, where that has a set.
 fn add(callers: &mut [u64], w: u32, c: usize)

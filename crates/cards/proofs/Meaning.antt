@@ -17,7 +17,7 @@ use Rattle.column.specs.Sets.{inColumn, countBelow}
 use Rattle.column.proofs.Bits.{bit-zero, bit-suc, bit-none, bit-high, column-same, column-none}
 use Rattle.column.proofs.Operations.{bit-one, bit-null, in-column, column-high, count-le, count-same, count-none}
 use Rattle.library.specs.Library.{Library, Item}
-use Rattle.runs.specs.Run.{Run}
+use Rattle.runs.specs.Run.{Run, HasRun, NoRun}
 use Rattle.runs.specs.Domain.{domainOf}
 use Rattle.runs.specs.Execution.{Fact, State, Executes}
 use Rattle.runs.specs.Touch.{Mark, present, absent, untouched, last, first, lastSet, lastCleared}
@@ -33,7 +33,7 @@ use Rattle.cards.specs.Layout.{CardColumn, always-needed, may-need, may-
 use Rattle.cards.specs.Layout.{may-first-set, may-first-untouched, may-last-untouched, may-end-cleared, may-end-unmentioned}
 use Rattle.cards.specs.Layout.{place, cardWords}
 use Rattle.cards.specs.Card.{Claim, some-run, every-run, claim, claimed, claimWord, columnWord, changeable, flags, card, cardWord}
-use Rattle.cards.specs.Meaning.{Lacks, HasRun, NoRun, SomeRun, puts, Columns, Flags, Blank, Card, Kept, Changed, Always, needed, set, cleared, columnOf, Missing, Runs}
+use Rattle.cards.specs.Meaning.{Lacks, SomeRun, puts, Columns, Flags, Blank, Card, Kept, Changed, Always, needed, set, cleared, columnOf, Missing, Runs}
 
 -- ---- the words of a card
 

@@ -13,9 +13,10 @@ use Rattle.column.proofs.Bits.{bit-le, all-bits}
 use Rattle.library.specs.Library.{Library}
 use Rattle.runs.specs.Possible.{hasRun}
 use Rattle.general.proofs.Bools.{passes-or-not}
+use Rattle.runs.specs.Run.{HasRun, NoRun}
 use Rattle.runs.proofs.Columns.{hasRun-iff}
 use Rattle.cards.specs.Layout.{CardColumn, may-set, may-clear, place, cardWords}
-use Rattle.cards.specs.Meaning.{HasRun, NoRun, Card}
+use Rattle.cards.specs.Meaning.{Card}
 use Rattle.cards.proofs.Meaning.{by-word}
 
 -- bits that are 1 together are equal

@@ -9,7 +9,7 @@ use mathlib.Core.List.{List}
 use Rattle.column.specs.Column.{bit}
 use Rattle.column.specs.Sets.{inColumn, countBelow}
 use Rattle.library.specs.Library.{Library, Item}
-use Rattle.runs.specs.Run.{Run, Empty}
+use Rattle.runs.specs.Run.{Run, HasRun, NoRun, Empty}
 use Rattle.runs.specs.Domain.{domainOf}
 use Rattle.runs.specs.Execution.{Fact, State, Executes, end}
 use Rattle.runs.specs.Touch.{Question, HasOutcome, lastSet, lastCleared, lastUntouched, firstNeeded, firstSet, firstUntouched}
@@ -25,13 +25,6 @@ Holds word k f = bit (word (place k)) f ≡ 1
 
 abbrev pub Lacks : (ℕ → ℕ) → CardColumn → ℕ → Type 0
 Lacks word k f = bit (word (place k)) f ≡ 0
-
--- a sequence has a run, or none
-abbrev pub HasRun : Library → ℕ → Type 0
-HasRun L c = (w : List Item) × Run L c w
-
-abbrev pub NoRun : Library → ℕ → Type 0
-NoRun L c = (w : List Item) → ¬ Run L c w
 
 -- some run of the sequence is such
 abbrev pub SomeRun : Library → ℕ → (List Item → Type 0) → Type 0

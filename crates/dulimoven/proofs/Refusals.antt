@@ -5,7 +5,7 @@ use native.Mathlib.Omega.{arith}
 use Rattle.image.specs.Answer.{refusalNumber, refusalAnswer}
 use Rattle.image.specs.declared.answer.Refusal.{Refusal}
 use Rattle.image.specs.declared.answer.Refusal.the-variants.{Length, SumWord, HeadWord, Kind, Payload, FactOrder, Missing, CardArea, Sequence, Question, Fact, ChainArea, SetAndCleared}
-use Rattle.image.specs.declared.answer.Refusal.the-variants.{ListLength, Member}
+use Rattle.image.specs.declared.answer.Refusal.the-variants.{ListLength, Member, HasRun, ListArea}
 use Rattle.dulimoven.specs.Demands.{Refuses}
 
 -- every refusal has a number from 1 on, so that it is told by 2^32
@@ -25,6 +25,8 @@ number-low ChainArea = omega arith
 number-low (SetAndCleared p) = omega arith
 number-low ListLength = omega arith
 number-low Member = omega arith
+number-low HasRun = omega arith
+number-low ListArea = omega arith
 
 pub refusal-high : (r : Refusal) → Refuses (refusalAnswer r)
 refusal-high r = omega (arith, number-low r)

@@ -1,4 +1,4 @@
--- Lists of numbers: their sum, one that names every number below a bound, one of zeros.
+-- Lists of numbers: their sum, one that names every number below a bound, one in rising order, one of zeros.
 use Prim.Native.Nat.{ℕ, _+_, _<_}
 use mathlib.Core.Path.{_≡_}
 use mathlib.Core.List.{List, [], _∷_}
@@ -18,6 +18,12 @@ pub record Named (order : List ℕ) (c : ℕ) : Type 0 where
 -- each number below n
 abbrev pub Complete : List ℕ → ℕ → Type 0
 Complete order n = (c : ℕ) → c < n → Named order c
+
+-- each number is below the next
+abbrev pub Rising : List ℕ → Type 0
+Rising [] = Unit {0}
+Rising (x ∷ []) = Unit {0}
+Rising (x ∷ y ∷ xs) = (x < y) × Rising (y ∷ xs)
 
 -- every word is 0
 abbrev pub Zeros : List ℕ → Type 0

@@ -1,7 +1,8 @@
--- Scans: a test of every element, the least of some numbers, the first and the last index that passes a test, a list by its indices.
+-- Scans: a test of every element, the least of some numbers, the first and the last index that passes a test, a list by its indices, the
+-- numbers that pass a test.
 use Prim.Native.Nat.{ℕ, zero, suc, min, max}
 use mathlib.Core.Bool.{Bool, true, cond, _&&_}
-use mathlib.Core.List.{List, [], _∷_}
+use mathlib.Core.List.{List, [], _∷_, _++_}
 
 -- every element of the list passes the test
 unfoldable pub every : {A : Type 0} → (A → Bool) → List A → Bool
@@ -32,3 +33,8 @@ lastIndex p d (suc n) = let lower : ℕ = lastIndex p d n in cond (p n) n lower
 unfoldable pub listBelow : (ℕ → ℕ) → ℕ → List ℕ
 listBelow v zero = []
 listBelow v (suc n) = v 0 ∷ listBelow (λ i. v (suc i)) n
+
+-- the numbers below n that pass the test, in rising order
+unfoldable pub passing : (ℕ → Bool) → ℕ → List ℕ
+passing p zero = []
+passing p (suc n) = passing p n ++ cond (p n) (n ∷ []) []

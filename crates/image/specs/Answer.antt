@@ -3,12 +3,13 @@
 use Prim.Native.Nat.{ℕ, _+_, _*_, _^_}
 use Rattle.image.specs.declared.answer.Head.{Head}
 use Rattle.image.specs.declared.answer.Refusal.{Refusal}
-use Rattle.image.specs.declared.answer.Refusal.the-variants.{Length, SumWord, HeadWord, Kind, Payload, FactOrder, Missing, CardArea, Sequence, Question, Fact, ChainArea, SetAndCleared, ListLength, Member}
+use Rattle.image.specs.declared.answer.Refusal.the-variants.{Length, SumWord, HeadWord, Kind, Payload, FactOrder, Missing, CardArea, Sequence, Question, Fact, ChainArea, SetAndCleared}
+use Rattle.image.specs.declared.answer.Refusal.the-variants.{ListLength, Member, HasRun, ListArea}
 use Rattle.image.specs.declared.answer.Checked.{Checked}
 use Rattle.image.specs.declared.answer.Checked.the-variants.{Accepted, Refused}
 
 -- "Turned down, in checking order"; document 02: "Demand 1 and document 01's list take in the answers that requests add". 13 comes
--- after 6 in that order; 14 and 15 are of a list
+-- after 6 in that order; 14 and 15 are of a list, 16 and 17 of a sequence without a run
 abbrev pub refusalNumber : Refusal → ℕ
 refusalNumber Length = 1
 refusalNumber (SumWord p) = 2
@@ -25,6 +26,8 @@ refusalNumber ChainArea = 12
 refusalNumber (SetAndCleared p) = 13
 refusalNumber ListLength = 14
 refusalNumber Member = 15
+refusalNumber HasRun = 16
+refusalNumber ListArea = 17
 
 -- "a word position counted from 0; from 8 on the position is 0". 1 and 3 have "position 0". Document 02 says of 13 "at the clear
 -- word", and is the later statement
@@ -44,6 +47,8 @@ refusalPosition ChainArea = 0
 refusalPosition (SetAndCleared p) = p
 refusalPosition ListLength = 0
 refusalPosition Member = 0
+refusalPosition HasRun = 0
+refusalPosition ListArea = 0
 
 -- "N × 2^32 + P for refusal N at position P"
 abbrev pub refusalAnswer : Refusal → ℕ

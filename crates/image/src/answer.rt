@@ -47,6 +47,10 @@ pub enum Refusal {
     ListLength,
     // 15. a member of the list is not below C
     Member,
+    // 16. the sequence asked about has a run
+    HasRun,
+    // 17. the list of sequences without a run is longer than the area
+    ListArea,
 }
 
 // What the check finds: the head of a library, or the first refusal that applies.
@@ -75,6 +79,8 @@ pub fn number(refusal: Refusal) -> u64
         Refusal::SetAndCleared(_) => 13,
         Refusal::ListLength => 14,
         Refusal::Member => 15,
+        Refusal::HasRun => 16,
+        Refusal::ListArea => 17,
     }
 }
 
@@ -98,6 +104,8 @@ pub fn position(refusal: Refusal) -> u32
         Refusal::SetAndCleared(p) => p,
         Refusal::ListLength => 0,
         Refusal::Member => 0,
+        Refusal::HasRun => 0,
+        Refusal::ListArea => 0,
     }
 }
 

@@ -1,4 +1,5 @@
 pub mod Library
+pub mod Calls
 pub mod Seam
 pub mod Accepted
 pub mod Tables

@@ -35,6 +35,13 @@ pub record RunOf (S : List Sequence) (c : ℕ) (w : List Item) : Type 0 where
 abbrev pub Run : Library → ℕ → List Item → Type 0
 Run L c w = RunOf (L .sequences) c w
 
+-- the sequence has a run, or none: "A sequence may have no run."
+abbrev pub HasRun : Library → ℕ → Type 0
+HasRun L c = (w : List Item) × Run L c w
+
+abbrev pub NoRun : Library → ℕ → Type 0
+NoRun L c = (w : List Item) → ¬ Run L c w
+
 -- "a check is no step, .. and a run without steps is still called empty" (request 4)
 abbrev pub Empty : List Item → Type 0
 Empty w = (a : ℕ) → ¬ List·Memᴰ (step a) w
