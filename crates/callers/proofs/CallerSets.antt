@@ -1,6 +1,6 @@
 -- Sets of sequences, bit by bit: what each operation leaves, and what holds at the heads of the loops that write
 -- the callers.
--- It has: one bit more and one less; `removed` and `united`, with what is out of a united set; `added`, and the loops over a sequence's words
+-- It has: one bit more and one less; one member more, no member; `removed` and `united`, with what is out of a united set; `added`, and the loops over a sequence's words
 -- (`Adding`) and over the sequences (`Writing`); the set of all (`all-in`). The calls that are left from an index on are in Calls.
 -- Assumes nothing.
 use Prim.Native.Nat.{ℕ, zero, suc, _+_, _-_, _*_, _/_, _%_, _^_, _≤_, _<_}
@@ -32,7 +32,7 @@ use Rattle.column.specs.Column.{bit, withFact}
 use Rattle.column.specs.Sets.{inColumn, difference}
 use Rattle.column.proofs.Bits.{bit-none, bit-le, bit-or, bit-and, bit-not, bit-pow}
 use Rattle.general.specs.Numbers.{Zeros}
-use Rattle.callers.specs.Callers.{inSet, isCaller, calls, Removed, United, Put, CallersWritten}
+use Rattle.callers.specs.Callers.{inSet, withMember, isCaller, calls, Removed, United, Put, CallersWritten}
 
 -- ---- one bit
 
@@ -81,6 +81,40 @@ without-same a f low =
     let gone : bit (difference 64 a (2 ^ f)) f ≡ 0 =
     omega (arith, bit-and a (2 ^ 64 - 1 - 2 ^ f) f, bit-not 64 (2 ^ f) f small low, bit-pow f f, ap boolByte (eq-eqb f f refl), bit-le a f) in
     ap (λ (b : ℕ). eqb b 1) (ap (λ (b : ℕ). bit (difference 64 a b) f) one ∙ gone)
+
+-- ---- one more
+
+module _ (s : List ℕ) (c : ℕ) (room : c / 64 < length s) where
+  abbrev one : ℕ
+  one = withFact (getD s (c / 64) 0) (c % 64)
+
+  pub member-same : inSet (withMember s c) c ≡ true
+  member-same = ap (λ (w : ℕ). inColumn w (c % 64)) (getD-set-same s (c / 64) one 0 room) ∙ with-same (getD s (c / 64) 0) (c % 64)
+
+  pub member-other : (d : ℕ) → (d ≡ c → ⊥) → inSet (withMember s c) d ≡ inSet s d
+  member-other d other =
+      elim (ℕ-discrete (d / 64) (c / 64)) [
+        | yes same ↦
+            ap (λ (k : ℕ). inColumn (getD (withMember s c) k 0) (d % 64)) same
+            ∙ ap (λ (w : ℕ). inColumn w (d % 64)) (getD-set-same s (c / 64) one 0 room)
+            ∙ with-other (getD s (c / 64) 0) (c % 64) (d % 64) (λ q. other (omega arith))
+            ∙ ap (λ (k : ℕ). inColumn (getD s k 0) (d % 64)) (sym same)
+        | no apart ↦ ap (λ (w : ℕ). inColumn w (d % 64)) (getD-set-other s (c / 64) (d / 64) one 0 apart)
+      ]
+
+  -- what is in the set stays in it
+  pub member-stays : (d : ℕ) → inSet s d ≡ true → inSet (withMember s c) d ≡ true
+  member-stays d e =
+      elim (ℕ-discrete d c) [ yes same ↦ ap (inSet (withMember s c)) same ∙ member-same | no other ↦ member-other d other ∙ e ]
+
+-- a set of zeros has none
+pub none-member : (s : List ℕ) → Zeros s → (c : ℕ) → inSet s c ≡ false
+none-member s zeros c = ap (λ (x : ℕ). inColumn x (c % 64)) (zeros (c / 64)) ∙ none-in 0 (c % 64) (bit-none (c % 64))
+
+-- past the words of a set there is none
+pub past-member : (s : List ℕ) (c : ℕ) → length s ≡ 4 → 256 ≤ c → inSet s c ≡ false
+past-member s c four high =
+    ap (λ (x : ℕ). inColumn x (c % 64)) (List·getD-eq-default s 0 {n = c / 64} (omega arith)) ∙ none-in 0 (c % 64) (bit-none (c % 64))
 
 -- ---- one less, and some more
 

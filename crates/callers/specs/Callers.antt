@@ -5,7 +5,8 @@ use mathlib.Core.Bool.{Bool, false, _&&_, _||_}
 use mathlib.Core.List.{List}
 use lib.Bits.{bitOr}
 use lib.Dec.{eqb, ltb}
-use lib.ListN.{length, getD}
+use lib.ListN.{length, getD, set}
+use Rattle.column.specs.Column.{withFact}
 use Rattle.column.specs.Sets.{inColumn}
 use Rattle.image.specs.Word.{mostSequences}
 use Rattle.general.specs.Numbers.{Zeros}
@@ -18,7 +19,11 @@ setWords = 4
 
 -- sequence c is in the set
 abbrev pub inSet : List ℕ → ℕ → Bool
-inSet set c = inColumn (getD set (c / 64) 0) (c % 64)
+inSet s c = inColumn (getD s (c / 64) 0) (c % 64)
+
+-- the set with sequence c in it
+abbrev pub withMember : List ℕ → ℕ → List ℕ
+withMember s c = set s (c / 64) (withFact (getD s (c / 64) 0) (c % 64))
 
 -- sequence c is one of the callers of sequence d
 abbrev pub isCaller : List ℕ → ℕ → ℕ → Bool

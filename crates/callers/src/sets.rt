@@ -7,7 +7,7 @@ ghost use mathlib.Core.Path.{_≡_};
 ghost use Prim.Native.Nat.{_+_, _*_, _%_, _≤_, _<_};
 ghost use lib.ListN.{length};
 ghost use Rattle.image.specs.Word.{mostSequences};
-ghost use Rattle.callers.specs.Callers.{setWords, inSet, Removed, United};
+ghost use Rattle.callers.specs.Callers.{setWords, inSet, withMember, Removed, United};
 
 // The words of a set, and the bits of a word.
 pub const SET_WORDS: usize = 4;
@@ -30,6 +30,15 @@ pub fn contains(set: &[u64], c: usize) -> bool
     ensures { λ r. ⌜ r ≡ inSet (now (set .entry)) c ⌝ }
 {
     holds(set[c / WORD_BITS], bit_of(c))
+}
+
+// Puts sequence `c` in.
+pub fn insert(set: &mut [u64], c: usize)
+    requires { ⌜ (length (now set) ≡ setWords) × (c < mostSequences) ⌝ }
+    ensures { λ _. ⌜ now (set .exit) ≡ withMember (now (set .entry)) c ⌝ }
+{
+    let k = c / WORD_BITS;
+    set[k] = with_fact(set[k], bit_of(c));
 }
 
 // Takes sequence `c` out.

@@ -34,7 +34,7 @@ fn add(callers: &mut [u64], w: u32, c: usize)
 
 // Whether a word that is no call belongs to the sequence: an alternative's opener, a step or a check. It is one test, since these follow each
 // other in no order that processors could guess.
-fn goes_on(w: u32) -> bool
+pub fn goes_on(w: u32) -> bool
     ensures { λ r. ⌜ r ≡ (isKind 7 w || isKind 8 w || isKind 13 w) ⌝ }
 {
     let k = w / PAYLOADS;

@@ -1,12 +1,14 @@
 -- Visits in place until nothing changes: what holds at the head of each loop over visits, for any table.
 -- Assumes nothing.
-use Prim.Native.Nat.{ℕ, _≤_, _<_}
+use Prim.Native.Nat.{ℕ, _+_, _≤_, _<_}
 use native.Mathlib.Omega.{arith}
+use native.Mathlib.Decide.{ℕ-discrete}
 use mathlib.Core.Path.{_≡_, refl, sym, _∙_, subst}
-use mathlib.Core.Bool.{Bool, true, false}
+use mathlib.Core.Bool.{Bool, true, false, _||_}
 use mathlib.Core.List.{List}
 use lib.ListN.{length}
-use Rattle.settling.specs.Settling.{Visit, Reached, here, next}
+use Rattle.general.proofs.Bools.{nor-left, nor-right}
+use Rattle.settling.specs.Settling.{Visit, Reached, here, next, Pass}
 use Rattle.settling.specs.Turns.{placeOf}
 
 -- what the laws ask of a visit: it keeps the length, and does not raise the weight of a table that has the room
@@ -45,3 +47,42 @@ module _ {visit : List ℕ → ℕ → List ℕ} {weight : List ℕ → ℕ} {n 
   reached-least long here = omega arith
   reached-least long (next {table = s} c l r) =
       omega (arith, laws .lowers s c l (omega (arith, reached-length r)), reached-least long r)
+
+-- ---- a pass
+
+-- what holds at the head of its loop, after i visits, first to last or last to first: where none of them changed the table, it is as before,
+-- and none of them would change it
+pub record Passing (visit : List ℕ → ℕ → List ℕ) (n : ℕ) (forward : Bool) (t₀ t : List ℕ) (changed : Bool) (i : ℕ) : Type 0 where
+  pub reached : Reached visit n t₀ t
+  pub still : changed ≡ false → (t ≡ t₀) × ((j : ℕ) → j < i → visit t₀ (placeOf forward n j) ≡ t₀)
+
+pub passing-start : {visit : List ℕ → ℕ → List ℕ} {n : ℕ} {forward : Bool} (t : List ℕ) → Passing visit n forward t t false 0
+passing-start t = record { reached = here; still = λ q. (refl, λ j l. absurd (omega arith)) }
+
+module _ {visit : List ℕ → ℕ → List ℕ} {n : ℕ} {forward : Bool} {t₀ t : List ℕ} {changed : Bool} {i : ℕ}
+    (here : Passing visit n forward t₀ t changed i) where
+  pub passing-turn : {weight : List ℕ → ℕ} → i < n → (t′ : List ℕ) (new : Bool) → Visit visit weight t (placeOf forward n i) t′ new → Passing visit n forward t₀ t′ (changed || new) (i + 1)
+  passing-turn l t′ new v =
+      record {
+        reached = reached-visit t (placeOf forward n i) t′ new (place-back forward n i l .0) (here .reached) v;
+        still = λ none.
+            let (same, before) = here .still (nor-left changed new none) in
+            let stays = v .stays (nor-right changed new none) in (
+              stays ∙ same,
+              λ j k. elim (ℕ-discrete j i) [
+                | yes now ↦ subst (λ (s : List ℕ). visit s (placeOf forward n j) ≡ s) same (subst (λ (m : ℕ). visit t (placeOf forward n m) ≡ t) (sym now) (sym (v .done) ∙ stays))
+                | no other ↦ before j (omega arith)
+              ],
+            );
+      }
+
+  pub passing-end : n ≤ i → Pass visit n t₀ t changed
+  passing-end over =
+      record {
+        reached = here .reached;
+        settled = λ none c l.
+            let (same, before) = here .still none in
+            let (within, back) = place-back forward n c l in
+            subst (λ (s : List ℕ). visit s c ≡ s) (sym same)
+            (subst (λ (d : ℕ). visit t₀ d ≡ t₀) back (before (placeOf forward n c) (omega arith)));
+      }

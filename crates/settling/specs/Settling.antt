@@ -25,6 +25,11 @@ module _ (visit : List ℕ → ℕ → List ℕ) where
     pub reached : Reached n before after
     pub settled : Settled n after
 
+  -- a pass, which visits each number once: where none of its visits changed the table, no visit does
+  pub record Pass (n : ℕ) (before after : List ℕ) (changed : Bool) : Type 0 where
+    pub reached : Reached n before after
+    pub settled : changed ≡ false → Settled n after
+
   -- `weight` is what falls while the table changes
   module _ (weight : List ℕ → ℕ) where
     -- what a visit promises: the table after it, and whether that is another

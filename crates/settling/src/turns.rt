@@ -18,7 +18,7 @@ pub struct Turn {
 }
 
 // The place in an order of `len` numbers that comes at turn `i`: first to last, or last to first.
-fn place_of(forward: bool, len: usize, i: usize) -> usize
+pub fn place_of(forward: bool, len: usize, i: usize) -> usize
     requires { ⌜ i < len ⌝ }
     ensures { λ r. ⌜ (r ≡ placeOf forward len i) × (r < len) ⌝ }
 {
