@@ -6,7 +6,7 @@ use Prim.Native.Nat.{ℕ, zero, suc, _+_, _*_, _≤_, _<_, min}
 use mathlib.Core.Path.{_≡_, refl, sym, _∙_, ap}
 use mathlib.Core.Logic.{_⊎_, inl, inr, ⊎-elim}
 use mathlib.Core.Bool.{Bool, true, false, cond, _&&_, false≢true, and-assoc}
-use mathlib.Core.List.{List, [], _∷_, _++_}
+use mathlib.Core.List.{List, [], _∷_, _++_, List·Memᴰ, List·Memᴰ·head, List·Memᴰ·tail, List·Memᴰ·not-nil, List·Memᴰ·cases-cons}
 use native.Mathlib.Omega.{arith}
 use native.Mathlib.Nat.{eq-or-lt-of-le, le-of-suc-le-suc, suc-mul}
 use lib.ListN.{length, getD, set}
@@ -127,6 +127,20 @@ getD-listBelow v zero i d lt = absurd (omega arith)
 getD-listBelow v (suc n) zero d lt = refl
 getD-listBelow v (suc n) (suc i) d lt = getD-listBelow (λ i. v (suc i)) n i d (omega arith)
 
+-- its members are the values
+pub value-in : (v : ℕ → ℕ) (n i : ℕ) → i < n → List·Memᴰ (v i) (listBelow v n)
+unfolding listBelow
+value-in v zero i lt = absurd (omega arith)
+value-in v (suc n) zero lt = List·Memᴰ·head refl
+value-in v (suc n) (suc i) lt = List·Memᴰ·tail (value-in (λ j. v (suc j)) n i (omega arith))
+
+pub value-of : (v : ℕ → ℕ) (n c : ℕ) → List·Memᴰ c (listBelow v n) → (i : ℕ) × (i < n) × (c ≡ v i)
+unfolding listBelow
+value-of v zero c m = absurd (List·Memᴰ·not-nil m)
+value-of v (suc n) c m =
+    ⊎-elim (λ e. (0, omega arith, e)) (λ k. let (i, l, e) = value-of (λ j. v (suc j)) n c k in (suc i, omega arith, e))
+    (List·Memᴰ·cases-cons m)
+
 pub total-constant : (k n : ℕ) → total (listBelow (λ i. k) n) ≡ n * k
 unfolding listBelow total
 total-constant k zero = omega arith
@@ -169,7 +183,7 @@ total-set (x ∷ T) zero v d lt = omega arith
 total-set (x ∷ T) (suc c) v d lt = let h = total-set T c v d (omega arith) in omega arith
 
 -- a count of the indices below n that pass
-abbrev one : Bool → ℕ
+abbrev pub one : Bool → ℕ
 one true = 1
 one false = 0
 

@@ -1,9 +1,9 @@
 -- Laws of a test over a list: what `some` and `All` say.
 use Prim.Native.Nat.{ℕ, zero, suc, _<_}
-use mathlib.Core.Path.{_≡_, refl, subst}
+use mathlib.Core.Path.{_≡_, refl, sym, subst}
 use mathlib.Core.Logic.{_⊎_, ⊎-elim}
 use mathlib.Core.Bool.{Bool, true, _||_, false≢true}
-use mathlib.Core.List.{List, [], _∷_, List·Memᴰ, List·Memᴰ·head, List·Memᴰ·tail}
+use mathlib.Core.List.{List, [], _∷_, List·Memᴰ, List·Memᴰ·head, List·Memᴰ·tail, List·Memᴰ·not-nil, List·Memᴰ·cases-cons}
 use native.Mathlib.Omega.{arith}
 use lib.ListN.{length, getD}
 use Rattle.general.specs.Tests.{some, All}
@@ -41,6 +41,11 @@ pub all-default : {A : Type 0} (P : A → Type 0) (d : A) → P d → (xs : List
 all-default P d none [] each i = none
 all-default P d none (x ∷ xs) each zero = each .0
 all-default P d none (x ∷ xs) each (suc i) = all-default P d none xs (each .1) i
+
+-- and of each member
+pub all-in : {A : Type 0} (P : A → Type 0) (xs : List A) → All P xs → (x : A) → List·Memᴰ x xs → P x
+all-in P [] each x m = absurd (List·Memᴰ·not-nil m)
+all-in P (y ∷ xs) each x m = ⊎-elim (λ e. subst P (sym e) (each .0)) (all-in P xs (each .1) x) (List·Memᴰ·cases-cons m)
 
 -- one of two tests passes somewhere
 pub some-or {ℓ} : {A : Type ℓ} (p q : A → Bool) (xs : List A) → some (λ x. p x || q x) xs ≡ (some p xs || some q xs)
