@@ -6,7 +6,7 @@
 use Prim.Native.Nat.{ℕ, zero, suc, _+_, _*_, _/_, _^_, _≤_, _<_}
 use native.Mathlib.Omega.{arith}
 use mathlib.Core.Path.{_≡_, refl, sym, ap, ap₂, _∙_}
-use mathlib.Core.Logic.{_↔_, _≢_, ⊎-elim, Iff·trans}
+use mathlib.Core.Logic.{_↔_, _≢_, Iff·trans}
 use mathlib.Core.Bool.{Bool, true, false, not, _&&_, _||_, true≢false}
 use mathlib.Core.List.{List}
 use lib.Dec.{eqb}
@@ -17,15 +17,14 @@ use Rattle.column.specs.Sets.{inColumn, countBelow}
 use Rattle.column.proofs.Bits.{bit-zero, bit-suc, bit-none, bit-high, column-same, column-none}
 use Rattle.column.proofs.Operations.{bit-one, bit-null, in-column, column-high, count-le, count-same, count-none}
 use Rattle.library.specs.Library.{Library, Item}
-use Rattle.runs.specs.Run.{Run, HasRun, NoRun}
+use Rattle.runs.specs.Run.{Run, HasRun}
 use Rattle.runs.specs.Domain.{domainOf}
 use Rattle.runs.specs.Execution.{Fact, State, Executes}
 use Rattle.runs.specs.Touch.{Mark, present, absent, untouched, last, first, lastSet, lastCleared}
 use Rattle.runs.specs.View.{View, touches, standing, viewOutcome}
 use Rattle.runs.specs.Possible.{possibleIn, alwaysIn, brokenIn, possibleOutcome, hasRun, hasEmptyRun, viewColumn, questionColumn, emptyColumn}
-use Rattle.general.proofs.Bools.{passes-or-not}
 use Rattle.runs.proofs.Outcome.{present≢untouched, absent≢untouched}
-use Rattle.runs.proofs.Columns.{view-iff, hasRun-iff, hasEmptyRun-iff, blank-columns, always-iff, missing-iff}
+use Rattle.runs.proofs.Columns.{view-iff, hasRun-iff, noRun-iff, hasEmptyRun-iff, blank-columns, always-iff, missing-iff}
 use Rattle.runs.proofs.Published.{PublishedColumns, published-columns}
 use Rattle.runs.proofs.Execution.{needed-stood, set-stands, cleared-falls, gained-set, lost-cleared, Stood, end-standing}
 use Rattle.runs.proofs.Standing.{standing-iff, ends-cleared-iff, unmentioned-iff}
@@ -214,10 +213,6 @@ module _ (L : Library) (c : ℕ) (none : hasRun L c ≡ false) where
   unfolding card
   card-blank = by-word (λ j. cardWord L c j ≡ 0) flags-blank (λ k. card-column L c k ∙ word-blank (claim k))
 
-no-run : (L : Library) (c : ℕ) → NoRun L c → hasRun L c ≡ false
-no-run L c none =
-    ⊎-elim (λ e. let r = hasRun-iff L c .0 e in absurd (none (r .0) (r .1))) (λ e. e) (passes-or-not (hasRun L c))
-
 pub card-right : (L : Library) → L .facts ≤ 64 → (c : ℕ) → Card L c (cardWord L c)
 card-right L high c =
     record {
@@ -227,7 +222,7 @@ card-right L high c =
         (λ e w r. let one = flags-right L high c .run .1 (w, r) in
             let zero-bit : bit (cardWord L c 0) 0 ≡ 0 = ap (λ (n : ℕ). bit n 0) (e 0 (omega arith)) ∙ bit-none 0 in
             omega arith),
-        λ none. card-blank L c (no-run L c none),
+        λ none. card-blank L c (noRun-iff L c .1 none),
       );
       flags = flags-right L high c;
     }

@@ -6,7 +6,7 @@ use mathlib.Core.Bool.{Bool, true, false, not, false≢true, true≢false}
 use mathlib.Core.List.{List, [], _∷_, List·Memᴰ·head, List·Memᴰ·tail, List·Memᴰ·not-nil, List·Memᴰ·cases-cons}
 use Rattle.library.specs.Library.{Library, Item, step, check}
 use Rattle.general.proofs.Bools.{and-parts, and-both, or-cases, or-left, or-right, passes-or-not}
-use Rattle.runs.specs.Run.{Run, Empty}
+use Rattle.runs.specs.Run.{Run, NoRun, Empty}
 use Rattle.runs.specs.Touch.{Question, rival, untouchedOn, otherTouch, HasOutcome, Mark, present, absent, untouched}
 use Rattle.runs.specs.View.{View, touches, viewMark, viewSide, viewOutcome}
 use Rattle.runs.specs.Algebra.{outcome, emptyAlgebra, sideAlgebra, sameMark, sameMark-refl, sameMark-eq}
@@ -43,11 +43,17 @@ hasRun-iff L c = (
   λ r. column-iff runColumn L c 0 .1 (r .0, r .1, refl),
 )
 
+pub noRun-iff : (L : Library) (c : ℕ) → (hasRun L c ≡ false) ↔ NoRun L c
+noRun-iff L c = (
+  (λ e w run. false≢true (sym e ∙ hasRun-iff L c .1 (w, run))),
+  λ none. ⊎-elim (λ e. let r = hasRun-iff L c .0 e in absurd (none (r .0) (r .1))) (λ e. e) (passes-or-not (hasRun L c)),
+)
+
 -- without a run every column is blank
 pub blank-columns : (K : Column) (L : Library) (c f : ℕ) → hasRun L c ≡ false → columnHas K L c f ≡ false
 blank-columns K L c f none =
     ⊎-elim
-    (λ e. let r = column-iff K L c f .0 e in absurd (true≢false (sym (hasRun-iff L c .1 (r .0, r .1)) ∙ none)))
+    (λ e. let r = column-iff K L c f .0 e in absurd (noRun-iff L c .0 none (r .0) (r .1)))
     (λ e. e)
     (passes-or-not (columnHas K L c f))
 
@@ -142,7 +148,7 @@ module _ (L : Library) (v : View) (m : Mark) (c f : ℕ) (touch : m ≢ untouche
     (λ e. ⊎-elim
         (λ p. ⊎-elim (λ b. inr (broken-iff .0 b)) (λ b. absurd (true≢false (sym (and-both (hasRun L c) (not (brokenIn L v m c f)) p (ap not b)) ∙ e)))
         (passes-or-not (brokenIn L v m c f)))
-        (λ p. inl (λ w run. true≢false (sym (hasRun-iff L c .1 (w, run)) ∙ p)))
+        (λ p. inl (noRun-iff L c .0 p))
         (passes-or-not (hasRun L c))),
     λ h. ⊎-elim
         (λ e. let a = always-iff .0 e in absurd (⊎-elim (λ none. none (a .0 .0) (a .0 .1)) (λ b. b .2 (a .1 (b .0) (b .1))) h))

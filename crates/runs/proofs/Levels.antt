@@ -4,7 +4,7 @@ use Prim.Native.Nat.{ℕ, zero, suc, _≤_, _<_}
 use mathlib.Core.Path.{_≡_, refl, sym, _∙_, ap, subst}
 use mathlib.Core.Logic.{_⊎_, inl, inr, ⊎-elim}
 use mathlib.Core.Bool.{Bool, true, false, cond, false≢true}
-use mathlib.Core.List.{List, [], _∷_, List·Memᴰ, List·Memᴰ·not-nil, List·Memᴰ·cases-cons}
+use mathlib.Core.List.{List, [], _∷_, List·Memᴰ, List·Memᴰ·head, List·Memᴰ·tail, List·Memᴰ·not-nil, List·Memᴰ·cases-cons}
 use native.Mathlib.Omega.{arith}
 use lib.ListN.{length}
 use lib.Dec.{ltb}
@@ -79,6 +79,17 @@ module _ {K : Type 0} (same : K → K → Bool) (same-refl : (k : K) → same k 
       go true s e′ rest = subst P (same-eq j k s) (each .0 e′)
       go false s e′ rest = rest e′
 
+  -- only a key of the table is found
+  found-key : (t : List (Cell K)) (k : K) → found same t k ≡ true → List·Memᴰ k (keys t)
+  unfolding found
+  found-key [] k e = absurd (false≢true e)
+  found-key (cell j b ∷ t) k e = go (same j k) refl e (found-key t k)
+    where
+      go : (s : Bool) → same j k ≡ s → cond s b (found same t k) ≡ true → (found same t k ≡ true → List·Memᴰ k (keys t))
+          → List·Memᴰ k (j ∷ keys t)
+      go true s e′ rest = List·Memᴰ·head (sym (same-eq j k s))
+      go false s e′ rest = List·Memᴰ·tail (rest e′)
+
   -- a key that passes the test is found in a table that is full
   found-full : (test : K → Bool) (t : List (Cell K)) → Full test t → (k : K) → List·Memᴰ k (keys t) → test k ≡ true → found same t k ≡ true
   unfolding found
@@ -106,6 +117,18 @@ module _ {K : Type 0} (same : K → K → Bool) (same-refl : (k : K) → same k 
         (λ (e : ltb (missing (next t)) (missing t) ≡ true). inl (rw (e, levels), ltb-true (missing (next t)) (missing t) e))
         (λ (e : ltb (missing (next t)) (missing t) ≡ false). inr (rw (e, levels), ltb-false (missing (next t)) (missing t) e))
         (passes-or-not (ltb (missing (next t)) (missing t)))
+
+    -- the keys stay, and so the least table has none but them
+    levels-keys : (n : ℕ) (t : List (Cell K)) → keys (levels same look n t) ≡ keys t
+    levels-keys zero t = unfold levels in refl
+    levels-keys (suc n) t =
+        ⊎-elim (λ (e, fewer). ap keys e ∙ (levels-keys n (next t) ∙ keys-added (look (found same t)) t))
+        (λ (e, same-missing). ap keys e) (levels-step n t)
+
+    pub least-key : (ks : List K) (k : K) → least same look ks k ≡ true → List·Memᴰ k ks
+    unfolding least
+    least-key ks k e =
+        rw (levels-keys (length ks) (blank ks) ∙ keys-blank ks) at (found-key (levels same look (length ks) (blank ks)) k e)
 
     -- one more look adds nothing at these keys
     Closed : List K → List (Cell K) → Type 0
