@@ -1,0 +1,4 @@
+pub mod Names
+pub mod Support
+pub mod Reached
+pub mod Listed
