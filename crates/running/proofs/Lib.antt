@@ -1,1 +1,4 @@
 pub mod Gives
+pub mod Visited
+pub mod Exact
+pub mod Written

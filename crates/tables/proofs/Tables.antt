@@ -61,8 +61,19 @@ module _ (image : List ℕ) (h : Head) (accepted : accepts image h) {part : List
   opened-is : opened 6 part ≡ h .sequences
   opened-is = ap (opened 6) sequences ∙ parts image h accepted .sequences-opened
 
+  -- what the maker of the places asks
+  pub places-asked : {ps₀ : List ℕ} → h .sequences ≤ length ps₀ → SequencesAsked h part ps₀
+  places-asked {ps₀} room =
+      let p = parts image h accepted in
+      subst (λ (x : List ℕ). SequencesAsked h x ps₀) (sym sequences)
+      (record { short = p .sequences-short; numbered = p .sequences-numbered; opened = p .sequences-opened; room = room })
+
+  -- the library's sequences stand in the part
+  pub sequences-in : libraryOf image .sequences ≡ sequencesFrom part
+  sequences-in = ap (λ (L : Library). L .sequences) (library-is image h accepted) ∙ ap sequencesFrom (sym sequences)
+
   -- the place of sequence c, whatever stands after the places
-  place-in : (rest : List ℕ) {ps : List ℕ} → ps ≡ placesFrom 0 part ++ rest → (c : ℕ) → c < h .sequences → Placed part c (getD ps c 0)
+  pub place-in : (rest : List ℕ) {ps : List ℕ} → ps ≡ placesFrom 0 part ++ rest → (c : ℕ) → c < h .sequences → Placed part c (getD ps c 0)
   place-in rest {ps} placed c l =
       let count = opened-is in
       let word : getD ps c 0 ≡ getD (placesFrom 0 part) c 0 =
@@ -85,10 +96,7 @@ module _ {h : Head} {image ms₀ ps₀ callers₀ order₀ : List ℕ} (asked : 
       })
 
   pub sequences-asked : {part : List ℕ} → part ≡ sequencesPart image → SequencesAsked h part ps₀
-  sequences-asked e =
-      let p = parts image h (asked .accepted) in
-      subst (λ (x : List ℕ). SequencesAsked h x ps₀) (sym e)
-      (record { short = p .sequences-short; numbered = p .sequences-numbered; opened = p .sequences-opened; room = asked .places-room })
+  sequences-asked e = places-asked image h (asked .accepted) e (asked .places-room)
 
   pub callers-asked : {part ps : List ℕ} → part ≡ sequencesPart image → ps ≡ placesFrom 0 part ++ drop (h .sequences) ps₀ → length ps ≡ length ps₀
       → CallersAsked (h .sequences) part ps callers₀
@@ -138,7 +146,7 @@ module _ {h : Head} {image ms₀ ps₀ ms ps callers order : List ℕ} (accepted
   module _ {part : List ℕ} (sequences : part ≡ sequencesPart image) where
     -- the library's sequences stand in the part
     pub sequences-are : libraryOf image .sequences ≡ sequencesFrom part
-    sequences-are = ap (λ (L : Library). L .sequences) (library-is image h accepted) ∙ ap sequencesFrom (sym sequences)
+    sequences-are = sequences-in image h accepted sequences
 
     places-are : ps ≡ placesFrom 0 part ++ drop (h .sequences) ps₀
     places-are = made .placed ∙ ap (λ (x : List ℕ). placesFrom 0 x ++ drop (h .sequences) ps₀) (sym sequences)

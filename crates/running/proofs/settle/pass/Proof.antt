@@ -1,0 +1,72 @@
+-- `running::settle::pass` meets its contract.
+-- Assumes nothing.
+use borrow.Author.Needs.{needs}
+use native.Mathlib.Omega.{arith}
+use Prim.Native.Nat.{_-_}
+use Rattle.settling.proofs.Visits.{reached-length, Passing, passing-start, passing-turn, passing-end}
+use Rattle.running.specs.Visited.{lacking, visited}
+use Rattle.running.proofs.Visited.{visits-lower, visitable-at}
+use Rattle.running.proofs.settle.pass.Statement.{statement}
+use Rattle.running.proofs.settle.pass.Tie as tie
+use Rattle.running.proofs.settle.pass.Reads as reads
+use Rattle.running.proofs.settle.pass.Lts as lts
+use Rattle.running.proofs.settle.visit.Reads as visit-reads
+use Rattle.settling.proofs.turns.place_of.Reads as place-of-reads
+
+abbrev Inv-loop : tie.InvT-loop
+Inv-loop part places runs₀ n forward found₀ i₀ runs found i = Passing (visited part places) n forward runs₀ runs found i
+
+abbrev μ-loop : tie.MeasureT-loop
+μ-loop part places runs₀ n forward found₀ i₀ runs found i = n - i
+
+loop-holds : tie.Need-loop-holds Inv-loop μ-loop
+loop-holds c = passing-start (c .before .before .before .args .runs .now)
+
+place-of-requires : tie.Need-place-of-requires Inv-loop μ-loop
+place-of-requires c κs = search needs
+
+visit-requires : tie.Need-visit-requires Inv-loop μ-loop
+visit-requires c κs =
+    let at-loop = c .before .before .before in
+    let start = at-loop .before .before .before .before in
+    let a = start .args in
+    (visitable-at (at-loop .loop .runs) (reached-length (visits-lower (a .part .now) (a .places .now) (a .n) (start .pre .few)) (at-loop .loop .inv .reached)) (start .pre),
+     omega (arith, c .place-of .ensures .1))
+
+add-i : tie.Need-add-i Inv-loop μ-loop
+add-i c = search needs
+
+loop-less : tie.Need-loop-less Inv-loop μ-loop
+loop-less c = omega (arith, c .before .before .before .before .before .loop-test .taken)
+
+loop-again : tie.Need-loop-again Inv-loop μ-loop
+loop-again c =
+    let visit = c .before .before in
+    let place = visit .before in
+    let turn = place .before .before in
+    let at-loop = turn .before in
+    passing-turn (at-loop .loop .inv) {weight = lacking} (turn .loop-test .taken) (visit .visit .last .1 .1 .0) (visit .visit .result)
+    (rw (place .place-of .ensures .0) at (visit .visit .ensures))
+
+same-length : tie.Need-same-length Inv-loop μ-loop
+same-length c =
+    let start = c .before .before .before .before .before in
+    reached-length (visits-lower (start .args .part .now) (start .args .places .now) (start .args .n) (start .pre .few)) (c .before .loop .inv .reached)
+
+returns : tie.Need-returns Inv-loop μ-loop
+returns c = passing-end (c .before .loop .inv) (omega (arith, c .loop-test .left))
+
+pub pass-spec : {M : Type 1} → statement M
+pass-spec =
+    tie.close
+    (tie.spec
+    Inv-loop
+    μ-loop
+    loop-holds
+    place-of-requires
+    visit-requires
+    add-i
+    loop-less
+    loop-again
+    same-length
+    returns)
