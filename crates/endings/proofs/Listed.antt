@@ -15,6 +15,7 @@ use Rattle.endings.proofs.Reached.{reaches-iff}
 use Rattle.endings.proofs.Support.{reached-endless, listed-supports}
 
 module _ (L : Library) (c : ℕ) where
+  -- its members are what is reached, and it is in rising order
   list-exact : (d : ℕ) → List·Memᴰ d (endlessList L c) ↔ Reaches L c d
   unfolding endlessList
   list-exact d = (
@@ -23,19 +24,21 @@ module _ (L : Library) (c : ℕ) where
   )
 
   pub listed-list : Listed L c (endlessList L c)
-  listed-list = record { rising = unfold endlessList in passing-rising (reaches L c) (length (L .sequences)); exact = list-exact }
+  unfolding endlessList
+  listed-list = record { rising = passing-rising (reaches L c) (length (L .sequences)); exact = list-exact }
 
   -- the list is fixed by the sentence, and by nothing else
   pub listed-is : (xs : List ℕ) → Listed L c xs ↔ (xs ≡ endlessList L c)
   listed-is xs = (
-    (λ listed. rising-same xs (endlessList L c) (listed .rising) (listed-list .rising) (λ d. Iff·trans (listed .exact d) (Iff·symm (list-exact d)))),
+    (λ listed. rising-same xs (endlessList L c) (listed .rising) (listed-list .rising)
+        (λ d. Iff·trans (listed .exact d) (Iff·symm (list-exact d)))),
     λ e. subst (Listed L c) (sym e) listed-list,
   )
 
   -- at most as many members as there are sequences, and at least the asked one
   pub list-short : length (endlessList L c) ≤ length (L .sequences)
   unfolding endlessList
-  list-short = passing-short (reaches L c) (length (L .sequences))
+  list-short = passing-short _ _
 
   pub asked-listed : Endless L c → List·Memᴰ c (endlessList L c)
   asked-listed endless = list-exact c .1 (itself endless)
@@ -47,5 +50,6 @@ module _ (L : Library) (c : ℕ) where
       go [] m = absurd (List·Memᴰ·not-nil m)
       go (x ∷ xs) m = omega arith
 
+  -- where every entry that names a sequence names one of the library, the list shows what it is held for
   pub list-supports : ((d e : ℕ) → Names L d e → e < length (L .sequences)) → Supports L (endlessList L c)
   list-supports below = listed-supports L below c (endlessList L c) listed-list

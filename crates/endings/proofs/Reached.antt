@@ -4,13 +4,12 @@
 use Prim.Native.Nat.{ℕ, _<_}
 use mathlib.Core.Path.{_≡_, refl, sym, ap, subst}
 use mathlib.Core.Logic.{_↔_, ⊎-elim}
-use mathlib.Core.Bool.{Bool, true, not, _&&_, _||_}
+use mathlib.Core.Bool.{Bool, true, not, _&&_}
 use mathlib.Core.List.{List·Memᴰ}
 use native.Mathlib.Omega.{arith}
 use lib.Dec.{eqb}
 use lib.ListN.{length}
 use borrow.Author.Tests.{eq-eqb, eqb-true, not-true}
-use Rattle.general.specs.Tests.{some}
 use Rattle.general.proofs.Bools.{and-parts, and-both, or-cases, or-left, or-right, both-ways}
 use Rattle.general.proofs.Tests.{some-found, some-intro}
 use Rattle.general.proofs.Scan.{value-in, value-of}
@@ -40,38 +39,34 @@ module _ (L : Library) where
 
   -- a look at sequence e finds it where it has no run, and is the asked one, or one that is found names it
   module _ (c : ℕ) (T : ℕ → Bool) (e : ℕ) where
-    abbrev namedBy : ℕ → Bool
-    namedBy d = T d && callsOf (alternativesOf (L .sequences) d) e
-
     look-itself : Endless L e → c ≡ e → lookFrom L c T e ≡ true
     unfolding lookFrom
     look-itself endless same =
-        and-both (not (hasRun L e)) (eqb e c || some namedBy (numbers L)) (ap not (noRun-iff L e .1 (endless .none)))
-        (or-left (eqb e c) (some namedBy (numbers L)) (eq-eqb e c (sym same)))
+        and-both _ _ (ap not (noRun-iff L e .1 (endless .none))) (or-left _ _ (eq-eqb e c (sym same)))
 
     look-onward : Endless L e → (d : ℕ) → T d ≡ true → Names L d e → lookFrom L c T e ≡ true
     unfolding lookFrom
     look-onward endless d found names =
-        and-both (not (hasRun L e)) (eqb e c || some namedBy (numbers L)) (ap not (noRun-iff L e .1 (endless .none)))
-        (or-right (eqb e c) (some namedBy (numbers L))
-        (some-intro namedBy (numbers-iff d .1 (names-below names))
-        (and-both (T d) (callsOf (alternativesOf (L .sequences) d) e) found (names-iff L d e .1 names))))
+        and-both _ _ (ap not (noRun-iff L e .1 (endless .none)))
+        (or-right (eqb e c) _
+        (some-intro (λ b. T b && callsOf (alternativesOf (L .sequences) b) e) (numbers-iff d .1 (names-below names))
+        (and-both _ _ found (names-iff L d e .1 names))))
 
     look-sound : ((d : ℕ) → T d ≡ true → d < length (L .sequences) → Reaches L c d) → lookFrom L c T e ≡ true → e < length (L .sequences)
         → Reaches L c e
     unfolding lookFrom
     look-sound sound h lt =
-        let (none, from) = and-parts (not (hasRun L e)) (eqb e c || some namedBy (numbers L)) h in
+        let (none, from) = and-parts _ _ h in
         let endless : Endless L e = record { sequence = lt; none = noRun-iff L e .0 (not-true (hasRun L e) none) } in
         ⊎-elim
         (λ same. let asked = eqb-true e c same in subst (Reaches L c) (sym asked) (itself (subst (Endless L) asked endless)))
         (λ named.
-        let (d, m, both) = some-found namedBy (numbers L) named in
-        let (found, calls) = and-parts (T d) (callsOf (alternativesOf (L .sequences) d) e) both in
+        let (d, m, both) = some-found _ (numbers L) named in
+        let (found, calls) = and-parts _ _ both in
         onward (sound d found (numbers-iff d .0 m)) (names-iff L d e .0 calls) endless)
-        (or-cases (eqb e c) (some namedBy (numbers L)) from)
+        (or-cases _ _ from)
 
-  -- what the least table has is reached
+  -- what the least table has is reached, and one more look adds nothing to it
   reaches-sound : (c e : ℕ) → reaches L c e ≡ true → Reaches L c e
   unfolding reaches
   reaches-sound c e h =
