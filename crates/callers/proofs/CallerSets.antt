@@ -23,11 +23,11 @@ use Rattle.image.proofs.Words.{entry-of}
 use Rattle.general.specs.Tests.{some}
 use Rattle.general.proofs.Bools.{or-right, or-cases, nor-left, nor-right}
 use Rattle.library.specs.Library.{Item, step, check, Entry, item, entryOf, Alternative, entriesFrom, alternativesFrom}
-use Rattle.library.specs.Calls.{isCallOf, callsOf}
+use Rattle.library.specs.Calls.{callsOf}
 use Rattle.walk.specs.Walk.{entriesEnd}
 use Rattle.library.proofs.Decode.{kind-is, step-entry, check-entry, call-entry}
 use Rattle.walk.proofs.Walking.{end-skips, end-ends}
-use Rattle.callers.proofs.Calls.{left, left-entry, left-opener, left-none}
+use Rattle.callers.proofs.Calls.{left, left-start, left-call, left-on, left-out, left-past}
 use Rattle.column.specs.Column.{bit, withFact}
 use Rattle.column.specs.Sets.{inColumn, difference}
 use Rattle.column.proofs.Bits.{bit-none, bit-le, bit-or, bit-and, bit-not, bit-pow}
@@ -221,68 +221,35 @@ pub record Adding (part : List ℕ) (at c : ℕ) (s₀ s : List ℕ) (i : ℕ) :
       → (isCaller s d b || (eqb b c && left part i d)) ≡ (isCaller s₀ d b || (eqb b c && callsOf (alternativesFrom (drop at part)) d))
 
 pub adding-start : (part : List ℕ) (at c : ℕ) (s : List ℕ) (i : ℕ) → i ≡ entriesEnd part at → Adding part at c s s i
-unfolding some
 adding-start part at c s i e =
-    record {
-      long = refl;
-      same = λ d b low room.
-          ap (λ (x : Bool). isCaller s d b || (eqb b c && x))
-          (ap (λ (k : ℕ). left part k d) e
-          ∙ ap₂ (λ (es : List Entry) (alts : List Alternative). some (isCallOf d) es || callsOf alts d) (end-ends part at) (sym (end-skips part at)));
-    }
+    record { long = refl; same = λ d b low room. ap (λ (x : Bool). isCaller s d b || (eqb b c && x)) (left-start part at i d e) }
 
-shift : (x e p r a : Bool) → ((x || (e && p)) || (e && (r || a))) ≡ (x || (e && ((p || r) || a)))
-shift true e p r a = refl
-shift false false p r a = refl
-shift false true true r a = refl
-shift false true false r a = refl
+shift : (x e p r : Bool) → ((x || (e && p)) || (e && r)) ≡ (x || (e && (p || r)))
+shift true e p r = refl
+shift false false p r = refl
+shift false true p r = refl
 
 module _ (part : List ℕ) (at c : ℕ) (s₀ s : List ℕ) (i : ℕ) (here : Adding part at c s₀ s i) where
   -- a call
   pub adding-call : (s′ : List ℕ) → length s′ ≡ length s → isKind 9 (getD part i 0) ≡ true → Put c (λ d. eqb (payload (getD part i 0)) d) s s′
       → Adding part at c s₀ s′ (i + 1)
   adding-call s′ long nine put =
-      let w = getD part i 0 in
-      let kind-nine = eqb-true (kind w) 9 nine in
       record {
         long = long ∙ here .long;
         same = λ d b low room.
-            let es = some (isCallOf d) (entriesFrom (drop (i + 1) part)) in
-            let alts = callsOf (alternativesFrom (drop (i + 1) part)) d in
-            let names : isCallOf d (entryOf w) ≡ eqb (payload w) d = ap (isCallOf d) (call-entry w kind-nine) in
-            ap (λ (x : Bool). x || (eqb b c && (es || alts))) (put d b low (omega (arith, here .long)))
-            ∙ shift (isCaller s d b) (eqb b c) (eqb (payload w) d) es alts
-            ∙ ap (λ (x : Bool). isCaller s d b || (eqb b c && x)) (ap (λ (x : Bool). (x || es) || alts) (sym names) ∙ sym (left-entry part i d (entry-of w (inr (inl kind-nine)))))
+            ap (λ (x : Bool). x || (eqb b c && left part (i + 1) d)) (put d b low (omega (arith, here .long)))
+            ∙ shift (isCaller s d b) (eqb b c) (eqb (payload (getD part i 0)) d) (left part (i + 1) d)
+            ∙ ap (λ (x : Bool). isCaller s d b || (eqb b c && x)) (sym (left-call part i d nine))
             ∙ here .same d b low room;
       }
 
   -- the opener of an alternative, or an item
-  adding-same : ((d : ℕ) → left part (i + 1) d ≡ left part i d) → Adding part at c s₀ s (i + 1)
-  adding-same stays =
-      record {
-        long = here .long;
-        same = λ d b low room. ap (λ (x : Bool). isCaller s d b || (eqb b c && x)) (stays d) ∙ here .same d b low room;
-      }
-
-  adding-opener : isKind 7 (getD part i 0) ≡ true → Adding part at c s₀ s (i + 1)
-  adding-opener seven = adding-same (λ d. sym (left-opener part i d seven))
-
-  adding-item : isEntry (getD part i 0) ≡ true → (x : Item) → entryOf (getD part i 0) ≡ item x → Adding part at c s₀ s (i + 1)
-  adding-item entry x is =
-      adding-same
-      (λ d.
-      ap (λ (e : Entry). (isCallOf d e || some (isCallOf d) (entriesFrom (drop (i + 1) part))) || callsOf (alternativesFrom (drop (i + 1) part)) d) (sym is)
-      ∙ sym (left-entry part i d entry))
-
   pub adding-on : isKind 7 (getD part i 0) || isKind 8 (getD part i 0) || isKind 13 (getD part i 0) ≡ true → Adding part at c s₀ s (i + 1)
   adding-on inside =
-      let w = getD part i 0 in
-      ⊎-elim
-      (λ (on : isKind 7 w || isKind 8 w ≡ true).
-      ⊎-elim adding-opener
-      (λ eight. let k = kind-is 8 w eight in adding-item (entry-of w (inl k)) (step (payload w)) (step-entry w k)) (or-cases (isKind 7 w) (isKind 8 w) on))
-      (λ thirteen. let k = kind-is 13 w thirteen in adding-item (entry-of w (inr (inr k))) (check (payload w)) (check-entry w k))
-      (or-cases (isKind 7 w || isKind 8 w) (isKind 13 w) inside)
+      record {
+        long = here .long;
+        same = λ d b low room. ap (λ (x : Bool). isCaller s d b || (eqb b c && x)) (left-on part i d inside) ∙ here .same d b low room;
+      }
 
   -- no call is left
   adding-done : ((d : ℕ) → left part i d ≡ false) → Put c (λ d. callsOf (alternativesFrom (drop at part)) d) s₀ s
@@ -297,16 +264,10 @@ module _ (part : List ℕ) (at c : ℕ) (s₀ s : List ℕ) (i : ℕ) (here : Ad
 
   pub adding-out : isKind 9 (getD part i 0) ≡ false → isKind 7 (getD part i 0) || isKind 8 (getD part i 0) || isKind 13 (getD part i 0) ≡ false
       → Put c (λ d. callsOf (alternativesFrom (drop at part)) d) s₀ s
-  adding-out nine outside =
-      let w = getD part i 0 in
-      let early = nor-left (isKind 7 w || isKind 8 w) (isKind 13 w) outside in
-      let none : isEntry w ≡ false = rw (nor-right (isKind 7 w) (isKind 8 w) early, nine, nor-right (isKind 7 w || isKind 8 w) (isKind 13 w) outside) in
-      adding-done (λ d. left-none part i d (nor-left (isKind 7 w) (isKind 8 w) early) none)
+  adding-out nine outside = adding-done (λ d. left-out part i d nine outside)
 
   pub adding-end : length part ≤ i → Put c (λ d. callsOf (alternativesFrom (drop at part)) d) s₀ s
-  adding-end past =
-      let zero-word = List·getD-eq-default part 0 {n = i} past in
-      adding-done (λ d. left-none part i d (ap (isKind 7) zero-word) (ap isEntry zero-word))
+  adding-end past = adding-done (λ d. left-past part i d past)
 
 -- what holds at the head of the loop over the sequences
 pub record Writing (part places s₀ s : List ℕ) (n c : ℕ) : Type 0 where

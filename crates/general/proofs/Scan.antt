@@ -1,6 +1,7 @@
 -- Laws of the scans: of every element, of the least and the greatest value, of the first and the last index, of lists by their indices;
 -- and a count, by which numbers without a gap are bounded.
--- It has: `every`, `leastBelow`, `greatest`, `firstIndex`, `lastIndex`, `listBelow` and `total`, some laws each; `count-all` and `count-more`;
+-- It has: `every`, `leastBelow`, `greatest`, `firstIndex`, `lastIndex`, `listBelow` and `total`, some laws each; `count-all`, `count-none`, `count-one` and
+-- `count-more`;
 -- `gapless-bound`. Laws of Booleans are in Bools, of tests over a list in Tests.
 use Prim.Native.Nat.{ℕ, zero, suc, _+_, _*_, _≤_, _<_, min}
 use mathlib.Core.Path.{_≡_, refl, sym, _∙_, ap}
@@ -204,6 +205,26 @@ count-le : (p q : ℕ → Bool) → ((i : ℕ) → p i ≡ true → q i ≡ true
 unfolding countPassing
 count-le p q more zero = omega arith
 count-le p q more (suc n) = let h = count-le p q more n in let h1 = one-le (p n) (q n) (more n) in omega arith
+
+pub count-none : (p : ℕ → Bool) → ((i : ℕ) → p i ≡ false) → (n : ℕ) → countPassing p n ≡ 0
+unfolding countPassing
+count-none p none zero = refl
+count-none p none (suc n) = omega (arith, ap one (none n), count-none p none n)
+
+-- with one index more that passes, one more is counted
+pub count-one : (p q : ℕ → Bool) (d : ℕ) → p d ≡ false → q d ≡ true → ((i : ℕ) → (i ≡ d → ⊥) → q i ≡ p i) → (n : ℕ) → d < n
+    → countPassing q n ≡ countPassing p n + 1
+unfolding countPassing
+count-one p q d no-p is-q same zero lt = absurd (omega arith)
+count-one p q d no-p is-q same (suc n) lt =
+    ⊎-elim
+    (λ (e : d ≡ n). omega (arith, ap one (rw e at no-p), ap one (rw e at is-q), early n (omega arith)))
+    (λ l. omega (arith, ap one (same n (λ e. omega arith)), count-one p q d no-p is-q same n l))
+    (eq-or-lt-of-le (le-of-suc-le-suc lt))
+  where
+    early : (m : ℕ) → m ≤ d → countPassing q m ≡ countPassing p m
+    early zero l = refl
+    early (suc m) l = omega (arith, ap one (same m (λ e. omega arith)), early m (omega arith))
 
 pub count-more : (p q : ℕ → Bool) → ((i : ℕ) → p i ≡ true → q i ≡ true) → (n d : ℕ) → d < n → p d ≡ false → q d ≡ true
     → countPassing p n < countPassing q n

@@ -1,20 +1,19 @@
 -- The places of an accepted image are what the visits ask, and the set that they settle is that of the sequences with a run.
 -- Assumes nothing.
-use Prim.Native.Nat.{ℕ, _+_, _≤_, _<_}
+use Prim.Native.Nat.{ℕ, _≤_}
 use native.Mathlib.Omega.{arith}
-use native.Mathlib.Numerals.{add-one}
 use mathlib.Core.Path.{_≡_, sym, ap, _∙_, subst}
-use mathlib.Core.List.{List, [], _++_}
-use lib.ListN.{length, getD, drop}
+use mathlib.Core.List.{List, _++_}
+use lib.ListN.{length, drop}
 use Rattle.general.specs.Tests.{All}
 use Rattle.image.specs.declared.answer.Head.{Head}
-use Rattle.library.specs.Library.{Sequence, alternativesFrom, sequencesPart, libraryOf}
+use Rattle.library.specs.Library.{sequencesPart, libraryOf}
 use Rattle.library.specs.Accepted.{SequenceWord}
 use Rattle.library.specs.Tables.{placesFrom}
 use Rattle.library.proofs.Accepted.{parts, counted, sequence-entry}
 use Rattle.library.proofs.Rows.{all-at}
 use Rattle.settling.specs.Settling.{Settles}
-use Rattle.tables.proofs.Tables.{few-sequences, place-in, sequences-in}
+use Rattle.tables.proofs.Tables.{few-sequences, place-in, reads-in}
 use Rattle.running.specs.Visited.{RunsVisitable, visited}
 use Rattle.running.specs.Written.{RunningAsked, RunningWritten}
 use Rattle.running.proofs.Exact.{Given, settled-exact}
@@ -44,10 +43,7 @@ module _ {h : Head} {image places₀ runs₀ : List ℕ} (asked : RunningAsked h
       record {
         few = few;
         counted = counted image h (asked .accepted) .sequences;
-        reads = λ c l.
-            ap (λ (n : ℕ). alternativesFrom (drop n part)) (add-one (getD places c 0))
-            ∙ place-in image h (asked .accepted) sequences (drop (h .sequences) places₀) placed c l .reads
-            ∙ ap (λ (S : List Sequence). getD S c []) (sym (sequences-in image h (asked .accepted) sequences));
+        reads = reads-in image h (asked .accepted) sequences (drop (h .sequences) places₀) placed;
       }
 
   pub running-written : (runs : List ℕ) → Settles (visited part places) (h .sequences) runs₀ runs → RunningWritten h image places₀ places runs

@@ -2,6 +2,7 @@
 -- Assumes nothing.
 use Prim.Native.Nat.{ℕ, zero, suc, _+_, _*_, _≤_, _<_}
 use native.Mathlib.Decide.{decLt}
+use native.Mathlib.Numerals.{add-one}
 use native.Mathlib.Omega.{arith}
 use mathlib.Core.Path.{_≡_, refl, sym, ap, _∙_, subst}
 use mathlib.Core.Bool.{true}
@@ -14,10 +15,11 @@ use Rattle.general.proofs.Bools.{and-parts}
 use Rattle.image.specs.declared.answer.Head.{Head}
 use Rattle.rules.specs.Checked.{accepts}
 use Rattle.rules.specs.Rules.{opened}
-use Rattle.library.specs.Library.{Library, Step, stepsFrom, sequencesFrom, stepsPart, sequencesPart, libraryOf}
+use Rattle.library.specs.Library.{Library, Step, Sequence, alternativesFrom, stepsFrom, sequencesFrom, stepsPart, sequencesPart, libraryOf}
 use Rattle.library.specs.Tables.{StepsAsked, SequencesAsked, maskOf, masks, placesFrom}
 use Rattle.library.proofs.Accepted.{faultless, parts, library-is}
 use Rattle.library.proofs.Lookup.{noFacts, words-at, Placed, place-at, places-length}
+use Rattle.walk.specs.Walk.{alternativesAt}
 use Rattle.general.specs.Numbers.{Zeros, Complete}
 use Rattle.callers.specs.Callers.{CallersAsked, CallersWritten}
 use Rattle.settling.specs.Settling.{Scheduled}
@@ -79,6 +81,13 @@ module _ (image : List ℕ) (h : Head) (accepted : accepts image h) {part : List
       let word : getD ps c 0 ≡ getD (placesFrom 0 part) c 0 =
       ap (λ (x : List ℕ). getD x c 0) placed ∙ List·getD-append (placesFrom 0 part) rest 0 c (omega (arith, places-length 0 part)) in
       subst (Placed part c) (sym word) (place-at part c (omega arith))
+
+  -- and the alternatives of sequence c from the word after its opener on
+  pub reads-in : (rest : List ℕ) {ps : List ℕ} → ps ≡ placesFrom 0 part ++ rest → (c : ℕ) → c < h .sequences
+      → alternativesAt part ps c ≡ getD (libraryOf image .sequences) c []
+  reads-in rest {ps} placed c l =
+      ap (λ (n : ℕ). alternativesFrom (drop n part)) (add-one (getD ps c 0)) ∙ place-in rest placed c l .reads
+      ∙ ap (λ (S : List Sequence). getD S c []) (sym sequences-in)
 
 -- ---- what the makers ask, and what they have made
 

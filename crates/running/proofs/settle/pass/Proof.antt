@@ -29,9 +29,10 @@ visit-requires : tie.Need-visit-requires Inv-loop μ-loop
 visit-requires c κs =
     let at-loop = c .before .before .before in
     let start = at-loop .before .before .before .before in
-    let a = start .args in
-    (visitable-at (at-loop .loop .runs) (reached-length (visits-lower (a .part .now) (a .places .now) (a .n) (start .pre .few)) (at-loop .loop .inv .reached)) (start .pre),
-     omega (arith, c .place-of .ensures .1))
+    let a = start .args in (
+      visitable-at (at-loop .loop .runs) (reached-length (visits-lower (a .part .now) (a .places .now) (a .n) (start .pre .few)) (at-loop .loop .inv .reached)) (start .pre),
+      omega (arith, c .place-of .ensures .1),
+    )
 
 add-i : tie.Need-add-i Inv-loop μ-loop
 add-i c = search needs

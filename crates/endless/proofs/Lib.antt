@@ -1,0 +1,4 @@
+pub mod Queue
+pub mod Reaching
+pub mod Listing
+pub mod Explaining
