@@ -39,6 +39,7 @@ use Rattle.dulimoven.proofs.Refusals.{refusal-high}
 use Rattle.dulimoven.proofs.CardCall.{few-facts, cards-return, cards-only, cards-told, cards-kept}
 use Rattle.dulimoven.proofs.ChainCall.{chain-return, chain-only, chain-told, chain-kept, none-kept}
 use Rattle.dulimoven.proofs.ListCall.{list-return, list-only, list-told, list-kept}
+use Rattle.dulimoven.proofs.EndlessCall.{endless-return, endless-only, endless-told, endless-kept}
 
 -- ---- demand 1
 
@@ -61,16 +62,19 @@ total =
       cards = cards-return;
       chain = chain-return;
       list = list-return;
+      endless = endless-return;
       cards-kept = λ image area. cards-kept image area (engine .cards image area) (cards-return image area);
       chain-kept = λ image c q f area. chain-kept image c q f area (engine .chain image c q f area) (chain-return image c q f area);
       list-kept = λ facts sequences cards list card.
           list-kept facts sequences cards list card (engine .list facts sequences cards list card) (list-return facts sequences cards list card);
+      endless-kept = λ image c area. endless-kept image c area (engine .endless image c area) (endless-return image c area);
       none-kept = λ image c q f area. none-kept image c q f area (engine .chain image c q f area) (chain-return image c q f area);
       check-told = check-told;
       cards-told = λ image area. cards-told image area (engine .cards image area) (cards-return image area);
       chain-told = λ image c q f area. chain-told image c q f area (engine .chain image c q f area) (chain-return image c q f area);
       list-told = λ facts sequences cards list card.
           list-told facts sequences cards list card (engine .list facts sequences cards list card) (list-return facts sequences cards list card);
+      endless-told = λ image c area. endless-told image c area (engine .endless image c area) (endless-return image c area);
     }
 
 -- demand 1 fixes every number and every word: an engine that meets it gives back what this one does
@@ -80,6 +84,7 @@ pub record Same (e : Engine) : Type 0 where
   pub chain : (image : List ℕ) (c q f : ℕ) (area : List ℕ) → e .chain image c q f area ≡ engine .chain image c q f area
   pub list : (facts sequences : ℕ) (cards list card : List ℕ)
       → e .list facts sequences cards list card ≡ engine .list facts sequences cards list card
+  pub endless : (image : List ℕ) (c : ℕ) (area : List ℕ) → e .endless image c area ≡ engine .endless image c area
 
 pub only-engine : (e : Engine) → Demand1 e → Same e
 only-engine e d =
@@ -89,6 +94,7 @@ only-engine e d =
       chain = λ image c q f area. chain-only image c q f area (e .chain image c q f area) (d .chain image c q f area);
       list = λ facts sequences cards list card.
           list-only facts sequences cards list card (e .list facts sequences cards list card) (d .list facts sequences cards list card);
+      endless = λ image c area. endless-only image c area (e .endless image c area) (d .endless image c area);
     }
 
 -- ---- demand 2

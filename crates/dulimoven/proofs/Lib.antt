@@ -2,6 +2,8 @@ pub mod Refusals
 pub mod CardCall
 pub mod ChainCall
 pub mod ListCall
+pub mod EndlessCall
 pub mod Demands
 pub mod Added
 pub mod Swapped
+pub mod Explained

@@ -24,6 +24,7 @@ use Rattle.dulimoven.specs.Returned.{Returned}
 use Rattle.dulimoven.specs.CardCall.{CardsRefused, CardsReturn}
 use Rattle.dulimoven.specs.ChainCall.{ChainRefused, ChainReturn, Links}
 use Rattle.dulimoven.specs.ListCall.{ListRefused, ListReturn}
+use Rattle.dulimoven.specs.EndlessCall.{EndlessRefused, EndlessReturn}
 
 -- ---- what a caller sees
 
@@ -34,6 +35,8 @@ pub record Engine : Type 0 where
   pub chain : (image : List ℕ) (sequence question fact : ℕ) (area : List ℕ) → Returned
   -- F, C, the cards, a list of sequences, and the words of the list's card before the call (document 02, request 5)
   pub list : (facts sequences : ℕ) (cards list card : List ℕ) → Returned
+  -- why a sequence has no run (document 02, request 7)
+  pub endless : (image : List ℕ) (sequence : ℕ) (area : List ℕ) → Returned
 
 -- "N × 2^32 + P for refusal N at position P": a refusal is a number from 2^32 on
 abbrev pub Refuses : ℕ → Type 0
@@ -44,7 +47,7 @@ Refuses n = 2 ^ 32 ≤ n
 pub record Demand1 (e : Engine) : Type 0 where
   -- "A caller may hand over every list of words, every area and every number, and the call ends with an acceptance, .. or the first refusal
   -- in document 01 that applies"; "Demand 1 and document 01's list take in the answers that requests add": 13 beside 4 to 6,
-  -- and 14 and 15 of the list call
+  -- 14 and 15 of the list call, 16 and 17 of the endless call
   pub check : (image : List ℕ) → e .check image ≡ checkedAnswer (checked image)
   -- "otherwise the head's payload from the check"
   pub head : (image : List ℕ) (h : Head) → checked image ≡ Checked.Accepted h → e .check image ≡ payload (firstWord image)
@@ -55,12 +58,15 @@ pub record Demand1 (e : Engine) : Type 0 where
   -- "one card for it as the call's answer" (document 02, request 5)
   pub list : (facts sequences : ℕ) (cards list card : List ℕ)
       → ListReturn facts sequences cards list card (e .list facts sequences cards list card)
+  -- "Otherwise the answer is the list's length" (document 02, request 7)
+  pub endless : (image : List ℕ) (c : ℕ) (area : List ℕ) → EndlessReturn image c area (e .endless image c area)
   -- "a refusal changes no word of a lent area"
   pub cards-kept : (image area : List ℕ) → Refuses (e .cards image area .number) → e .cards image area .area ≡ area
   pub chain-kept : (image : List ℕ) (c q f : ℕ) (area : List ℕ) → Refuses (e .chain image c q f area .number)
       → e .chain image c q f area .area ≡ area
   pub list-kept : (facts sequences : ℕ) (cards list card : List ℕ) → Refuses (e .list facts sequences cards list card .number)
       → e .list facts sequences cards list card .area ≡ card
+  pub endless-kept : (image : List ℕ) (c : ℕ) (area : List ℕ) → Refuses (e .endless image c area .number) → e .endless image c area .area ≡ area
   -- ""none" writes nothing", "0 there for "none""
   pub none-kept : (image : List ℕ) (c q f : ℕ) (area : List ℕ) → e .chain image c q f area .number ≡ 0 → e .chain image c q f area .area ≡ area
   -- the caller can tell a refusal by the number
@@ -70,6 +76,8 @@ pub record Demand1 (e : Engine) : Type 0 where
       → Refuses (e .chain image c q f area .number) ↔ ((r : Refusal) × ChainRefused image c q f (length area) r)
   pub list-told : (facts sequences : ℕ) (cards list card : List ℕ)
       → Refuses (e .list facts sequences cards list card .number) ↔ ((r : Refusal) × ListRefused sequences (length cards) list r)
+  pub endless-told : (image : List ℕ) (c : ℕ) (area : List ℕ)
+      → Refuses (e .endless image c area .number) ↔ ((r : Refusal) × EndlessRefused image c (length area) r)
 
 -- ---- demand 2
 

@@ -2,7 +2,9 @@ pub mod Returned
 pub mod CardCall
 pub mod ChainCall
 pub mod ListCall
+pub mod EndlessCall
 pub mod Demands
 pub mod Engine
 pub mod Added
 pub mod Swapped
+pub mod Explained

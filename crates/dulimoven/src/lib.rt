@@ -51,3 +51,12 @@ pub extern "C" fn dulimoven_list(
 {
     list::answer::list_answer(list::call::list(facts, sequences, cards, list, card))
 }
+
+// Why a sequence has no run: the length of the list of the sequences without a run that it reaches, with their numbers written, or N × 2^32 + P for
+// refusal N at position P with the area as it was.
+#[no_mangle]
+pub extern "C" fn dulimoven_endless(image: &[u32], sequence: u64, area: &mut [u32]) -> u64
+    ensures { λ r. ⌜ returned r (now (area .exit)) ≡ engine .endless (now (image .entry)) sequence (now (area .entry)) ⌝ }
+{
+    endless::answer::endless_answer(endless::call::endless(image, sequence, area))
+}
