@@ -16,8 +16,9 @@
  * may share what none of them writes, such as an image, or the cards and the
  * list of dulimoven_list, and may not share an area that one of them writes.
  *
- * Alignment: an image, a list and a chain area are aligned as uint32_t is, a
- * card and a card area as uint64_t. No more is asked.
+ * Alignment: an image, a list, a chain area and the area of dulimoven_endless
+ * are aligned as uint32_t is, a card and a card area as uint64_t. No more is
+ * asked.
  */
 #ifndef DULIMOVEN_H
 #define DULIMOVEN_H
@@ -41,7 +42,7 @@ extern "C" {
  * since they are multiplied and added with one another.
  */
 #define DULIMOVEN_FORMAT 4
-#define DULIMOVEN_VERSION (DULIMOVEN_FORMAT * 1000 + 0)
+#define DULIMOVEN_VERSION (DULIMOVEN_FORMAT * 1000 + 1)
 
 /* How many words of 64 bits a card has, and how many of 32 bits a link. */
 #define DULIMOVEN_CARD_WORDS 13
@@ -53,14 +54,16 @@ extern "C" {
 #define DULIMOVEN_MOST_STEPS 1024
 #define DULIMOVEN_MOST_SEQUENCES 256
 
-/* The most members of a list. */
+/* The most members of a list that dulimoven_list is given. */
 #define DULIMOVEN_MOST_LIST 256
 
-/* Areas of so many words are enough for all cards, and for every chain. */
+/* Areas of so many words are enough for all cards, for every chain, and for
+ * every list that dulimoven_endless gives. */
 #define DULIMOVEN_MOST_CARD_WORDS \
     (DULIMOVEN_MOST_SEQUENCES * DULIMOVEN_CARD_WORDS)
 #define DULIMOVEN_MOST_CHAIN_WORDS \
     (DULIMOVEN_MOST_SEQUENCES * DULIMOVEN_LINK_WORDS)
+#define DULIMOVEN_MOST_ENDLESS_WORDS DULIMOVEN_MOST_SEQUENCES
 
 /*
  * The stack: no call takes more bytes of it, below its caller's frame, than its
@@ -71,6 +74,7 @@ extern "C" {
 #define DULIMOVEN_STACK_CARDS 163840
 #define DULIMOVEN_STACK_CHAIN 65536
 #define DULIMOVEN_STACK_LIST 1024
+#define DULIMOVEN_STACK_ENDLESS 32768
 
 /*
  * The kinds of an image's words. Kinds 10 to 12 are those of a chain's words
@@ -103,7 +107,7 @@ enum dulimoven_kind {
 /*
  * The refusals. Of those that apply a call answers the first in this order: 1,
  * 2 and 3; of 4, 5, 6 and 13 the one at the earliest word, and in one word the
- * lowest; then 7, 8 to 12, 14 and 15. From 8 to 12, and of 14 and 15, the
+ * lowest; then 7, 8 to 12, and 14 to 17. From 8 to 12, and from 14 on, the
  * position is 0.
  */
 enum dulimoven_refusal {
@@ -140,7 +144,11 @@ enum dulimoven_refusal {
     /* the list has more than 256 members */
     DULIMOVEN_LIST_LENGTH = 14,
     /* a member of the list is not among the sequences */
-    DULIMOVEN_MEMBER = 15
+    DULIMOVEN_MEMBER = 15,
+    /* the sequence asked about has a run, so that nothing keeps it from one */
+    DULIMOVEN_HAS_RUN = 16,
+    /* it has none, and the list that says why is longer than the area */
+    DULIMOVEN_LIST_AREA = 17
 };
 
 /*
@@ -172,7 +180,8 @@ uint64_t dulimoven_check(const uint32_t *image, size_t image_len);
  * bit f is fact f (dulimoven_card_has), and no bit stands for a fact that the
  * library does not have. A fact is needed where a run first touches it by a
  * need, and a check of it is one; it is set or cleared where the run's last
- * touch sets or clears it. Without a run all words are 0.
+ * touch sets or clears it. Without a run all words are 0, and
+ * dulimoven_endless says why there is none.
  */
 enum dulimoven_card_word {
     /* dulimoven_has_run, dulimoven_has_empty_run, dulimoven_changeable */
@@ -395,13 +404,54 @@ uint64_t dulimoven_list(uint64_t facts, uint64_t sequences,
                         const uint32_t *list, size_t list_len,
                         uint64_t card[DULIMOVEN_CARD_WORDS]);
 
+/*
+ * Says why a sequence has no run: lists those without a run that it reaches.
+ *
+ * image      as for dulimoven_check.
+ * image_len  as for dulimoven_check.
+ * sequence   the sequence asked about. No number is out of range: one that
+ *            names nothing is refused.
+ * area       area_len words of 32 bits, lent for the call, which keeps no
+ *            pointer to them. They may not overlap the image, and no other
+ *            thread may read or write them before the call returns. An empty
+ *            area, area_len 0, may have a null pointer.
+ * area_len   how many words area has; one for each sequence is always enough.
+ *
+ * Answers the length of the list, at least 1 and at most C. The list stands
+ * from area[0] on then, the number of a sequence in each word, in rising order,
+ * each once; the words after it are as they were. On it are all sequences
+ * without a run that the one asked about reaches through entries of sequences
+ * without a run, itself included: each step goes from a sequence without a run,
+ * by any entry of any of its alternatives, to a sequence without a run. A
+ * sequence with a run is neither on the list nor gone through.
+ *
+ * A reader checks such a list by the library's words alone: every alternative
+ * of each listed sequence names a listed one. For instance, sequence 2 is <5>
+ * or <step 0, 2>, sequence 5 is <7, 2>, and 7 has a run. The list of 2 is 2 5,
+ * and each of the three alternatives names 2 or 5. So a run of either would be
+ * made from one of 2 or 5 that was made before it, and none is the first to be
+ * made. Whoever holds a list with that property, wherever it comes from and in
+ * whatever order, may conclude that none of its members has a run; this is
+ * proved for all such lists. A sequence without alternatives keeps the property
+ * by itself.
+ *
+ * Otherwise the call answers the first refusal that applies, and every word of
+ * the area is as it was: one of refusals 1 to 7 and 13, as dulimoven_check does
+ * for the image, then, with position 0,
+ *   9   DULIMOVEN_SEQUENCE   sequence is not below C
+ *   16  DULIMOVEN_HAS_RUN    sequence has a run: bit 0 of its card's flags
+ *   17  DULIMOVEN_LIST_AREA  the list has more than area_len words
+ */
+uint64_t dulimoven_endless(const uint32_t *image, size_t image_len,
+                           uint64_t sequence, uint32_t *area, size_t area_len);
+
 /* Whether an answer of a call is a refusal. */
 static inline int dulimoven_is_refusal(uint64_t answer)
 {
     return answer >> 32 != 0;
 }
 
-/* An answer's refusal, 1 to 15, or 0 where the call refused nothing. */
+/* An answer's refusal, 1 to 17, or 0 where the call refused nothing. */
 static inline uint32_t dulimoven_refusal_of(uint64_t answer)
 {
     return (uint32_t)(answer >> 32);

@@ -33,6 +33,11 @@ static_assert(DULIMOVEN_MAY_FIRST_SET == 8 &&
 static_assert(DULIMOVEN_MOST_LIST == 256, "");
 static_assert(DULIMOVEN_LIST_LENGTH == 14 && DULIMOVEN_MEMBER == 15, "");
 
+/* a list that says why has each sequence once at the most, a word for each; and
+   its refusals */
+static_assert(DULIMOVEN_MOST_ENDLESS_WORDS == 256, "");
+static_assert(DULIMOVEN_HAS_RUN == 16 && DULIMOVEN_LIST_AREA == 17, "");
+
 /* the kinds of documents 01 and 02; 10 to 12 are a chain's, 14 is none yet */
 static_assert(DULIMOVEN_KIND_HEAD == 1 && DULIMOVEN_KIND_NEEDS == 2 &&
                   DULIMOVEN_KIND_SETS == 3 && DULIMOVEN_KIND_CLEARS == 4,
@@ -48,9 +53,9 @@ static_assert(DULIMOVEN_KIND_STEP_ENTRY == 8 &&
 /* the second word of the last link that there can be: 511 */
 static_assert(DULIMOVEN_MOST_CHAIN_WORDS - DULIMOVEN_LINK_WORDS + 1 == 511, "");
 
-/* format 4, which has another sum word, and no change since then; a
-   preprocessor can tell */
+/* format 4, which has another sum word, and one change since then, request 7's
+   call; a preprocessor can tell */
 static_assert(DULIMOVEN_VERSION / 1000 == DULIMOVEN_FORMAT, "");
-#if DULIMOVEN_FORMAT != 4 || DULIMOVEN_VERSION != 4000
-#error "the format is 4, the version 4000"
+#if DULIMOVEN_FORMAT != 4 || DULIMOVEN_VERSION != 4001
+#error "the format is 4, the version 4001"
 #endif
