@@ -1,8 +1,10 @@
 /*
  * dulimoven_check from the C side: every refusal with its position, images at
- * the bounds of length, and that a call leaves the image as it was. C11 and
- * C++17. Prints a line for each answer that differs, then a count; the exit
- * status is 0 where nothing differs.
+ * the bounds of length, and that a call leaves the image as it was. A refused
+ * image gets the same answer from dulimoven_endless, asked about a sequence
+ * that no library has, and an accepted one gets 9. C11 and C++17. Prints a line
+ * for each answer that differs, then a count; the exit status is 0 where
+ * nothing differs.
  *
  * The name of a row says which rule of documents 01 and 02 its answer follows
  * from. A refusal is said with its number and position; words count from 0, the
@@ -38,12 +40,19 @@ static void compare(const char *name, uint64_t answer, uint64_t expected)
     printf("\n");
 }
 
+/* A sequence that no library has, asked about with an empty area. */
+static uint64_t ask_far(void)
+{
+    return dulimoven_endless(area + GUARD, words, 300, NULL, 0);
+}
+
 /* The image under test is accepted with the payload of its head. */
 static void accepts(const char *name)
 {
     keep();
     compare(name, dulimoven_check(area + GUARD, words),
             payload_of(*word_at(0)));
+    compare(name, ask_far(), REFUSED(9, 0));
     kept(name);
 }
 
@@ -53,6 +62,7 @@ static void refuses(uint64_t number, uint64_t position, const char *name)
     keep();
     compare(name, dulimoven_check(area + GUARD, words),
             REFUSED(number, position));
+    compare(name, ask_far(), REFUSED(number, position));
     kept(name);
 }
 
