@@ -1,6 +1,6 @@
 /*
  * Compares the library with the second engine over libraries made from a seed
- * (tests/second), of sixteen kinds.
+ * (tests/second), of seventeen kinds.
  *
  * The first eight words of a card are compared with those of the second engine,
  * which works by the algorithms printed in source document 001. The chain call
@@ -14,6 +14,12 @@
  * from all calls, at the clear word; with some damage beside it the check is
  * compared again. One in which two different entries have changed places must
  * get refusal 2, at the last word, and once they are back be accepted.
+ *
+ * Of every sequence it is asked why it has no run. The answer must be 16
+ * exactly where the card says that it has one, and by the rounds; otherwise the
+ * list must be that of the sequences without a run that plain rounds over the
+ * words reach, in rising order, and every alternative of a member must name a
+ * member. In an area of a word less it must get 17.
  *
  * To each library with room for it a sequence is added with one alternative,
  * which names a list of 0 to 5 sequences. The list's card by dulimoven_list,
@@ -31,7 +37,9 @@
  * words changed past a chain or on "none"; a library refused, or a damaged one
  * judged otherwise; a pulse that is not refused, or at another word, or with a
  * word of an area changed; two entries that change places without being
- * noticed; a call that does not end.
+ * noticed; 16 where there is no run, or a list where there is one; a sequence
+ * left out of a list, one with a run or one that is not reached on it, another
+ * order, a word past it changed; a call that does not end.
  *
  * Tried: the engine was broken on a copy, compiled without its proofs and
  * linked with this test. Each break was reported, first by the words after it.
@@ -75,7 +83,8 @@
  *     before it, or a run: word 1 of a card, 3 for 0
  *   walk, after a dead entry five words are passed where four were tested,
  *     or an opener after three entries (two breaks): word 1 of a card
- *   question, one word more is written: words past the chain are changed
+ *   question, one word more is written: words past what is written are
+ *     changed
  *   settling, callers are stale where a visit changed nothing, and not where it
  *     did (`if !changed`): the time limit is over, and no answer from
  *     dulimoven_cards
@@ -229,18 +238,21 @@ static const struct trial {
     {40000, 1, 1}, {16000, 1, 1}, {16000, 1, 1}, {16000, 1, 1}, {2000, 1, 1},
     {2000, 1, 1},  {12000, 1, 1}, {1000, 1, 1},  {16000, 1, 1}, {2000, 1, 1},
     {20000, 1, 1}, {40, 1, 16},   {40, 1, 8},    {40, 1, 8},    {12, 21, 16},
-    {16000, 1, 1}};
+    {16000, 1, 1}, {200, 1, 16}};
 
 static const uint64_t first_seed = UINT64_C(0x2545f4914f6cdd1d);
 
 /*
  * What is counted of the libraries of a kind, or of all. `pulses` are the
  * libraries with a pulse, `pulses_damaged` the damaged ones of them that still
- * get refusal 13, `exchanges` those in which two entries changed places.
+ * get refusal 13, `exchanges` those in which two entries changed places,
+ * `endless` the sequences without a run, and `reached` the members of the lists
+ * that say why.
  */
 struct tally {
     uint64_t libraries, sequences, card_words, checks, pulses, pulses_damaged,
-        exchanges, questions, chains, links, lists, members, differences;
+        exchanges, questions, chains, links, endless, reached, lists, members,
+        differences;
 };
 
 static struct tally tally;
@@ -315,6 +327,13 @@ static void chain_differs(uint32_t sequence, uint32_t question, uint32_t fact,
         printf("%s, sequence %" PRIu32 ", question %" PRIu32 ", fact %" PRIu32
                ": %s\n",
                library_name, sequence, question, fact, what);
+}
+
+static void list_differs(uint32_t sequence, const char *what)
+{
+    if (is_printed())
+        printf("%s, sequence %" PRIu32 ", why it has no run: %s\n",
+               library_name, sequence, what);
 }
 
 static uint64_t check(const struct image *checked)
@@ -567,6 +586,69 @@ static void ask_fact(const struct trial *trial, uint32_t fact)
             ask(c, question, fact);
 }
 
+/*
+ * How many lists say why a sequence has no run, by how many members they have:
+ * one, two or three, more, and more than thirty-two.
+ */
+enum { ONE, FEW, MORE, MANY, SIZES };
+static uint64_t sizes[SIZES];
+
+static void count_size(uint64_t members)
+{
+    sizes[members <= 1    ? ONE
+          : members <= 3  ? FEW
+          : members <= 32 ? MORE
+                          : MANY]++;
+}
+
+/* Asks why a sequence has no run, in an area of so many words. */
+static uint64_t ask_endless(uint32_t sequence, uint32_t *area, size_t room)
+{
+    size_t i;
+    for (i = 0; i < room; i++)
+        area[i] = JUDGE_BEFORE;
+    return dulimoven_endless(image.words, image.length, sequence, area, room);
+}
+
+/* In an area that is a word short the list is refused, and nothing written. */
+static void ask_short(uint32_t sequence, size_t room)
+{
+    static uint32_t area[DULIMOVEN_MOST_ENDLESS_WORDS];
+    size_t i;
+    if (ask_endless(sequence, area, room) !=
+        (uint64_t)DULIMOVEN_LIST_AREA << 32)
+        list_differs(sequence, "a word short is not refused");
+    for (i = 0; i < room; i++)
+        if (area[i] != JUDGE_BEFORE)
+            list_differs(sequence, "a word short, and a word is changed");
+}
+
+/*
+ * Each sequence: 16 exactly where the card says that it has a run, and
+ * otherwise the list.
+ */
+static void try_endless(void)
+{
+    static uint32_t area[DULIMOVEN_MOST_ENDLESS_WORDS];
+    uint32_t c, sequences = sequences_of(image.words[0]);
+    call_name = "dulimoven_endless";
+    for (c = 0; c < sequences; c++) {
+        uint64_t answer = ask_endless(c, area, sequences);
+        enum fault fault = judge_list(c, answer, area, sequences);
+        if (fault != NO_FAULT)
+            list_differs(c, fault_text(fault));
+        if (dulimoven_has_run(cards + (size_t)DULIMOVEN_CARD_WORDS * c) !=
+            (answer == (uint64_t)DULIMOVEN_HAS_RUN << 32))
+            list_differs(c, "the card says otherwise");
+        if (dulimoven_is_refusal(answer) || fault != NO_FAULT)
+            continue;
+        tally.endless++;
+        tally.reached += answer;
+        count_size(answer);
+        ask_short(c, (size_t)answer - 1);
+    }
+}
+
 /* Whether the card call refuses an image so, and writes nothing. */
 static int cards_refuse(const struct image *refused, uint64_t expected)
 {
@@ -596,8 +678,21 @@ static int chain_refuses(struct seed *seed, const struct image *refused,
            link[0] == JUDGE_BEFORE && link[1] == JUDGE_BEFORE;
 }
 
+/* Whether the call that says why a sequence has no run does, for a sequence
+ * that is drawn. */
+static int endless_refuses(struct seed *seed, const struct image *refused,
+                           uint64_t expected)
+{
+    uint32_t sequence = draw(seed, sequences_of(refused->words[0]));
+    uint32_t word = JUDGE_BEFORE;
+    call_name = "dulimoven_endless";
+    return dulimoven_endless(refused->words, refused->length, sequence, &word,
+                             1) == expected &&
+           word == JUDGE_BEFORE;
+}
+
 /* The library with a pulse, which is all that is wrong with it. */
-static void try_pulse(struct seed *seed)
+static void try_pulse(struct seed *seed, struct seed *asked)
 {
     static struct image pulse;
     size_t position = make_pulse(seed, &image, &pulse);
@@ -615,6 +710,9 @@ static void try_pulse(struct seed *seed)
         differs("the card call does not refuse a pulse, or writes a word");
     if (!chain_refuses(seed, &pulse, expected))
         differs("the chain call does not refuse a pulse, or writes a word");
+    if (!endless_refuses(asked, &pulse, expected))
+        differs("the call for a list of sequences without a run does not "
+                "refuse a pulse, or writes a word");
     for (n = 0; n < DAMAGES; n++)
         tally.pulses_damaged +=
             dulimoven_refusal_of(try_damage(seed, &pulse)) ==
@@ -671,11 +769,11 @@ static void try_exchange(struct seed *seed)
 }
 
 /*
- * Lists and exchanged entries have seeds of their own, so that the libraries do
- * not depend on them.
+ * Lists, exchanged entries and the sequences that a pulse is asked about have
+ * seeds of their own, so that the libraries do not depend on them.
  */
 struct seeds {
-    struct seed library, list, exchange;
+    struct seed library, list, exchange, asked;
 };
 
 static void try_library(const struct trial *trial, struct seeds *seeds)
@@ -685,10 +783,11 @@ static void try_library(const struct trial *trial, struct seeds *seeds)
     try_check();
     for (n = 0; n < DAMAGES; n++)
         try_damage(&seeds->library, &image);
-    try_pulse(&seeds->library);
+    try_pulse(&seeds->library, &seeds->asked);
     try_exchange(&seeds->exchange);
     try_cards();
     judge_library(image.words, image.length);
+    try_endless();
     for (fact = 0; fact < facts_of(image.words[0]); fact += trial->facts)
         ask_fact(trial, fact);
     try_list(&seeds->list);
@@ -700,11 +799,12 @@ static void print_tally(const char *name, const struct tally *t)
            ", card words %" PRIu64 ", checks %" PRIu64 ", pulses %" PRIu64
            ", refused with 13 after damage %" PRIu64 ", exchanges %" PRIu64
            ", questions %" PRIu64 ", chains %" PRIu64 ", links %" PRIu64
-           ", lists %" PRIu64 ", members %" PRIu64 ", differences %" PRIu64
-           "\n",
+           ", without a run %" PRIu64 ", reached %" PRIu64 ", lists %" PRIu64
+           ", members %" PRIu64 ", differences %" PRIu64 "\n",
            name, t->libraries, t->sequences, t->card_words, t->checks,
            t->pulses, t->pulses_damaged, t->exchanges, t->questions, t->chains,
-           t->links, t->lists, t->members, t->differences);
+           t->links, t->endless, t->reached, t->lists, t->members,
+           t->differences);
     fflush(stdout);
 }
 
@@ -715,7 +815,8 @@ static void print_tally(const char *name, const struct tally *t)
 static void try_kind(unsigned kind)
 {
     struct seeds seeds = {
-        {first_seed + kind}, {first_seed - 1 - kind}, {~first_seed - kind}};
+        {first_seed + kind}, {first_seed - 1 - kind}, {~first_seed - kind},
+        {~first_seed + 1 + kind}};
     unsigned n;
     memset(&tally, 0, sizeof tally);
     kind_name = seeded_name(kind);
@@ -744,15 +845,21 @@ static void add_tally(struct tally *total)
     total->questions += tally.questions;
     total->chains += tally.chains;
     total->links += tally.links;
+    total->endless += tally.endless;
+    total->reached += tally.reached;
     total->lists += tally.lists;
     total->members += tally.members;
     total->differences += tally.differences;
 }
 
+/* So many lists of each size there have to be at the least. */
+enum { FEWEST_OF_A_SIZE = 100 };
+
 int main(void)
 {
-    struct tally total = {0, 0, 0, 0, 0, 0, 0, 0, 0, 0, 0, 0, 0};
+    struct tally total = {0, 0, 0, 0, 0, 0, 0, 0, 0, 0, 0, 0, 0, 0, 0};
     unsigned kind;
+    int size;
     signal(SIGALRM, time_is_up);
     for (kind = 0; kind < SEEDED_KINDS; kind++) {
         try_kind(kind);
@@ -767,6 +874,14 @@ int main(void)
         total.differences++;
         printf("no list has a member\n");
     }
+    for (size = 0; size < SIZES; size++)
+        if (sizes[size] < FEWEST_OF_A_SIZE) {
+            total.differences++;
+            printf("lists of some size are rare\n");
+        }
+    printf("lists that say why, of 1, of 2 and 3, of 4 to 32, of more members: "
+           "%" PRIu64 " %" PRIu64 " %" PRIu64 " %" PRIu64 "\n",
+           sizes[ONE], sizes[FEW], sizes[MORE], sizes[MANY]);
     print_tally("total", &total);
     return total.differences == 0 ? 0 : 1;
 }

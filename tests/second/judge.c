@@ -1,5 +1,5 @@
 /*
- * Document 01, "Chains", and document 02, requests 2 and 4. A sequence is a
+ * Document 01, "Chains", and document 02, requests 2, 4 and 7. A sequence is a
  * compound task of the domain, an alternative a method, an entry a task, a step
  * or a check an action. So a check ends a chain of question 3 about its fact,
  * and stays untouched otherwise, with depth 0 as a step.
@@ -11,6 +11,7 @@
  */
 #include "judge.h"
 
+#include "../listed.h"
 #include "domain.h"
 #include "dulimoven.h"
 
@@ -411,6 +412,47 @@ enum fault judge_answer(uint32_t sequence, uint32_t question, uint64_t answer,
     return links_fault(sequence, question, answer, area);
 }
 
+/*
+ * What is wrong with a list: "Give the list, in rising order, of all sequences
+ * without a run that the asked one reaches through entries of sequences without
+ * a run, itself included. Every alternative of each listed sequence names a
+ * listed one."
+ */
+static enum fault members_fault(uint32_t sequence, const uint32_t *list,
+                                size_t count)
+{
+    uint32_t due[MOST_SEQUENCES];
+    unsigned char has[MOST_SEQUENCES];
+    uint32_t c;
+    for (c = 0; c < library.compounds; c++)
+        has[c] = (unsigned char)judge_has_run(c);
+    if (!list_rises(list, count))
+        return FAULT_NOT_RISING;
+    if (!list_supports(image, length, list, count))
+        return FAULT_UNSUPPORTED;
+    if (list_of(image, length, has, sequence, due) != count ||
+        memcmp(list, due, count * sizeof due[0]) != 0)
+        return FAULT_MEMBERS;
+    return NO_FAULT;
+}
+
+enum fault judge_list(uint32_t sequence, uint64_t answer, const uint32_t *area,
+                      size_t area_len)
+{
+    int refused = answer == (uint64_t)DULIMOVEN_HAS_RUN << 32;
+    if (refused != judge_has_run(sequence))
+        return refused ? FAULT_UNLISTED : FAULT_LISTED;
+    if (refused)
+        return unchanged(area, 0, area_len) ? NO_FAULT : FAULT_CHANGED;
+    if (dulimoven_is_refusal(answer))
+        return FAULT_REFUSED;
+    if (answer > area_len)
+        return FAULT_TOO_LONG;
+    if (!unchanged(area, (size_t)answer, area_len))
+        return FAULT_CHANGED;
+    return members_fault(sequence, area, (size_t)answer);
+}
+
 const char *fault_text(enum fault fault)
 {
     static const char *const text[] = {
@@ -418,14 +460,19 @@ const char *fault_text(enum fault fault)
         "refused",
         "none, and a run has the outcome",
         "a chain, and no run has the outcome",
-        "more links than the area has room for",
-        "words past the chain are changed",
+        "more than the area has room for",
+        "words past what is written are changed",
         "the links are not the fewest",
         "a link is about another sequence, or about no alternative",
         "a link's second word is of a wrong kind, or names no entry",
         "a link's alternative cannot stay untouched",
         "beside a link's entry another touches the fact, or has no run",
         "a link's entry does not give the touch, or is no sequence",
-        "a link is not the newest choice"};
+        "a link is not the newest choice",
+        "the sequence has a run, and the answer is not 16",
+        "the sequence has no run, and the answer is 16",
+        "the list does not rise",
+        "an alternative of a listed sequence names no listed one",
+        "the list is not that of what the sequence reaches"};
     return text[fault];
 }

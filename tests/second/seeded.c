@@ -81,7 +81,9 @@ static const struct kind kinds[SEEDED_KINDS] = {
     {"large, most facts", {MOST_FACTS, 0}, {64, 64}, {MOST_SEQUENCES, 0},
      {1, 0}, {0, 0}, {4, 0}, {10, 0}, {4, 0}, {0, 8}, {20, 0}, ANY},
     {"checks", {1, 2}, {0, 4}, {1, 5}, {4, 20},
-     {0, 1}, {1, 2}, {1, 3}, {8, 0}, {16, 32}, {16, 32}, ANY}};
+     {0, 1}, {1, 2}, {1, 3}, {8, 0}, {16, 32}, {16, 32}, ANY},
+    {"many without a run", {1, 1}, {4, 4}, {40, 216}, {4, 8},
+     {0, 1}, {1, 1}, {1, 2}, {0, 4}, {0, 4}, {28, 28}, ANY}};
 
 const char *seeded_name(unsigned kind) { return kinds[kind].name; }
 

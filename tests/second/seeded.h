@@ -13,9 +13,10 @@
  * sequence or the one before; endless and deep ones; with many empty
  * alternatives, or with alternatives of hundreds of entries; with one fact and
  * with as many as there can be; with steps that need and set, or need and
- * clear, the same fact; with many checks. No step clears a fact that it sets.
+ * clear, the same fact; with many checks; with many sequences that have no run
+ * and reach each other. No step clears a fact that it sets.
  */
-enum { SEEDED_KINDS = 16 };
+enum { SEEDED_KINDS = 17 };
 
 const char *seeded_name(unsigned kind);
 
