@@ -1,11 +1,13 @@
 /*
- * The three calls on worked libraries. What is possible for each sequence, over
- * all of its runs, was worked out by hand from documents 01 and 02: the files
- * of tests/outcomes, one for each slip that document 01 names and more. The
- * card of a sequence must be the one that follows from these outcomes, and a
- * question must be answered "none" exactly where they lack the fact. C11 and
- * C++17. Prints a line for each word and each answer that differs, then a
- * count; the exit status is 0 where nothing differs.
+ * The calls on worked libraries. What is possible for each sequence, over all
+ * of its runs, was worked out by hand from documents 01 and 02: the files of
+ * tests/outcomes, one for each slip that document 01 names and more. The card
+ * of a sequence must be the one that follows from these outcomes, and a
+ * question must be answered "none" exactly where they lack the fact. Asked why
+ * it has no run, a sequence with an outcome must get 16, and any other the list
+ * of those without an outcome that it reaches. C11 and C++17. Prints a line for
+ * each word and each answer that differs, then a count; the exit status is 0
+ * where nothing differs.
  *
  * A row says of the runs of a sequence, which its comment lists, what can come
  * of them on the last side, on the first side, and of the last item that names
@@ -25,6 +27,7 @@
  * outcome without a column.
  */
 #include "harness.h"
+#include "listed.h"
 #include "samples.h"
 
 /*
@@ -302,7 +305,39 @@ static void ask_all(void)
                     ask(c, question, fact);
 }
 
-/* Ends a library, and holds the three calls on it to what is expected. */
+/* Which sequences have a run, as the outcomes say. */
+static unsigned char runs[MOST_C];
+
+/* Asks why sequence `c` has no run, in an area of a word for each sequence. */
+static void ask_why(uint32_t c)
+{
+    uint32_t found[DULIMOVEN_MOST_ENDLESS_WORDS];
+    uint32_t list[DULIMOVEN_MOST_ENDLESS_WORDS];
+    size_t count = list_of(area + GUARD, words, runs, c, list);
+    uint64_t expected = runs[c] ? REFUSED(16, 0) : count;
+    uint64_t answer =
+        dulimoven_endless(area + GUARD, words, c, found, dues);
+    ran++;
+    if (answer == expected &&
+        (runs[c] || (memcmp(found, list, count * sizeof list[0]) == 0 &&
+                     list_supports(area + GUARD, words, found, count))))
+        return;
+    differs();
+    printf("sequence %u, why it has no run: expected %" PRIx64
+           " and these members, answered %" PRIx64 "\n",
+           (unsigned)c, expected, answer);
+}
+
+static void ask_why_all(void)
+{
+    uint32_t c;
+    for (c = 0; c < dues; c++)
+        runs[c] = due[c][RUN] != 0;
+    for (c = 0; c < dues; c++)
+        ask_why(c);
+}
+
+/* Ends a library, and holds the calls on it to what is expected. */
 static void judge(void)
 {
     uint64_t answer;
@@ -326,6 +361,7 @@ static void judge(void)
         holds("these are no outcomes", possible(due[i]));
     compare_cards();
     ask_all();
+    ask_why_all();
     kept(library);
 }
 
