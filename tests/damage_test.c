@@ -14,15 +14,19 @@
  * the rule before document 02's request 6 is tried: both get refusal 2.
  *
  * The answers are held against each other: a refusal of the image is the same
- * from all three calls that take one, the card and the chains of a sequence say
- * the same, and each chain is of links that there can be. The list call is held
- * against a plain loop over bits (list_model.h), over random words and over the
- * cards of random libraries; of the breaks that list_test names it reported all
- * but that of a member's low byte.
+ * from all calls that take one, the card and the chains of a sequence say the
+ * same, and each chain is of links that there can be. Why a sequence has no run
+ * is asked of each: 16 where the card says that it has one, otherwise the list
+ * of those whose cards say that they have none and that plain rounds over the
+ * words reach (listed.h); numbers and areas are random too. The list call is
+ * held against a plain loop over bits (list_model.h), over random words and
+ * over the cards of random libraries; of the breaks that list_test names it
+ * reported all but that of a member's low byte.
  */
 #define _DEFAULT_SOURCE 1
 #include "harness.h"
 #include "list_model.h"
+#include "listed.h"
 #include "samples.h"
 #include "setup.h"
 
@@ -52,12 +56,14 @@ enum {
     IMAGE_BYTES = 36864,
     CARD_BYTES = 28672,
     CHAIN_BYTES = 4096,
+    WHY_BYTES = 4096,
     LIST_BYTES = 4096,
     ONE_CARD_BYTES = 4096
 };
 static unsigned char *image_pages[2];
 static unsigned char *card_pages[2];
 static unsigned char *chain_pages[2];
+static unsigned char *why_pages[2];
 static unsigned char *list_pages[2];
 static unsigned char *one_card_pages[2];
 
@@ -212,6 +218,36 @@ static uint64_t chain(uint64_t sequence, uint64_t question, uint64_t fact,
     return answer[0];
 }
 
+static uint32_t found_why[DULIMOVEN_MOST_ENDLESS_WORDS];
+
+static uint64_t endless(uint64_t sequence, size_t length)
+{
+    uint64_t answer[2];
+    unsigned char *lent[2];
+    size_t bytes = length * sizeof(uint32_t);
+    size_t written[2];
+    int which;
+    for (which = 0; which < 2; which++) {
+        lent[which] = lend(why_pages, which, WHY_BYTES, bytes);
+        answer[which] =
+            dulimoven_endless(lend_image(which), words, sequence,
+                              (uint32_t *)(void *)lent[which], length);
+        image_stays(which);
+        written[which] = 0;
+        if (!dulimoven_is_refusal(answer[which]))
+            written[which] = answer[which] * sizeof(uint32_t);
+        holds("more members than the area has room for",
+              written[which] <= bytes);
+        if (written[which] <= bytes)
+            area_stays(lent[which], which, written[which], bytes);
+    }
+    holds("why there is no run is two things",
+          answer[0] == answer[1] && memcmp(lent[0], lent[1], bytes) == 0);
+    if (written[0] <= bytes && written[0] <= sizeof found_why)
+        memcpy(found_why, lent[0], written[0]);
+    return answer[0];
+}
+
 /* Lends a copy of `bytes` bytes that a call may only read. */
 static unsigned char *lend_copy(unsigned char *const both[2], int which,
                                 size_t bytes, const void *given, size_t length)
@@ -360,6 +396,66 @@ static void agree(uint64_t sequence, uint64_t fact, uint32_t sequences)
               (has[3] || has[4] || has[5]) == run);
 }
 
+/* The answers to why there is no run so far: a list, 9, 16 and 17. */
+static unsigned reasons[4];
+
+static void count_reason(uint64_t answer)
+{
+    static const uint32_t numbers[4] = {0, 9, 16, 17};
+    unsigned i;
+    for (i = 0; i < 4; i++)
+        reasons[i] += dulimoven_refusal_of(answer) == numbers[i];
+}
+
+/* Which sequences have a run, as the cards say that were found last. */
+static void read_runs(unsigned char *runs, uint32_t sequences)
+{
+    uint32_t c;
+    for (c = 0; c < sequences; c++)
+        runs[c] = (unsigned char)dulimoven_has_run(
+            found_cards + (size_t)DULIMOVEN_CARD_WORDS * c);
+}
+
+/*
+ * Why a sequence has no run, in an area of `length` words, held against the
+ * cards and the words. No number is out of range.
+ */
+static void why(uint64_t sequence, size_t length, uint32_t sequences)
+{
+    unsigned char runs[DULIMOVEN_MOST_SEQUENCES];
+    uint32_t list[DULIMOVEN_MOST_SEQUENCES];
+    uint64_t answer = endless(sequence, length);
+    size_t count;
+    count_reason(answer);
+    if (sequence >= sequences) {
+        holds("why, of no sequence", answer == REFUSED(9, 0));
+        return;
+    }
+    read_runs(runs, sequences);
+    count = list_of(area + GUARD, words, runs, (uint32_t)sequence, list);
+    if (runs[sequence])
+        holds("why, and the card has a run", answer == REFUSED(16, 0));
+    else if (count > length)
+        holds("why, in too short an area", answer == REFUSED(17, 0));
+    else
+        holds("why, and another list by the cards and the words",
+              answer == count &&
+                  memcmp(found_why, list, count * sizeof list[0]) == 0 &&
+                  list_supports(area + GUARD, words, found_why, count));
+}
+
+/* Why, of all sequences: with room for each, for all but one, and for none. */
+static void why_all(uint32_t sequences)
+{
+    uint32_t c;
+    for (c = 0; c <= sequences; c++) {
+        why(c, sequences, sequences);
+        why(c, sequences == 0 ? 0 : sequences - 1, sequences);
+        why(c, 0, sequences);
+    }
+    why(UINT64_C(0x100000000), sequences, sequences);
+}
+
 /* The calls over the image under test. Answers what the check does. */
 static uint64_t all_calls(const char *name)
 {
@@ -377,6 +473,9 @@ static uint64_t all_calls(const char *name)
             holds("the chain refuses otherwise",
                   chain(question % 4, question, question % 3, 8) == answer);
         holds("the chain refuses otherwise", chain(far, 0, 0, 0) == answer);
+        holds("why is refused otherwise",
+              endless(0, 8) == answer && endless(2, 0) == answer &&
+                  endless(far, 1) == answer);
         return answer;
     }
     f = dulimoven_facts(answer);
@@ -396,6 +495,7 @@ static uint64_t all_calls(const char *name)
     for (question = 0; question <= 6; question++)
         holds("no such sequence", chain(c, question, 0, 2) == REFUSED(9, 0));
     holds("a long sequence", chain(far, 0, 0, 2) == REFUSED(9, 0));
+    why_all(c);
     return answer;
 }
 
@@ -713,6 +813,22 @@ static void lists_of_library(uint32_t facts, uint32_t sequences)
 }
 
 /*
+ * Why, of random numbers and with areas of random length, over the cards of the
+ * library under test.
+ */
+static void random_reasons(uint32_t sequences)
+{
+    unsigned n;
+    for (n = 0; n < 8; n++) {
+        uint32_t form = below(8);
+        uint64_t sequence = form < 6    ? below(sequences + 2)
+                            : form == 6 ? UINT64_C(1) << below(64)
+                                        : random_bits();
+        why(sequence, below(2 * sequences + 2), sequences);
+    }
+}
+
+/*
  * A word of a random card: of few bits, of many, or any. A bit that a list has
  * must be one that all members have, or that many of them let pass.
  */
@@ -779,8 +895,10 @@ static void lists(void)
 static void all_answers(void)
 {
     unsigned i;
-    for (i = 0; i < 4; i++)
+    for (i = 0; i < 4; i++) {
         holds("an answer of the list call is rare", listed[i] >= 50);
+        holds("an answer to why there is no run is rare", reasons[i] >= 50);
+    }
 }
 
 /*
@@ -811,6 +929,7 @@ static void libraries(void)
         holds("a library is refused",
               all_calls("a random library") == ACCEPTED(f, a, c));
         lists_of_library(f, c);
+        random_reasons(c);
         *word_at(below((uint32_t)words - 1)) ^= 1u << below(32);
         sum_again();
         all_calls("a damaged random library");
@@ -824,6 +943,7 @@ int main(void)
         image_pages[which] = pages(IMAGE_BYTES);
         card_pages[which] = pages(CARD_BYTES);
         chain_pages[which] = pages(CHAIN_BYTES);
+        why_pages[which] = pages(WHY_BYTES);
         list_pages[which] = pages(LIST_BYTES);
         one_card_pages[which] = pages(ONE_CARD_BYTES);
     }

@@ -10,7 +10,7 @@
  * image and a question lead to. Tried are L, L with each word in each kind, a
  * step that clears what it sets, the largest libraries that there can be, and
  * all questions; lists of none, one and the most sequences, and each refusal of
- * a list.
+ * a list; why sequences have no run, where they do and where they do not.
  */
 #define _POSIX_C_SOURCE 200809L
 #include "harness.h"
@@ -20,12 +20,21 @@
 #include <stdlib.h>
 
 /* What is measured: a call, for a chain with its question, for a list with its
- * length and the sequences that there are. */
-enum call { CHECK_CALL, CARDS_CALL, CHAIN_CALL, LIST_CALL, CALLS };
+ * length and the sequences that there are, for why there is no run with the
+ * sequence. */
+enum call {
+    CHECK_CALL,
+    CARDS_CALL,
+    CHAIN_CALL,
+    LIST_CALL,
+    ENDLESS_CALL,
+    CALLS
+};
 static enum call measured;
 static uint64_t question;
 static uint64_t sequences;
 static size_t members;
+static uint64_t asked;
 
 static const struct {
     const char *name;
@@ -33,17 +42,19 @@ static const struct {
 } calls[CALLS] = {{"dulimoven_check", DULIMOVEN_STACK_CHECK},
                   {"dulimoven_cards", DULIMOVEN_STACK_CARDS},
                   {"dulimoven_chain", DULIMOVEN_STACK_CHAIN},
-                  {"dulimoven_list", DULIMOVEN_STACK_LIST}};
+                  {"dulimoven_list", DULIMOVEN_STACK_LIST},
+                  {"dulimoven_endless", DULIMOVEN_STACK_ENDLESS}};
 static size_t most_taken[CALLS];
 
-/* Calls on the image under test, a list on the cards that were filled last.
- * Sequence and fact 0 are asked about. */
+/* Calls on the image under test, a list on the cards that were filled last. A
+ * chain is asked about sequence and fact 0. */
 static void make_call(void)
 {
     static uint64_t cards[DULIMOVEN_MOST_CARD_WORDS];
     static uint32_t chain[DULIMOVEN_MOST_CHAIN_WORDS];
     static uint32_t list[DULIMOVEN_MOST_LIST + 1];
     static uint64_t card[DULIMOVEN_CARD_WORDS];
+    static uint32_t why[DULIMOVEN_MOST_ENDLESS_WORDS];
     const uint32_t *image = area + GUARD;
     if (measured == CHECK_CALL)
         dulimoven_check(image, words);
@@ -52,6 +63,8 @@ static void make_call(void)
     else if (measured == LIST_CALL)
         dulimoven_list(MOST_F, sequences, cards, COUNT(cards), list, members,
                        card);
+    else if (measured == ENDLESS_CALL)
+        dulimoven_endless(image, words, asked, why, COUNT(why));
     else
         dulimoven_chain(image, words, 0, question, 0, chain, COUNT(chain));
 }
@@ -113,6 +126,9 @@ static void measure_calls(void)
     sequences = MOST_C;
     for (members = 0; members <= 1; members++)
         measure_in_thread();
+    measured = ENDLESS_CALL;
+    for (asked = 0; asked <= 3; asked++)
+        measure_in_thread();
 }
 
 /* The longest list, and refusals 14, 15 and 8. */
@@ -127,6 +143,29 @@ static void long_lists(void)
             sequences = counts[i];
             measure_in_thread();
         }
+}
+
+/* The longest lists of sequences without a run: a ring of 256, and one in which
+ * each calls the next 29, which is nearly 8,192 words. */
+static void long_reasons(void)
+{
+    enum { NEXT = 29 };
+    static uint32_t all[MOST_C];
+    uint32_t c, i, calls;
+    for (calls = 1; calls <= NEXT; calls += NEXT - 1) {
+        start();
+        put(HEAD(1, 0, MOST_C));
+        for (c = 0; c < MOST_C; c++) {
+            put(SEQUENCE(c));
+            put(ALTERNATIVE);
+            for (i = 1; i <= calls; i++)
+                put(CALL((c + i) % MOST_C));
+        }
+        put_sum();
+        hold("a list of 256",
+             dulimoven_endless(area + GUARD, words, 0, all, MOST_C) == MOST_C);
+        measure_calls();
+    }
 }
 
 /*
@@ -199,6 +238,7 @@ int main(void)
     large(1);
     large(255);
     long_lists();
+    long_reasons();
     for (call = 0; call < CALLS; call++) {
         printf("%s takes %zu bytes of stack, and may take %zu\n",
                calls[call].name, most_taken[call], calls[call].allowed);

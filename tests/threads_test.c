@@ -12,8 +12,9 @@
 
 #include <pthread.h>
 
-/* The libraries: L, and a ring of sequences, each of which calls the next. */
-enum { LIBRARIES = 2, RING = 100, RING_WORDS = 5 + 5 * RING + 1, BEGINS = 16 };
+/* The libraries: L, a ring of sequences, each of which calls the next or does a
+ * step, and the same ring without the steps, so that none has a run. */
+enum { LIBRARIES = 3, RING = 100, RING_WORDS = 5 + 5 * RING + 1, BEGINS = 16 };
 static struct library {
     uint32_t image[RING_WORDS];
     size_t words;
@@ -28,6 +29,7 @@ struct lent {
     uint32_t chain[BEGINS + RING * DULIMOVEN_LINK_WORDS];
     uint32_t list[BEGINS + DULIMOVEN_MOST_LIST];
     uint64_t card[BEGINS + DULIMOVEN_CARD_WORDS];
+    uint32_t why[BEGINS + RING];
 };
 
 /* One number for all numbers so far: each counts, and so does its place. */
@@ -63,6 +65,25 @@ static uint64_t lists(const struct library *library, struct lent *lent)
     return fold;
 }
 
+/* Why each sequence has no run, and of the next that there is none. */
+static uint64_t reasons(const uint32_t *image, const struct library *library,
+                        struct lent *lent)
+{
+    uint32_t *why = lent->why + lent->begin;
+    uint64_t fold = 0, sequence, answer;
+    size_t i;
+    for (sequence = 0; sequence <= library->sequences; sequence++) {
+        answer = dulimoven_endless(image, library->words, sequence, why,
+                                   library->sequences);
+        fold = folded(fold, answer);
+        for (i = 0; i < answer && i < library->sequences &&
+                    !dulimoven_is_refusal(answer);
+             i++)
+            fold = folded(fold, why[i]);
+    }
+    return fold;
+}
+
 /* All answers and all words that the calls write for an image, as a number. */
 static uint64_t answers(const uint32_t *image, const struct library *library,
                         struct lent *lent)
@@ -79,6 +100,7 @@ static uint64_t answers(const uint32_t *image, const struct library *library,
     for (i = 0; i < card_words; i++)
         fold = folded(fold, cards[i]);
     fold = folded(fold, lists(library, lent));
+    fold = folded(fold, reasons(image, library, lent));
     for (sequence = 0; sequence < library->sequences; sequence++)
         for (question = 0; question <= DULIMOVEN_FIRST_UNTOUCHED; question++) {
             answer = dulimoven_chain(image, library->words, sequence, question,
@@ -131,8 +153,9 @@ static void take(struct library *library)
     library->sequences = dulimoven_sequences(accepted);
 }
 
-/* Sequence c is <sequence c + 1> or <step c % 2>; step 0 sets, 1 clears. */
-static void build_ring(void)
+/* Sequence c is <sequence c + 1> or <step c % 2>; step 0 sets, 1 clears. Where
+ * there is no way out, it is the first of these alone. */
+static void build_ring(int way_out)
 {
     uint32_t c;
     start();
@@ -145,6 +168,8 @@ static void build_ring(void)
         put(SEQUENCE(c));
         put(ALTERNATIVE);
         put(CALL((c + 1) % RING));
+        if (!way_out)
+            continue;
         put(ALTERNATIVE);
         put(DO(c % 2));
     }
@@ -156,8 +181,13 @@ int main(void)
     size_t i;
     build(library_l, L_SUM);
     take(libraries);
-    build_ring();
+    build_ring(1);
     take(libraries + 1);
+    build_ring(0);
+    take(libraries + 2);
+    hold("the ring without a way out has no run",
+         dulimoven_endless(libraries[2].image, libraries[2].words, 0, NULL,
+                           0) == REFUSED(17, 0));
     for (i = 0; i < LIBRARIES; i++)
         expected[i] = answers(libraries[i].image, libraries + i,
                               &workers[0].lent);
