@@ -1,7 +1,8 @@
 /*
  * Prints the cards of a library image in words, and behind a card why it does
  * not say "always": for the facts that the sequence may need, set or clear and
- * does not always, how a run comes to do otherwise.
+ * does not always, how a run comes to do otherwise. Behind "no run" stands why
+ * there is none: the sequences that keep it from one.
  *
  *     rt staticlib dulimoven
  *     gcc -Iinclude examples/show_cards.c \
@@ -24,6 +25,10 @@
  *
  * Where an alternative leaves the fact untouched and checks it, the line says
  * so: it is taken only where the fact stands.
+ *
+ * A sequence without a run is listed with those without a run that it reaches.
+ * Each of their alternatives calls one of them, so that none is the first to
+ * have a run; which have no alternative at all is said too.
  *
  * A file that cannot be read, and an image that is refused, get a line on
  * standard error and exit status 1.
@@ -144,6 +149,16 @@ static int is_entry(uint32_t word)
            kind_of(word) == DULIMOVEN_KIND_CHECK;
 }
 
+/* The word after the opener of a sequence. */
+static const uint32_t *body_of(uint32_t sequence)
+{
+    const uint32_t *word = image;
+    while (kind_of(*word) != DULIMOVEN_KIND_SEQUENCE ||
+           number_of(*word) != sequence)
+        word++;
+    return word + 1;
+}
+
 /* Entries in a row. */
 struct entries {
     const uint32_t *begin, *end;
@@ -153,11 +168,8 @@ struct entries {
 static struct entries entries_of(const uint32_t *link)
 {
     struct entries entries;
-    const uint32_t *word = image;
+    const uint32_t *word = body_of(dulimoven_link_sequence(link));
     uint32_t alternatives = dulimoven_link_alternative(link) + 1;
-    while (kind_of(*word) != DULIMOVEN_KIND_SEQUENCE ||
-           number_of(*word) != dulimoven_link_sequence(link))
-        word++;
     for (; alternatives > 0; word++)
         if (kind_of(*word) == DULIMOVEN_KIND_ALTERNATIVE)
             alternatives--;
@@ -424,6 +436,46 @@ static void print_reasons(uint32_t sequence, const struct column *column)
             print_reason(reasons + fact, column->always, missing);
 }
 
+static int has_alternative(uint32_t sequence)
+{
+    return kind_of(*body_of(sequence)) == DULIMOVEN_KIND_ALTERNATIVE;
+}
+
+/* Which of the listed sequences have no alternative. */
+static void print_without(const uint32_t *list, uint64_t count)
+{
+    uint64_t i;
+    int without = 0;
+    for (i = 0; i < count; i++)
+        if (!has_alternative(list[i])) {
+            printf(without == 0 ? "; %u" : " %u", list[i]);
+            without++;
+        }
+    if (without != 0)
+        printf(without == 1 ? " has none" : " have none");
+}
+
+/* Why a sequence has no run: the list of those that keep it from one. */
+static void print_why(uint32_t sequence)
+{
+    uint32_t list[DULIMOVEN_MOST_ENDLESS_WORDS];
+    uint64_t count = dulimoven_endless(image, words, sequence, list,
+                                       DULIMOVEN_MOST_ENDLESS_WORDS);
+    uint64_t i;
+    if (count == 1) {
+        printf(has_alternative(sequence)
+                   ? "  it calls itself in each of its alternatives\n"
+                   : "  it has no alternative\n");
+        return;
+    }
+    printf("  each alternative of the sequences");
+    for (i = 0; i < count; i++)
+        printf(" %u", list[i]);
+    printf(" calls one of them");
+    print_without(list, count);
+    printf("\n");
+}
+
 /* A column of a card, where it has a fact. */
 static void print_column(const uint64_t *card, int column)
 {
@@ -479,6 +531,8 @@ int main(int count, char **arguments)
     dulimoven_cards(image, words, cards, DULIMOVEN_MOST_CARD_WORDS);
     for (sequence = 0; sequence < dulimoven_sequences(checked); sequence++) {
         print_card(sequence);
+        if (!dulimoven_has_run(card_of(sequence)))
+            print_why(sequence);
         for (column = 0; column < COLUMNS; column++)
             print_reasons(sequence, columns + column);
     }

@@ -29,6 +29,7 @@
 #include "listed.h"
 #include "samples.h"
 #include "setup.h"
+#include "ten.h"
 
 #include <stdlib.h>
 #include <sys/mman.h>
@@ -535,7 +536,8 @@ static void make_pulse(void)
 
 /*
  * An image of examples/: its words without the sum word, and the answer of the
- * check; its sum word, and the one that it had by the rule before.
+ * check; its sum word, and the one that it had by the rule before, or would
+ * have had.
  */
 struct example {
     const char *name;
@@ -553,6 +555,8 @@ static const struct example examples[] = {
      0xf0100234},
     {"skip.image", skip, COUNT(skip), ACCEPTED(3, 4, 4), 0xf288d473,
      0xf0100229},
+    {"endless.image", ten, TEN_SUM, ACCEPTED(1, 1, TEN), 0xf74ba05b,
+     0xf02800ea},
     {"pulse.image", pulse, COUNT(pulse), REFUSED(13, CLEAR), 0xf2779ad7,
      0xf010022a},
     {"refused.image", refused, COUNT(refused), REFUSED(5, 8), 0xf273d2a5,

@@ -28,6 +28,7 @@
 #include "listed.h"
 #include "pulses.h"
 #include "samples.h"
+#include "ten.h"
 
 /*
  * The area under test, with guard words on both sides, and what it has to be
@@ -146,55 +147,13 @@ static void samples(void)
     refuses("no fact", 0, REFUSED(3, 0));
 }
 
-/*
- * Ten sequences; step 0 sets fact 0.
- *
- * The sum word: taken 44 times for the head, 43 times for the next word and so
- * on to once for the last, the payloads after the head's add up to 1583, and
- * the kinds to 6881: 44 * 0x280081 + 1583 + 1024 * 6881 = 0x74ba05b.
- */
-static const uint32_t ten[] = {
-    0x10280081, 0x50000000, 0x30000000,
-    /* 0 is <3, set>, <set, 1> */
-    0x60000000, 0x70000000, 0x90000003, 0x80000000,
-    0x70000000, 0x80000000, 0x90000001,
-    /* 1 is <0> */
-    0x60000001, 0x70000000, 0x90000000,
-    /* 2 is <2>, <> */
-    0x60000002, 0x70000000, 0x90000002, 0x70000000,
-    /* 3 has no alternative */
-    0x60000003,
-    /* 4 is <2, 4> */
-    0x60000004, 0x70000000, 0x90000002, 0x90000004,
-    /* 5 is <6, 5> */
-    0x60000005, 0x70000000, 0x90000006, 0x90000005,
-    /* 6 is <7>, <check 0> */
-    0x60000006, 0x70000000, 0x90000007, 0x70000000, 0xd0000000,
-    /* 7 is <7> */
-    0x60000007, 0x70000000, 0x90000007,
-    /* 8 is <9, 1> */
-    0x60000008, 0x70000000, 0x90000009, 0x90000001,
-    /* 9 is <3>, <7, set> */
-    0x60000009, 0x70000000, 0x90000003, 0x70000000, 0x90000007, 0x80000000,
-    0xf74ba05b};
-
+/* The library of ten.h, its words as printed and by name. */
 static void ten_sequences(void)
 {
     uint32_t c;
-    build(ten, COUNT(ten) - 1);
-    hold("the sum word of ten sequences",
-         *word_at(words - 1) == ten[COUNT(ten) - 1]);
-    BUILD(HEAD(1, 1, 10), STEP(0), SETS(0),
-          SEQUENCE(0), ALTERNATIVE, CALL(3), DO(0), ALTERNATIVE, DO(0), CALL(1),
-          SEQUENCE(1), ALTERNATIVE, CALL(0),
-          SEQUENCE(2), ALTERNATIVE, CALL(2), ALTERNATIVE,
-          SEQUENCE(3),
-          SEQUENCE(4), ALTERNATIVE, CALL(2), CALL(4),
-          SEQUENCE(5), ALTERNATIVE, CALL(6), CALL(5),
-          SEQUENCE(6), ALTERNATIVE, CALL(7), ALTERNATIVE, CHECK(0),
-          SEQUENCE(7), ALTERNATIVE, CALL(7),
-          SEQUENCE(8), ALTERNATIVE, CALL(9), CALL(1),
-          SEQUENCE(9), ALTERNATIVE, CALL(3), ALTERNATIVE, CALL(7), DO(0));
+    build(ten, TEN_SUM);
+    hold("the sum word of ten sequences", *word_at(TEN_SUM) == ten[TEN_SUM]);
+    BUILD(TEN_WORDS);
     hold("the builder's words are those",
          words == COUNT(ten) && memcmp(word_at(0), ten, sizeof ten) == 0);
     /* 3 has nothing to choose; 0 waits for 3 and 1, and 1 for 0 */
@@ -214,8 +173,8 @@ static void ten_sequences(void)
     /* 1 is reached though 9 stands before it, and by it 0 and 3 */
     LISTED("ten", 8, 0, 1, 3, 7, 8, 9);
     LISTED("ten", 9, 3, 7, 9);
-    refuses("ten", 10, REFUSED(9, 0));
-    for (c = 0; c < 10; c++)
+    refuses("ten", TEN, REFUSED(9, 0));
+    for (c = 0; c < TEN; c++)
         refuses("ten, a long number", UINT64_C(0x100000000) + c,
                 REFUSED(9, 0));
 }
@@ -230,7 +189,7 @@ static void property(void)
     static const struct {
         const char *name;
         size_t count;
-        uint32_t list[10];
+        uint32_t list[TEN];
         int supports;
     } lists[] = {{"all without a run", 8, {0, 1, 3, 4, 5, 7, 8, 9}, 1},
                  {"in another order, with repeats", 4, {7, 4, 5, 7}, 1},
@@ -243,7 +202,7 @@ static void property(void)
                  {"2, of which one alternative names 2", 1, {2}, 0},
                  {"6, of which one alternative checks", 3, {5, 6, 7}, 0}};
     size_t i;
-    build(ten, COUNT(ten) - 1);
+    build(ten, TEN_SUM);
     for (i = 0; i < COUNT(lists); i++)
         hold(lists[i].name,
              list_supports(area + GUARD, words, lists[i].list,

@@ -8,6 +8,7 @@
 #include "harness.h"
 #include "samples.h"
 #include "setup.h"
+#include "ten.h"
 
 static const char *folder;
 
@@ -163,6 +164,23 @@ static void write_many(void)
 }
 
 /*
+ * endless: ten.h. waits: 0 waits for 1 or 2, which have no alternative; 3 and 4
+ * wait for each other.
+ */
+static void write_endless(void)
+{
+    BUILD(TEN_WORDS);
+    write_image("endless");
+    BUILD(HEAD(1, 0, 5),
+          SEQUENCE(0), TAKES(CALL(1)), TAKES(CALL(2)),
+          SEQUENCE(1),
+          SEQUENCE(2),
+          SEQUENCE(3), TAKES(CALL(4)), TAKES(CALL(4), CALL(3)),
+          SEQUENCE(4), TAKES(CALL(3)));
+    write_image("waits");
+}
+
+/*
  * One step that sets the facts whose bits make up fedcba in hexadecimal: a is
  * bits 1 and 3, b bits 4, 5 and 7, c bits 10 and 11, d bits 12, 14 and 15, e
  * bits 17, 18 and 19, f bits 20 to 23.
@@ -222,6 +240,7 @@ int main(int count, char **arguments)
     write_calls();
     write_checks();
     write_many();
+    write_endless();
     letters_image();
     twelve_image();
     full_image();
