@@ -1,9 +1,9 @@
 /*
- * The benchmark: the library's check, cards, chain and list beside the engines
- * in C, over the generator's shapes. First each answer and each word written is
- * compared, and a difference is an error; then each call is timed. The engines
- * take turns, so that other work on the machine meets all alike, and each time
- * is the median of many.
+ * The benchmark: the library's check, cards, chain, list and why there is no
+ * run beside the engines in C, over the generator's shapes. First each answer
+ * and each word written is compared, and a difference is an error; then each
+ * call is timed. The engines take turns, so that other work on the machine
+ * meets all alike, and each time is the median of many.
  */
 #define _POSIX_C_SOURCE 199309L
 #include "bench.h"
@@ -25,10 +25,13 @@ static chain_call *const chains[ENGINES] = {dulimoven_chain, NULL, plain_chain,
                                             tuned_chain};
 static list_call *const lists[ENGINES] = {dulimoven_list, NULL, plain_list,
                                           NULL};
+static endless_call *const reasons[ENGINES] = {dulimoven_endless, NULL,
+                                               plain_endless, tuned_endless};
 
 static uint64_t card_area[ENGINES][CARD * MOST_SEQUENCES];
 static uint32_t chain_area[ENGINES][2 * MOST_SEQUENCES];
 static uint64_t list_area[ENGINES][CARD];
+static uint32_t endless_area[ENGINES][MOST_SEQUENCES];
 
 /* What the list call is lent: the cards of a shape, and members. */
 static uint64_t lent_cards[CARD * MOST_SEQUENCES];
@@ -37,7 +40,7 @@ static uint32_t lent_list[DULIMOVEN_MOST_LIST];
 /* The call that is timed. */
 struct timed {
     const struct shape *shape;
-    enum { CHECK, CARDS, CHAIN, LIST } call;
+    enum { CHECK, CARDS, CHAIN, LIST, ENDLESS } call;
     uint64_t sequence, question, fact;
     size_t members;
 };
@@ -56,6 +59,9 @@ static uint64_t run(const struct timed *t, int engine)
         return lists[engine](facts_of(image[0]), sequences_of(image[0]),
                              lent_cards, (size_t)CARD * sequences_of(image[0]),
                              lent_list, t->members, list_area[engine]);
+    case ENDLESS:
+        return reasons[engine](image, length, t->sequence, endless_area[engine],
+                               MOST_SEQUENCES);
     default:
         return chains[engine](image, length, t->sequence, t->question, t->fact,
                               chain_area[engine], 2 * MOST_SEQUENCES);
@@ -92,10 +98,20 @@ static int same_words(const struct timed *t, int engine)
     case LIST:
         return memcmp(list_area[engine], list_area[LIBRARY],
                       sizeof list_area[engine]) == 0;
+    case ENDLESS:
+        return memcmp(endless_area[engine], endless_area[LIBRARY],
+                      sizeof endless_area[engine]) == 0;
     default:
         return memcmp(chain_area[engine], chain_area[LIBRARY],
                       sizeof chain_area[engine]) == 0;
     }
+}
+
+/* Whether a call may be refused so: with 16, where a sequence has a run. */
+static int may_answer(const struct timed *t, uint64_t answer)
+{
+    return answer >> 32 == 0 ||
+           (t->call == ENDLESS && answer >> 32 == DULIMOVEN_HAS_RUN);
 }
 
 /* Compares the engines' answers and the words that they write. */
@@ -106,11 +122,12 @@ static void verify(const struct timed *t)
     memset(card_area, 0xa5, sizeof card_area);
     memset(chain_area, 0xa5, sizeof chain_area);
     memset(list_area, 0xa5, sizeof list_area);
+    memset(endless_area, 0xa5, sizeof endless_area);
     for (e = 0; e < ENGINES; e++) {
         if (!has(t, e))
             continue;
         answer[e] = run(t, e);
-        if (answer[e] != answer[LIBRARY] || answer[e] >> 32 != 0 ||
+        if (answer[e] != answer[LIBRARY] || !may_answer(t, answer[e]) ||
             !same_words(t, e)) {
             printf("%s: engine %d differs in call %d, sequence %" PRIu64
                    ", question %" PRIu64 ", fact %" PRIu64 ": %" PRIx64
@@ -198,9 +215,10 @@ static void card_row(const struct shape *shape)
 
 /*
  * All questions on the facts 0, F/2 and F-1 of the sequences 0, C/2 and C-1,
- * and the fact and the sequence that are a third of the way up.
+ * and the fact and the sequence that are a third of the way up. Answers what
+ * the library takes for the median question.
  */
-static void chain_row(const struct shape *shape)
+static double chain_row(const struct shape *shape, int shown)
 {
     static double us[ENGINES][96];
     uint32_t head = shape->words[0];
@@ -230,6 +248,8 @@ static void chain_row(const struct shape *shape)
             }
     for (e = 0; e < ENGINES; e++)
         middle[e] = median(us[e], n);
+    if (!shown)
+        return middle[LIBRARY];
     printf("%-22s %5zu %3d %4" PRIu64
            " | %8.2f %8.2f %8.2f %5.2f %5.2f | %8.2f %8.2f %8.2f %5.2f %5.2f |"
            " %5.2f %5.2f\n",
@@ -239,6 +259,50 @@ static void chain_row(const struct shape *shape)
            us[PLAIN][n - 1], us[TUNED][n - 1],
            us[PLAIN][n - 1] / us[LIBRARY][n - 1],
            us[LIBRARY][n - 1] / us[TUNED][n - 1], to_plain, to_tuned);
+    fflush(stdout);
+    return middle[LIBRARY];
+}
+
+/* The first sequence without a run, or 0, where there is none. */
+static uint32_t first_endless(const struct shape *shape)
+{
+    uint32_t c, sequences = sequences_of(shape->words[0]);
+    dulimoven_cards(shape->words, shape->length, lent_cards,
+                    CARD * MOST_SEQUENCES);
+    for (c = 0; c < sequences; c++)
+        if (!dulimoven_has_run(lent_cards + CARD * c))
+            return c;
+    return 0;
+}
+
+/*
+ * Why a sequence without a run has none; of a shape that has no such sequence
+ * sequence 0 gets 16. Beside the check, the cards, and the median question of
+ * a chain, which is `question` microseconds.
+ */
+static void endless_row(const struct shape *shape, double question)
+{
+    struct timed check = {shape, CHECK, 0, 0, 0, 0};
+    struct timed call = {shape, CARDS, 0, 0, 0, 0};
+    struct timed t = {shape, ENDLESS, first_endless(shape), 0, 0, 0};
+    double us[ENGINES], c[ENGINES], all[ENGINES];
+    uint64_t answer;
+    char list[16];
+    verify(&t);
+    answer = run(&t, LIBRARY);
+    snprintf(list, sizeof list, "%u%s",
+             (unsigned)(answer >> 32 == 0 ? answer : answer >> 32),
+             answer >> 32 == 0 ? "" : "!");
+    measure(&t, 5e5, 9, us);
+    measure(&check, 2e5, 5, c);
+    measure(&call, 2e5, 5, all);
+    printf("%-22s %5zu %4u %4s | %8.2f %8.2f %8.2f %5.2f %5.2f | %6.2f %6.2f |"
+           " %8.2f %6.2f | %8.2f %6.2f\n",
+           shape->name, shape->length, (unsigned)t.sequence, list, us[LIBRARY],
+           us[PLAIN], us[TUNED], us[PLAIN] / us[LIBRARY],
+           us[LIBRARY] / us[TUNED], c[LIBRARY], us[LIBRARY] / c[LIBRARY],
+           question, us[LIBRARY] / question, all[LIBRARY],
+           us[LIBRARY] / all[LIBRARY]);
     fflush(stdout);
 }
 
@@ -320,9 +384,11 @@ static void growth(const struct shape *shapes)
 
 int main(void)
 {
-    static struct shape shapes[SHAPES], sizes[GROWTH];
+    static struct shape shapes[SHAPES], sizes[GROWTH], rings[RINGS];
+    double question[SHAPES];
     int i;
     write_shapes(shapes);
+    write_rings(rings);
     write_growth(sizes);
     printf("Microseconds, medians of many calls, the engines in turns. paper: "
            "the algorithms of 001, fact by\nfact; plain: columns with plain "
@@ -345,7 +411,21 @@ int main(void)
            "li/tu", "lib", "plain", "tuned", "pl/li", "li/tu", "pl/li",
            "li/tu");
     for (i = 0; i < SHAPES; i++)
-        chain_row(&shapes[i]);
+        question[i] = chain_row(&shapes[i], 1);
+    printf("\nWhy the sequence asked has no run; list: its members, or 16! "
+           "where each sequence has a run;\nbeside the check, the median "
+           "question of the chain and the cards: the library's time, and how\n"
+           "many times that the call takes.\n");
+    printf("%-22s %5s %4s %4s | %-38s | %-13s | %-15s | %-15s\n", "", "", "",
+           "", "why", "check", "chain", "cards");
+    printf("%-22s %5s %4s %4s | %8s %8s %8s %5s %5s | %6s %6s | %8s %6s | "
+           "%8s %6s\n",
+           "shape", "words", "seq", "list", "lib", "plain", "tuned", "pl/li",
+           "li/tu", "lib", "times", "lib", "times", "lib", "times");
+    for (i = 0; i < SHAPES; i++)
+        endless_row(&shapes[i], question[i]);
+    for (i = 0; i < RINGS; i++)
+        endless_row(&rings[i], chain_row(&rings[i], 0));
     printf("\nThe list call, beside a plain fold over the same words and beside "
            "the library's cards of the image.\n");
     printf("%-22s %5s %7s | %-23s | %-17s\n", "", "", "", "list", "cards");

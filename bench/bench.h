@@ -11,7 +11,7 @@
 #include "../tests/second/second.h"
 #include "dulimoven.h"
 
-enum { CARD = DULIMOVEN_CARD_WORDS, SHAPES = 15, GROWTH = 6 };
+enum { CARD = DULIMOVEN_CARD_WORDS, SHAPES = 15, GROWTH = 6, RINGS = 2 };
 
 /* An image of the generator. */
 struct shape {
@@ -20,9 +20,11 @@ struct shape {
     uint32_t words[MOST_WORDS];
 };
 
-/* Writes the shapes, or images like the everyday one of 256 to 8,192 words. */
+/* Writes the shapes, images like the everyday one of 256 to 8,192 words, or
+ * rings of 256 sequences without a way out, in 770 and in 8,192 words. */
 void write_shapes(struct shape shapes[SHAPES]);
 void write_growth(struct shape shapes[GROWTH]);
+void write_rings(struct shape shapes[RINGS]);
 
 /* The calls as the library has them. */
 typedef uint64_t check_call(const uint32_t *image, size_t image_len);
@@ -35,10 +37,14 @@ typedef uint64_t list_call(uint64_t facts, uint64_t sequences,
                            const uint64_t *cards, size_t cards_len,
                            const uint32_t *list, size_t list_len,
                            uint64_t *card);
+typedef uint64_t endless_call(const uint32_t *image, size_t image_len,
+                              uint64_t sequence, uint32_t *area,
+                              size_t area_len);
 
 check_call tuned_check;
 cards_call plain_cards, tuned_cards;
 chain_call plain_chain, tuned_chain;
 list_call plain_list;
+endless_call plain_endless, tuned_endless;
 
 #endif

@@ -365,3 +365,73 @@ uint64_t plain_chain(const uint32_t *image, size_t length, uint64_t sequence,
     }
     return count;
 }
+
+/* Whether an alternative has a run: each of its calls has one. */
+static int gives_run(const uint32_t *image, size_t i, const uint8_t *runs)
+{
+    while (kind_of(image[i]) == KIND_ALTERNATIVE) {
+        int gives = 1;
+        for (i++; is_entry(image[i]); i++)
+            if (kind_of(image[i]) == KIND_SEQUENCE_ENTRY)
+                gives &= runs[payload_of(image[i])];
+        if (gives)
+            return 1;
+    }
+    return 0;
+}
+
+/* The calls without a run of a sequence are found; whether one is new. */
+static int reaches(const uint32_t *image, size_t i, const uint8_t *runs,
+                   uint8_t *found)
+{
+    int changed = 0;
+    for (; in_sequence(image[i]); i++) {
+        uint32_t d = payload_of(image[i]);
+        if (kind_of(image[i]) == KIND_SEQUENCE_ENTRY && !runs[d] && !found[d]) {
+            found[d] = 1;
+            changed = 1;
+        }
+    }
+    return changed;
+}
+
+uint64_t plain_endless(const uint32_t *image, size_t length, uint64_t sequence,
+                       uint32_t *area, size_t area_length)
+{
+    uint64_t answer = second_check(image, length);
+    uint8_t runs[MOST_SEQUENCES] = {0}, found[MOST_SEQUENCES] = {0};
+    uint32_t c, sequences, count = 0;
+    int changed = 1;
+    size_t i;
+    if (answer >> 32 != 0)
+        return answer;
+    sequences = sequences_of(image[0]);
+    if (sequence >= sequences)
+        return refusal(9);
+    for (i = 1; i + 1 < length; i++)
+        if (kind_of(image[i]) == KIND_SEQUENCE)
+            lib.place[payload_of(image[i])] = i + 1;
+    while (changed) {
+        changed = 0;
+        for (c = 0; c < sequences; c++)
+            if (!runs[c] && gives_run(image, lib.place[c], runs))
+                runs[c] = changed = 1;
+    }
+    if (runs[sequence])
+        return refusal(16);
+    found[sequence] = 1;
+    for (changed = 1; changed;) {
+        changed = 0;
+        for (c = 0; c < sequences; c++)
+            if (found[c])
+                changed |= reaches(image, lib.place[c], runs, found);
+    }
+    for (c = 0; c < sequences; c++)
+        count += found[c];
+    if (area_length < count)
+        return refusal(17);
+    for (c = 0, count = 0; c < sequences; c++)
+        if (found[c])
+            area[count++] = c;
+    return count;
+}

@@ -171,13 +171,13 @@ static void chain_steps(void)
         step(a, some(1, 1, 64), some(1, 1, 64), some(1, 1, 64));
 }
 
-enum calls { NEXT, BEFORE, SHUFFLED, NEIGHBOURS, RING, ENDLESS };
+enum calls { NEXT, BEFORE, SHUFFLED, NEIGHBOURS, RING, ENDLESS, NO_WAY_OUT };
 
 /*
  * 8,192 words: 256 sequences, in each of whose alternatives others are called
  * as the shape says. What runs there are, and every touch of fact 0, come from
- * the alternatives of one sequence that call none; of an endless shape no
- * sequence has one.
+ * the alternatives of one sequence that call none; of an endless shape, and of
+ * a ring without a way out, no sequence has one.
  */
 static void calling(struct shape *shape, const char *name, enum calls calls)
 {
@@ -202,7 +202,7 @@ static void calling(struct shape *shape, const char *name, enum calls calls)
     for (c = 0; c < 256; c++) {
         stop = out->length + room() / (256 - c);
         put(KIND_SEQUENCE, c);
-        if (c == base && calls != ENDLESS) {
+        if (c == base && calls < ENDLESS) {
             for (i = 0; i < 3; i++) {
                 put(KIND_ALTERNATIVE, 0);
                 put(KIND_STEP_ENTRY, 3 + below(253));
@@ -222,6 +222,7 @@ static void calling(struct shape *shape, const char *name, enum calls calls)
                 d = n % 2 == 0 ? (c < 255 ? c + 1 : 255) : (c > 0 ? c - 1 : 0);
                 break;
             case RING:
+            case NO_WAY_OUT:
                 d = (c + 1) % 256;
                 break;
             default:
@@ -359,6 +360,25 @@ void write_shapes(struct shape shapes[SHAPES])
     dead_alternatives(&shapes[12], "dead at first entry", 0);
     dead_alternatives(&shapes[13], "dead at middle entry", 20);
     dead_alternatives(&shapes[14], "dead at last entry", 39);
+}
+
+/* Each sequence is an alternative that calls the next, and no more. */
+static void short_ring(struct shape *shape)
+{
+    uint32_t c;
+    begin(shape, "short ring, no way out", 1, 0, 256);
+    for (c = 0; c < 256; c++) {
+        put(KIND_SEQUENCE, c);
+        put(KIND_ALTERNATIVE, 0);
+        put(KIND_SEQUENCE_ENTRY, (c + 1) % 256);
+    }
+    end();
+}
+
+void write_rings(struct shape shapes[RINGS])
+{
+    short_ring(&shapes[0]);
+    calling(&shapes[1], "one ring, no way out", NO_WAY_OUT);
 }
 
 void write_growth(struct shape shapes[GROWTH])

@@ -9,6 +9,9 @@
  * order of a depth-first walk and against it by turns, and only where one that
  * they call has changed. Chain: everything is about one fact, so that counting
  * what each alternative still lacks gives the answer in one walk, by levels.
+ * Why there is no run: an alternative waits at its first call without a run and
+ * goes on from there once that has one; what it names from there on is written
+ * down in the same walk, so that a queue over sets gives what is reached.
  */
 #include "bench.h"
 #include <string.h>
@@ -72,6 +75,9 @@ static size_t steps_end(const uint32_t *image, uint32_t facts, uint32_t steps)
     return i;
 }
 
+/* Where the sequences begin, of the image that was checked last. */
+static size_t sequences_from;
+
 /* Whether the words between head and sum word keep the rules. */
 static int well_formed(const uint32_t *image, size_t length, uint32_t facts,
                        uint32_t steps, uint32_t sequences)
@@ -86,6 +92,7 @@ static int well_formed(const uint32_t *image, size_t length, uint32_t facts,
     const four thirteen_end = all_four(0xd0000000u + facts);
     if (i == 0)
         return 0;
+    sequences_from = i;
     for (c = 0, inside = 0; i + 1 < length; i++) {
         /* four words at a time, where all are alternatives and entries */
         while (inside && i + 4 < length) {
@@ -741,4 +748,128 @@ uint64_t tuned_chain(const uint32_t *image, size_t length, uint64_t sequence,
         return refusal(12);
     write_links(image, first, (uint32_t)(question % 3), depth, links, c, area);
     return links[c];
+}
+
+/*
+ * The alternatives that wait for a sequence to get a run, in a list for each:
+ * the sequence that one is of, where its next entries stand, and the next one.
+ */
+struct waiting {
+    uint16_t at, next;
+    uint8_t owner;
+};
+
+static struct waiting waiting[MOST_WORDS + 1];
+static uint16_t waiting_for[MOST_SEQUENCES];
+static uint32_t waits;
+
+/*
+ * The entries from `at` on. Answers 0 where none is without a run. Otherwise
+ * the alternative waits there, and the answer is where that entry stands.
+ */
+static size_t waits_at(const uint32_t *image, size_t at, const uint8_t *dead,
+                       uint32_t owner)
+{
+    uint32_t w;
+    for (; is_any_entry(w = image[at]); at++) {
+        uint32_t d = w - 0x90000000u;
+        if (d < MOST_SEQUENCES && dead[d]) {
+            struct waiting *x = &waiting[++waits];
+            x->at = (uint16_t)(at + 1);
+            x->owner = (uint8_t)owner;
+            x->next = waiting_for[d];
+            waiting_for[d] = (uint16_t)waits;
+            return at;
+        }
+    }
+    return 0;
+}
+
+/*
+ * Which sequences have no run, in one walk and a queue. Of a sequence that has
+ * none by then the walk writes down what its alternatives name, from the entry
+ * on at which each waits; all before that have a run.
+ */
+static void find_dead(const uint32_t *image, size_t at, uint32_t sequences,
+                      uint8_t *dead)
+{
+    uint8_t queue[MOST_SEQUENCES];
+    uint32_t c, n, from = 0, to = 0;
+    waits = 0;
+    memset(waiting_for, 0, sizeof waiting_for[0] * sequences);
+    memset(calls, 0, sizeof calls[0] * sequences);
+    memset(dead, 1, sequences);
+    for (c = 0; c < sequences; c++) {
+        for (at++; image[at] == 0x70000000u;) {
+            size_t stop = waits_at(image, at + 1, dead, c);
+            uint32_t w;
+            if (stop == 0) {
+                dead[c] = 0;
+                queue[to++] = (uint8_t)c;
+                while (image[at] - 0x70000000u < 0x80000000u)
+                    at++;
+                break;
+            }
+            for (at = stop; is_any_entry(w = image[at]); at++)
+                if (is_call(w))
+                    calls[c][payload_of(w) >> 6] |= UINT64_C(1) << (w & 63);
+        }
+    }
+    while (from < to)
+        for (n = waiting_for[queue[from++]]; n != 0; n = waiting[n].next) {
+            c = waiting[n].owner;
+            if (dead[c] && waits_at(image, waiting[n].at, dead, c) == 0) {
+                dead[c] = 0;
+                queue[to++] = (uint8_t)c;
+            }
+        }
+}
+
+/* Finds what a sequence without a run reaches, as a set; answers how many. */
+static uint32_t find_reached(uint32_t sequences, uint32_t c,
+                             const uint8_t *dead, uint64_t *found)
+{
+    uint64_t left[4] = {0, 0, 0, 0};
+    uint8_t queue[MOST_SEQUENCES];
+    uint32_t from = 0, to = 0, k;
+    for (k = 0; k < sequences; k++)
+        left[k >> 6] |= (uint64_t)dead[k] << (k & 63);
+    queue[to++] = (uint8_t)c;
+    left[c >> 6] ^= UINT64_C(1) << (c & 63);
+    found[c >> 6] |= UINT64_C(1) << (c & 63);
+    while (from < to) {
+        c = queue[from++];
+        for (k = 0; k < 4; k++) {
+            uint64_t fresh = calls[c][k] & left[k];
+            left[k] ^= fresh;
+            found[k] |= fresh;
+            for (; fresh != 0; fresh &= fresh - 1)
+                queue[to++] =
+                    (uint8_t)(64 * k + (uint32_t)__builtin_ctzll(fresh));
+        }
+    }
+    return to;
+}
+
+uint64_t tuned_endless(const uint32_t *image, size_t length, uint64_t sequence,
+                       uint32_t *area, size_t area_length)
+{
+    uint64_t answer = tuned_check(image, length), found[4] = {0, 0, 0, 0};
+    uint8_t dead[MOST_SEQUENCES];
+    uint32_t count, sequences, k;
+    if (answer >> 32 != 0)
+        return answer;
+    sequences = sequences_of(image[0]);
+    if (sequence >= sequences)
+        return refusal(9);
+    find_dead(image, sequences_from, sequences, dead);
+    if (!dead[sequence])
+        return refusal(16);
+    count = find_reached(sequences, (uint32_t)sequence, dead, found);
+    if (area_length < count)
+        return refusal(17);
+    for (k = 0; k < 4; k++)
+        for (; found[k] != 0; found[k] &= found[k] - 1)
+            *area++ = 64 * k + (uint32_t)__builtin_ctzll(found[k]);
+    return count;
 }
