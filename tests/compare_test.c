@@ -184,6 +184,12 @@
  * library's cards, another answer or changed cards, over a quarter of the
  * libraries: all are reported, as words of the added sequence's card. What is
  * about refusals, F, areas that no library fills or the list is not tried here.
+ * Breaks of the call that says why there is no run, in whose place plain passes
+ * stood: of the 27 that endless_test names, the 21 that are about sequences of
+ * the library and areas that are long enough or a word short, over a quarter of
+ * the libraries: all are reported, as what is wrong with a list. Those about
+ * numbers out of range, empty areas and an area that has the list's length and
+ * no more are not tried here.
  * And breaks of the code that request 5 brought or moved, compiled without its
  * proofs: 26 of the list call and of all facts below a number, of which those
  * about refusals, about F = 0 and about bits that no library's cards have are

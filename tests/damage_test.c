@@ -18,10 +18,11 @@
  * same, and each chain is of links that there can be. Why a sequence has no run
  * is asked of each: 16 where the card says that it has one, otherwise the list
  * of those whose cards say that they have none and that plain rounds over the
- * words reach (listed.h); numbers and areas are random too. The list call is
- * held against a plain loop over bits (list_model.h), over random words and
- * over the cards of random libraries; of the breaks that list_test names it
- * reported all but that of a member's low byte.
+ * words reach (listed.h); numbers and areas are random too. All 27 breaks that
+ * endless_test names were reported, one of them by the page that may not be
+ * written. The list call is held against a plain loop over bits (list_model.h),
+ * over random words and over the cards of random libraries; of the breaks that
+ * list_test names it reported all but that of a member's low byte.
  */
 #define _DEFAULT_SOURCE 1
 #include "harness.h"
