@@ -421,8 +421,8 @@ uint64_t dulimoven_list(uint64_t facts, uint64_t sequences,
  * from area[0] on then, the number of a sequence in each word, in rising order,
  * each once; the words after it are as they were. On it are all sequences
  * without a run that the one asked about reaches through entries of sequences
- * without a run, itself included: each step goes from a sequence without a run,
- * by any entry of any of its alternatives, to a sequence without a run. A
+ * without a run, itself included: any entry of any alternative of a listed
+ * sequence that names one without a run leads on to it, wherever it stands. A
  * sequence with a run is neither on the list nor gone through.
  *
  * A reader checks such a list by the library's words alone: every alternative
