@@ -1,5 +1,5 @@
-// The set of the sequences that have a run, settled: sequences are visited until no visit finds another one. A few passes over all of them are
-// enough for most images, and need no table; where they are not, a sequence is visited again only after one that it calls was found.
+// The set of the sequences that have a run, settled: sequences are visited until no visit finds another one. Passes over all of them are enough for
+// most images, and need no table; where a pass finds too few, a sequence is visited again only after one that it calls was found.
 use crate::read::gives_run;
 use callers::sets::ALL_SEQUENCES;
 use callers::sets::SET_WORDS;
@@ -17,9 +17,6 @@ ghost use Prim.Native.Nat.{_<_};
 ghost use Rattle.settling.specs.Settling.{Scheduled, Visit, Pass, Settles};
 ghost use Rattle.running.specs.Visited.{lacking, RunsVisitable, visited};
 
-// How many passes are made before the callers are written down.
-const PASSES: u32 = 4;
-
 // Puts sequence `c` into the set where one of its alternatives gives a run. Answers whether that is new.
 fn visit(part: &[u32], places: &[u32], runs: &mut [u64], n: usize, c: usize) -> bool
     requires { ⌜ RunsVisitable n (now part) (now places) (now runs) × (c < n) ⌝ }
@@ -36,19 +33,19 @@ fn visit(part: &[u32], places: &[u32], runs: &mut [u64], n: usize, c: usize) -> 
     false
 }
 
-// Visits each sequence once, first to last or last to first. Answers whether a visit found a run.
-fn pass(part: &[u32], places: &[u32], runs: &mut [u64], n: usize, forward: bool) -> bool
+// Visits each sequence once, first to last or last to first. Answers how many were found.
+fn pass(part: &[u32], places: &[u32], runs: &mut [u64], n: usize, forward: bool) -> usize
     requires { ⌜ RunsVisitable n (now part) (now places) (now runs) ⌝ }
-    ensures { λ r. ⌜ Pass (visited (now (part .entry)) (now (places .entry))) n (now (runs .entry)) (now (runs .exit)) r ⌝ }
+    ensures { λ r. ⌜ Pass (visited (now (part .entry)) (now (places .entry))) lacking n (now (runs .entry)) (now (runs .exit)) r ⌝ }
 {
-    let mut found = false;
+    let mut count = 0;
     let mut i = 0;
     while i < n {
         let new = visit(part, places, runs, n, place_of(forward, n, i));
-        found = found | new;
+        count += new as usize;
         i += 1;
     }
-    found
+    count
 }
 
 // Visits the sequences turn by turn, in the order first, until none is stale. At first all are.
@@ -90,17 +87,23 @@ fn settle_by_callers(part: &[u32], places: &[u32], runs: &mut [u64], n: usize)
     take_turns(part, places, &callers, &order[..n], runs, n);
 }
 
-// Settles the set: by passes, last to first and first to last in turn, and by way of the callers where so many passes are not enough.
+// Settles the set: by passes, last to first and first to last in turn, as long as each finds half of what the one before could leave, so that all of
+// them together walk no more than two walks over all sequences; otherwise by way of the callers.
 pub fn settle(part: &[u32], places: &[u32], runs: &mut [u64], n: usize)
     requires { ⌜ RunsVisitable n (now part) (now places) (now runs) ⌝ }
     ensures { λ _. ⌜ Settles (visited (now (part .entry)) (now (places .entry))) n (now (runs .entry)) (now (runs .exit)) ⌝ }
 {
-    let mut k = 0;
-    while k < PASSES {
-        if !pass(part, places, runs, n, k % 2 == 1) {
+    let mut half = n / 2;
+    let mut forward = false;
+    loop {
+        let count = pass(part, places, runs, n, forward);
+        if count == 0 {
             return;
         }
-        k += 1;
+        if count < half {
+            return settle_by_callers(part, places, runs, n);
+        }
+        half = half / 2;
+        forward = !forward;
     }
-    settle_by_callers(part, places, runs, n);
 }

@@ -2,12 +2,12 @@
 -- Assumes nothing.
 use Prim.Native.Nat.{ℕ, _+_, _≤_, _<_}
 use native.Mathlib.Omega.{arith}
-use native.Mathlib.Decide.{ℕ-discrete}
-use mathlib.Core.Path.{_≡_, refl, sym, _∙_, subst}
-use mathlib.Core.Bool.{Bool, true, false, _||_}
+use native.Mathlib.Decide.{ℕ-discrete, decLt}
+use mathlib.Core.Path.{_≡_, refl, sym, ap, _∙_, subst}
+use mathlib.Core.Bool.{Bool, true, false}
 use mathlib.Core.List.{List}
 use lib.ListN.{length}
-use Rattle.general.proofs.Bools.{nor-left, nor-right}
+use mir.Val.{boolByte}
 use Rattle.settling.specs.Settling.{Visit, Reached, here, next, Pass}
 use Rattle.settling.specs.Turns.{placeOf}
 
@@ -50,24 +50,41 @@ module _ {visit : List ℕ → ℕ → List ℕ} {weight : List ℕ → ℕ} {n 
 
 -- ---- a pass
 
--- what holds at the head of its loop, after i visits, first to last or last to first: where none of them changed the table, it is as before,
--- and none of them would change it
-pub record Passing (visit : List ℕ → ℕ → List ℕ) (n : ℕ) (forward : Bool) (t₀ t : List ℕ) (changed : Bool) (i : ℕ) : Type 0 where
-  pub reached : Reached visit n t₀ t
-  pub still : changed ≡ false → (t ≡ t₀) × ((j : ℕ) → j < i → visit t₀ (placeOf forward n j) ≡ t₀)
+module _ (visit : List ℕ → ℕ → List ℕ) (weight : List ℕ → ℕ) where
+  -- what holds at the head of its loop, after i visits, first to last or last to first: where none of them changed the table, it is as before,
+  -- and none of them would change it
+  pub record Passing (n : ℕ) (forward : Bool) (t₀ t : List ℕ) (count i : ℕ) : Type 0 where
+    pub reached : Reached visit n t₀ t
+    pub few : count ≤ i
+    pub falls : 0 < count → weight t < weight t₀
+    pub still : count ≡ 0 → (t ≡ t₀) × ((j : ℕ) → j < i → visit t₀ (placeOf forward n j) ≡ t₀)
 
-pub passing-start : {visit : List ℕ → ℕ → List ℕ} {n : ℕ} {forward : Bool} (t : List ℕ) → Passing visit n forward t t false 0
-passing-start t = record { reached = here; still = λ q. (refl, λ j l. absurd (omega arith)) }
+  pub passing-start : (n : ℕ) (forward : Bool) (t : List ℕ) → Passing n forward t t 0 0
+  passing-start n forward t =
+      record { reached = here; few = omega arith; falls = λ some. absurd (omega arith); still = λ none. (refl, λ j l. absurd (omega arith)) }
 
-module _ {visit : List ℕ → ℕ → List ℕ} {n : ℕ} {forward : Bool} {t₀ t : List ℕ} {changed : Bool} {i : ℕ}
-    (here : Passing visit n forward t₀ t changed i) where
-  pub passing-turn : {weight : List ℕ → ℕ} → i < n → (t′ : List ℕ) (new : Bool) → Visit visit weight t (placeOf forward n i) t′ new → Passing visit n forward t₀ t′ (changed || new) (i + 1)
-  passing-turn l t′ new v =
+module _ {visit : List ℕ → ℕ → List ℕ} {weight : List ℕ → ℕ} {n : ℕ} {forward : Bool} {t₀ t : List ℕ} {count i : ℕ}
+    (here : Passing visit weight n forward t₀ t count i) where
+  not-more : weight t ≤ weight t₀
+  not-more = elim (decLt 0 count) [ yes some ↦ omega (arith, here .falls some) | no none ↦ omega (arith, ap weight (here .still (omega arith) .0)) ]
+
+  pub passing-turn : i < n → (t′ : List ℕ) (new : Bool) → Visit visit weight t (placeOf forward n i) t′ new
+      → Passing visit weight n forward t₀ t′ (count + boolByte new) (i + 1)
+  passing-turn l t′ true v =
       record {
-        reached = reached-visit t (placeOf forward n i) t′ new (place-back forward n i l .0) (here .reached) v;
+        reached = reached-visit t (placeOf forward n i) t′ true (place-back forward n i l .0) (here .reached) v;
+        few = omega (arith, here .few);
+        falls = λ some. omega (arith, v .falls refl, not-more);
+        still = λ none. absurd (omega arith);
+      }
+  passing-turn l t′ false v =
+      let stays = v .stays refl in
+      record {
+        reached = reached-visit t (placeOf forward n i) t′ false (place-back forward n i l .0) (here .reached) v;
+        few = omega (arith, here .few);
+        falls = λ some. omega (arith, ap weight stays, here .falls (omega arith));
         still = λ none.
-            let (same, before) = here .still (nor-left changed new none) in
-            let stays = v .stays (nor-right changed new none) in (
+            let (same, before) = here .still (omega arith) in (
               stays ∙ same,
               λ j k. elim (ℕ-discrete j i) [
                 | yes now ↦ subst (λ (s : List ℕ). visit s (placeOf forward n j) ≡ s) same (subst (λ (m : ℕ). visit t (placeOf forward n m) ≡ t) (sym now) (sym (v .done) ∙ stays))
@@ -76,10 +93,11 @@ module _ {visit : List ℕ → ℕ → List ℕ} {n : ℕ} {forward : Bool} {t�
             );
       }
 
-  pub passing-end : n ≤ i → Pass visit n t₀ t changed
+  pub passing-end : n ≤ i → Pass visit weight n t₀ t count
   passing-end over =
       record {
         reached = here .reached;
+        falls = here .falls;
         settled = λ none c l.
             let (same, before) = here .still none in
             let (within, back) = place-back forward n c l in

@@ -25,11 +25,6 @@ module _ (visit : List ℕ → ℕ → List ℕ) where
     pub reached : Reached n before after
     pub settled : Settled n after
 
-  -- a pass, which visits each number once: where none of its visits changed the table, no visit does
-  pub record Pass (n : ℕ) (before after : List ℕ) (changed : Bool) : Type 0 where
-    pub reached : Reached n before after
-    pub settled : changed ≡ false → Settled n after
-
   -- `weight` is what falls while the table changes
   module _ (weight : List ℕ → ℕ) where
     -- what a visit promises: the table after it, and whether that is another
@@ -37,6 +32,12 @@ module _ (visit : List ℕ → ℕ → List ℕ) where
       pub done : after ≡ visit before c
       pub falls : changed ≡ true → weight after < weight before
       pub stays : changed ≡ false → after ≡ before
+
+    -- what a pass promises, which visits each number below n once and counts the visits that changed the table
+    pub record Pass (n : ℕ) (before after : List ℕ) (count : ℕ) : Type 0 where
+      pub reached : Reached n before after
+      pub falls : 0 < count → weight after < weight before
+      pub settled : count ≡ 0 → Settled n after
 
 -- no visit of a number below n that is not stale changes the table
 abbrev pub Fresh : (List ℕ → ℕ → List ℕ) → ℕ → (ℕ → Bool) → List ℕ → Type 0

@@ -3,6 +3,7 @@
 use borrow.Author.Needs.{needs}
 use native.Mathlib.Omega.{arith}
 use Prim.Native.Nat.{_-_}
+use Rattle.general.proofs.Bools.{byte-le}
 use Rattle.settling.proofs.Visits.{reached-length, Passing, passing-start, passing-turn, passing-end}
 use Rattle.running.specs.Visited.{lacking, visited}
 use Rattle.running.proofs.Visited.{visits-lower, visitable-at}
@@ -14,13 +15,13 @@ use Rattle.running.proofs.settle.visit.Reads as visit-reads
 use Rattle.settling.proofs.turns.place_of.Reads as place-of-reads
 
 abbrev Inv-loop : tie.InvT-loop
-Inv-loop part places runs₀ n forward found₀ i₀ runs found i = Passing (visited part places) n forward runs₀ runs found i
+Inv-loop part places runs₀ n forward count₀ i₀ runs count i = Passing (visited part places) lacking n forward runs₀ runs count i
 
 abbrev μ-loop : tie.MeasureT-loop
-μ-loop part places runs₀ n forward found₀ i₀ runs found i = n - i
+μ-loop part places runs₀ n forward count₀ i₀ runs count i = n - i
 
 loop-holds : tie.Need-loop-holds Inv-loop μ-loop
-loop-holds c = passing-start (c .before .before .before .args .runs .now)
+loop-holds c = let a = c .before .before .before .args in passing-start (visited (a .part .now) (a .places .now)) lacking (a .n) (a .forward) (a .runs .now)
 
 place-of-requires : tie.Need-place-of-requires Inv-loop μ-loop
 place-of-requires c κs = search needs
@@ -34,6 +35,14 @@ visit-requires c κs =
       omega (arith, c .place-of .ensures .1),
     )
 
+cast-count : tie.Need-cast-count Inv-loop μ-loop
+cast-count c = search needs
+
+add-count : tie.Need-add-count Inv-loop μ-loop
+add-count c =
+    let start = c .before .before .before .before .before .before .before .before .before .before in
+    omega (arith, c .before .before .before .before .before .before .loop .inv .few, c .before .before .before .before .before .loop-test .taken, start .pre .few, byte-le (c .before .before .visit .result))
+
 add-i : tie.Need-add-i Inv-loop μ-loop
 add-i c = search needs
 
@@ -46,7 +55,7 @@ loop-again c =
     let place = visit .before in
     let turn = place .before .before in
     let at-loop = turn .before in
-    passing-turn (at-loop .loop .inv) {weight = lacking} (turn .loop-test .taken) (visit .visit .last .1 .1 .0) (visit .visit .result)
+    passing-turn (at-loop .loop .inv) (turn .loop-test .taken) (visit .visit .last .1 .1 .0) (visit .visit .result)
     (rw (place .place-of .ensures .0) at (visit .visit .ensures))
 
 same-length : tie.Need-same-length Inv-loop μ-loop
@@ -66,6 +75,8 @@ pass-spec =
     loop-holds
     place-of-requires
     visit-requires
+    cast-count
+    add-count
     add-i
     loop-less
     loop-again

@@ -2,11 +2,11 @@
 -- Assumes nothing.
 use borrow.Author.Needs.{needs}
 use native.Mathlib.Omega.{arith}
-use Prim.Native.Nat.{_-_}
-use borrow.Author.Tests.{not-true}
+use mathlib.Core.Path.{_≡_}
+use lib.ListN.{length}
 use Rattle.settling.specs.Settling.{Reached, here}
 use Rattle.settling.proofs.Visits.{reached-length, reached-then}
-use Rattle.running.specs.Visited.{visited}
+use Rattle.running.specs.Visited.{lacking, visited}
 use Rattle.running.proofs.Visited.{visits-lower, visitable-at}
 use Rattle.running.proofs.settle.settle.Statement.{statement}
 use Rattle.running.proofs.settle.settle.Tie as tie
@@ -16,63 +16,50 @@ use Rattle.running.proofs.settle.pass.Reads as pass-reads
 use Rattle.running.proofs.settle.settle_by_callers.Reads as settle-by-callers-reads
 
 abbrev Inv-loop : tie.InvT-loop
-Inv-loop part places runs₀ n k₀ runs k = Reached (visited part places) n runs₀ runs
+Inv-loop part places runs₀ n half₀ forward₀ runs half forward = Reached (visited part places) n runs₀ runs
 
 abbrev μ-loop : tie.MeasureT-loop
-μ-loop part places runs₀ n k₀ runs k = 4 - k
+μ-loop part places runs₀ n half₀ forward₀ runs half forward = lacking runs
+
+-- the set keeps its length
+kept : (c : tie.After-pass-arg Inv-loop μ-loop) → length (c .before .loop .runs) ≡ length (c .before .before .before .before .before .args .runs .now)
+kept c =
+    let start = c .before .before .before .before .before in
+    let a = start .args in
+    reached-length (visits-lower (a .part .now) (a .places .now) (a .n) (start .pre .few)) (c .before .loop .inv)
 
 loop-holds : tie.Need-loop-holds Inv-loop μ-loop
 loop-holds c = here
 
 pass-requires : tie.Need-pass-requires Inv-loop μ-loop
-pass-requires c κs =
-    let at-loop = c .before .before in
-    let start = at-loop .before .before .before .before in
-    let a = start .args in
-    visitable-at (at-loop .loop .runs) (reached-length (visits-lower (a .part .now) (a .places .now) (a .n) (start .pre .few)) (at-loop .loop .inv)) (start .pre)
+pass-requires c κs = visitable-at (c .before .loop .runs) (kept c) (c .before .before .before .before .before .pre)
 
 same-length : tie.Need-same-length Inv-loop μ-loop
-same-length c =
-    let at-loop = c .before .before .before .before .before .before in
-    let start = at-loop .before .before .before .before in
-    let a = start .args in
-    omega (arith, c .before .before .before .pass .kept, reached-length (visits-lower (a .part .now) (a .places .now) (a .n) (start .pre .few)) (at-loop .loop .inv))
+same-length c = omega (arith, c .before .before .before .pass .kept, kept (c .before .before .before .before))
 
 returns : tie.Need-returns Inv-loop μ-loop
 returns c =
     let pass = c .before .before .before in
-    record {
-      reached = reached-then (c .before .before .before .before .before .before .loop .inv) (pass .pass .ensures .reached);
-      settled = pass .pass .ensures .settled (not-true _ (c .if1 .taken));
-    }
-
-add-k : tie.Need-add-k Inv-loop μ-loop
-add-k c = search needs
-
-loop-less : tie.Need-loop-less Inv-loop μ-loop
-loop-less c = omega (arith, c .before .before .before .before .before .loop-test .taken)
-
-loop-again : tie.Need-loop-again Inv-loop μ-loop
-loop-again c = reached-then (c .before .before .before .before .before .before .loop .inv) (c .before .before .before .pass .ensures .reached)
+    record { reached = reached-then (c .before .before .before .before .before .loop .inv) (pass .pass .ensures .reached); settled = pass .pass .ensures .settled (c .if1 .taken) }
 
 settle-by-callers-requires : tie.Need-settle-by-callers-requires Inv-loop μ-loop
 settle-by-callers-requires c κs =
-    let at-loop = c .before .before in
-    let start = at-loop .before .before .before .before in
-    let a = start .args in
-    visitable-at (at-loop .loop .runs) (reached-length (visits-lower (a .part .now) (a .places .now) (a .n) (start .pre .few)) (at-loop .loop .inv)) (start .pre)
+    let pass = c .before .before .before .before .before in
+    visitable-at (pass .pass .last .1 .1 .0) (omega (arith, pass .pass .kept, kept (c .before .before .before .before .before .before))) (c .before .before .before .before .before .before .before .before .before .before .before .pre)
 
 same-length-2 : tie.Need-same-length-2 Inv-loop μ-loop
-same-length-2 c =
-    let at-loop = c .before .before .before .before .before in
-    let start = at-loop .before .before .before .before in
-    let a = start .args in
-    omega (arith, c .before .before .settle-by-callers .kept, reached-length (visits-lower (a .part .now) (a .places .now) (a .n) (start .pre .few)) (at-loop .loop .inv))
+same-length-2 c = omega (arith, c .before .before .settle-by-callers .kept, c .before .before .before .before .before .before .before .before .pass .kept, kept (c .before .before .before .before .before .before .before .before .before))
 
 returns-2 : tie.Need-returns-2 Inv-loop μ-loop
 returns-2 c =
     let rest = c .before .before .settle-by-callers .ensures in
-    record { reached = reached-then (c .before .before .before .before .before .loop .inv) (rest .reached); settled = rest .settled }
+    record { reached = reached-then (reached-then (c .before .before .before .before .before .before .before .before .before .before .loop .inv) (c .before .before .before .before .before .before .before .before .pass .ensures .reached)) (rest .reached); settled = rest .settled }
+
+loop-less : tie.Need-loop-less Inv-loop μ-loop
+loop-less c = c .before .before .before .before .pass .ensures .falls (omega (arith, c .before .if1 .left))
+
+loop-again : tie.Need-loop-again Inv-loop μ-loop
+loop-again c = reached-then (c .before .before .before .before .before .before .loop .inv) (c .before .before .before .before .pass .ensures .reached)
 
 pub settle-spec : {M : Type 1} → statement M
 settle-spec =
@@ -84,9 +71,8 @@ settle-spec =
     pass-requires
     same-length
     returns
-    add-k
-    loop-less
-    loop-again
     settle-by-callers-requires
     same-length-2
-    returns-2)
+    returns-2
+    loop-less
+    loop-again)
