@@ -13,9 +13,12 @@ use settling::turns::next;
 use settling::turns::place_of;
 use tables::size::MOST_CALLERS;
 use tables::size::MOST_PLACES;
-ghost use Prim.Native.Nat.{_<_};
+ghost use Prim.Native.Nat.{_≤_, _<_};
 ghost use Rattle.settling.specs.Settling.{Scheduled, Visit, Pass, Settles};
 ghost use Rattle.running.specs.Visited.{lacking, RunsVisitable, visited};
+
+// One sequence of so many is visited to see in which direction passes go first.
+const TRIED: usize = 8;
 
 // Puts sequence `c` into the set where one of its alternatives gives a run. Answers whether that is new.
 fn visit(part: &[u32], places: &[u32], runs: &mut [u64], n: usize, c: usize) -> bool
@@ -33,14 +36,21 @@ fn visit(part: &[u32], places: &[u32], runs: &mut [u64], n: usize, c: usize) -> 
     false
 }
 
-// Visits each sequence once, first to last or last to first. Answers how many were found.
-fn pass(part: &[u32], places: &[u32], runs: &mut [u64], n: usize, forward: bool) -> usize
-    requires { ⌜ RunsVisitable n (now part) (now places) (now runs) ⌝ }
-    ensures { λ r. ⌜ Pass (visited (now (part .entry)) (now (places .entry))) lacking n (now (runs .entry)) (now (runs .exit)) r ⌝ }
+// Visits so many sequences, each once, from the first on or from the last. Answers how many were found.
+fn pass(
+    part: &[u32],
+    places: &[u32],
+    runs: &mut [u64],
+    n: usize,
+    forward: bool,
+    turns: usize,
+) -> usize
+    requires { ⌜ RunsVisitable n (now part) (now places) (now runs) × (turns ≤ n) ⌝ }
+    ensures { λ r. ⌜ Pass (visited (now (part .entry)) (now (places .entry))) lacking n turns (now (runs .entry)) (now (runs .exit)) r ⌝ }
 {
     let mut count = 0;
     let mut i = 0;
-    while i < n {
+    while i < turns {
         let new = visit(part, places, runs, n, place_of(forward, n, i));
         count += new as usize;
         i += 1;
@@ -87,23 +97,42 @@ fn settle_by_callers(part: &[u32], places: &[u32], runs: &mut [u64], n: usize)
     take_turns(part, places, &callers, &order[..n], runs, n);
 }
 
-// Settles the set: by passes, last to first and first to last in turn, as long as each finds half of what the one before could leave, so that all of
-// them together walk no more than two walks over all sequences; otherwise by way of the callers.
+// Settles the set, in which so many are left to be found: by passes in one direction and the other in turn, as long as each finds as many as it
+// leaves, so that all of them together walk no more than two walks over all sequences; otherwise by way of the callers.
+fn settle_from(
+    part: &[u32],
+    places: &[u32],
+    runs: &mut [u64],
+    n: usize,
+    first: bool,
+    unfound: usize,
+)
+    requires { ⌜ RunsVisitable n (now part) (now places) (now runs) ⌝ }
+    ensures { λ _. ⌜ Settles (visited (now (part .entry)) (now (places .entry))) n (now (runs .entry)) (now (runs .exit)) ⌝ }
+{
+    let mut left = unfound;
+    let mut forward = first;
+    loop {
+        let count = pass(part, places, runs, n, forward, n);
+        if count == 0 {
+            return;
+        }
+        left = std::num::wrapping_sub_usize(left, count);
+        if count < left {
+            return settle_by_callers(part, places, runs, n);
+        }
+        forward = !forward;
+    }
+}
+
+// Settles the set. Some of the last sequences are visited first: where most of them are found, sequences mostly call later ones, and the first pass
+// goes on from the last; otherwise it goes from the first.
 pub fn settle(part: &[u32], places: &[u32], runs: &mut [u64], n: usize)
     requires { ⌜ RunsVisitable n (now part) (now places) (now runs) ⌝ }
     ensures { λ _. ⌜ Settles (visited (now (part .entry)) (now (places .entry))) n (now (runs .entry)) (now (runs .exit)) ⌝ }
 {
-    let mut half = n / 2;
-    let mut forward = false;
-    loop {
-        let count = pass(part, places, runs, n, forward);
-        if count == 0 {
-            return;
-        }
-        if count < half {
-            return settle_by_callers(part, places, runs, n);
-        }
-        half = half / 2;
-        forward = !forward;
-    }
+    let some = n / TRIED;
+    let count = pass(part, places, runs, n, false, some);
+    let left = std::num::wrapping_sub_usize(n, count);
+    settle_from(part, places, runs, n, count < some / 2, left);
 }

@@ -93,12 +93,12 @@ module _ {visit : List ℕ → ℕ → List ℕ} {weight : List ℕ → ℕ} {n 
             );
       }
 
-  pub passing-end : n ≤ i → Pass visit weight n t₀ t count
-  passing-end over =
+  pub passing-end : (turns : ℕ) → turns ≤ i → Pass visit weight n turns t₀ t count
+  passing-end turns over =
       record {
         reached = here .reached;
         falls = here .falls;
-        settled = λ none c l.
+        settled = λ all none c l.
             let (same, before) = here .still none in
             let (within, back) = place-back forward n c l in
             subst (λ (s : List ℕ). visit s c ≡ s) (sym same)

@@ -33,11 +33,11 @@ module _ (visit : List ℕ → ℕ → List ℕ) where
       pub falls : changed ≡ true → weight after < weight before
       pub stays : changed ≡ false → after ≡ before
 
-    -- what a pass promises, which visits each number below n once and counts the visits that changed the table
-    pub record Pass (n : ℕ) (before after : List ℕ) (count : ℕ) : Type 0 where
+    -- what a pass promises, which visits so many of the numbers below n, each once, and counts the visits that changed the table
+    pub record Pass (n turns : ℕ) (before after : List ℕ) (count : ℕ) : Type 0 where
       pub reached : Reached n before after
       pub falls : 0 < count → weight after < weight before
-      pub settled : count ≡ 0 → Settled n after
+      pub settled : n ≤ turns → count ≡ 0 → Settled n after
 
 -- no visit of a number below n that is not stale changes the table
 abbrev pub Fresh : (List ℕ → ℕ → List ℕ) → ℕ → (ℕ → Bool) → List ℕ → Type 0

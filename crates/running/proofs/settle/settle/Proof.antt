@@ -2,77 +2,32 @@
 -- Assumes nothing.
 use borrow.Author.Needs.{needs}
 use native.Mathlib.Omega.{arith}
-use mathlib.Core.Path.{_≡_}
-use lib.ListN.{length}
-use Rattle.settling.specs.Settling.{Reached, here}
-use Rattle.settling.proofs.Visits.{reached-length, reached-then}
-use Rattle.running.specs.Visited.{lacking, visited}
-use Rattle.running.proofs.Visited.{visits-lower, visitable-at}
+use Rattle.settling.proofs.Visits.{reached-then}
+use Rattle.running.proofs.Visited.{visitable-at}
 use Rattle.running.proofs.settle.settle.Statement.{statement}
 use Rattle.running.proofs.settle.settle.Tie as tie
 use Rattle.running.proofs.settle.settle.Reads as reads
 use Rattle.running.proofs.settle.settle.Lts as lts
 use Rattle.running.proofs.settle.pass.Reads as pass-reads
-use Rattle.running.proofs.settle.settle_by_callers.Reads as settle-by-callers-reads
+use Rattle.std.proofs.num.wrapping_sub_usize.Reads as wrapping-sub-usize-reads
+use Rattle.running.proofs.settle.settle_from.Reads as settle-from-reads
 
-abbrev Inv-loop : tie.InvT-loop
-Inv-loop part places runs₀ n half₀ forward₀ runs half forward = Reached (visited part places) n runs₀ runs
+pass-requires : tie.Need-pass-requires
+pass-requires c κs = (c .before .before .before .before .pre, omega arith)
 
-abbrev μ-loop : tie.MeasureT-loop
-μ-loop part places runs₀ n half₀ forward₀ runs half forward = lacking runs
+wrapping-sub-usize-requires : tie.Need-wrapping-sub-usize-requires
+wrapping-sub-usize-requires c κs = search needs
 
--- the set keeps its length
-kept : (c : tie.After-pass-arg Inv-loop μ-loop) → length (c .before .loop .runs) ≡ length (c .before .before .before .before .before .args .runs .now)
-kept c =
-    let start = c .before .before .before .before .before in
-    let a = start .args in
-    reached-length (visits-lower (a .part .now) (a .places .now) (a .n) (start .pre .few)) (c .before .loop .inv)
+settle-from-requires : tie.Need-settle-from-requires
+settle-from-requires c κs = let pass = c .before .before .before .before in visitable-at (pass .pass .last .1 .1 .0) (omega (arith, pass .pass .kept)) (c .before .before .before .before .before .before .before .before .before .pre)
 
-loop-holds : tie.Need-loop-holds Inv-loop μ-loop
-loop-holds c = here
+same-length : tie.Need-same-length
+same-length c = omega (arith, c .before .before .settle-from .kept, c .before .before .before .before .before .before .before .pass .kept)
 
-pass-requires : tie.Need-pass-requires Inv-loop μ-loop
-pass-requires c κs = visitable-at (c .before .loop .runs) (kept c) (c .before .before .before .before .before .pre)
-
-same-length : tie.Need-same-length Inv-loop μ-loop
-same-length c = omega (arith, c .before .before .before .pass .kept, kept (c .before .before .before .before))
-
-returns : tie.Need-returns Inv-loop μ-loop
+returns : tie.Need-returns
 returns c =
-    let pass = c .before .before .before in
-    record { reached = reached-then (c .before .before .before .before .before .loop .inv) (pass .pass .ensures .reached); settled = pass .pass .ensures .settled (c .if1 .taken) }
-
-settle-by-callers-requires : tie.Need-settle-by-callers-requires Inv-loop μ-loop
-settle-by-callers-requires c κs =
-    let pass = c .before .before .before .before .before in
-    visitable-at (pass .pass .last .1 .1 .0) (omega (arith, pass .pass .kept, kept (c .before .before .before .before .before .before))) (c .before .before .before .before .before .before .before .before .before .before .before .pre)
-
-same-length-2 : tie.Need-same-length-2 Inv-loop μ-loop
-same-length-2 c = omega (arith, c .before .before .settle-by-callers .kept, c .before .before .before .before .before .before .before .before .pass .kept, kept (c .before .before .before .before .before .before .before .before .before))
-
-returns-2 : tie.Need-returns-2 Inv-loop μ-loop
-returns-2 c =
-    let rest = c .before .before .settle-by-callers .ensures in
-    record { reached = reached-then (reached-then (c .before .before .before .before .before .before .before .before .before .before .loop .inv) (c .before .before .before .before .before .before .before .before .pass .ensures .reached)) (rest .reached); settled = rest .settled }
-
-loop-less : tie.Need-loop-less Inv-loop μ-loop
-loop-less c = c .before .before .before .before .pass .ensures .falls (omega (arith, c .before .if1 .left))
-
-loop-again : tie.Need-loop-again Inv-loop μ-loop
-loop-again c = reached-then (c .before .before .before .before .before .before .loop .inv) (c .before .before .before .before .pass .ensures .reached)
+    let rest = c .before .before .settle-from .ensures in
+    record { reached = reached-then (c .before .before .before .before .before .before .before .pass .ensures .reached) (rest .reached); settled = rest .settled }
 
 pub settle-spec : {M : Type 1} → statement M
-settle-spec =
-    tie.close
-    (tie.spec
-    Inv-loop
-    μ-loop
-    loop-holds
-    pass-requires
-    same-length
-    returns
-    settle-by-callers-requires
-    same-length-2
-    returns-2
-    loop-less
-    loop-again)
+settle-spec = tie.close (tie.spec pass-requires wrapping-sub-usize-requires settle-from-requires same-length returns)
