@@ -20,6 +20,7 @@ use Rattle.runs.specs.Possible.{possible}
 use Rattle.cards.specs.Card.{card, cards}
 use Rattle.cards.specs.Composed.{listCard}
 use Rattle.chains.specs.Link.{chainWords}
+use Rattle.endings.specs.Reached.{endlessList}
 use Rattle.chains.specs.Call.{chained}
 use Rattle.text.specs.Words.{wordsOf}
 use Rattle.text.specs.Number.{numeral, numeralIn}
@@ -130,6 +131,6 @@ check-fails = (check-run, λ executing. false≢true (executing .0 0 refl .1))
 -- ---- the one fact
 
 pub starred-hold : All Holds starred
-unfolding checked scan total runningSums opened lastOf setsOf inColumn bit libraryOf has possible cards card chained chainWords printed wordsOf cardLines linesFrom cardLine spaced numeral numeralIn refusalLine listCard some
+unfolding checked scan total runningSums opened lastOf setsOf inColumn bit libraryOf has possible cards card chained chainWords printed wordsOf cardLines linesFrom cardLine spaced numeral numeralIn refusalLine listCard some endlessList
 starred-hold =
-    (refl, (refl, (refl, (refl, (refl, (refl, (refl, (refl, (both-steps, (second-fails, (second-executes, (refl, (refl, (refl, (refl, (refl, (refl, (refl, (clear-executes, (refl, (need-fails, (refl, (refl, (refl, (refl, (refl, (refl, (refl, (check-executes, (check-fails, (refl, (refl, (refl, (refl, (refl, (refl, (refl, (refl, (refl, (refl, (refl, (refl, (refl, (refl, (refl, (refl, (refl, (refl, (refl, (refl, (refl, (refl, (refl, tt)))))))))))))))))))))))))))))))))))))))))))))))))))))
+    (refl, (refl, (refl, (refl, (refl, (refl, (refl, (refl, (both-steps, (second-fails, (second-executes, (refl, (refl, (refl, (refl, (refl, (refl, (refl, (clear-executes, (refl, (need-fails, (refl, (refl, (refl, (refl, (refl, (refl, (refl, (check-executes, (check-fails, (refl, (refl, (refl, (refl, (refl, (refl, (refl, (refl, (refl, (refl, (refl, (refl, (refl, (refl, (refl, (refl, (refl, (refl, (refl, (refl, (refl, (refl, (refl, (refl, (refl, (refl, (refl, (refl, (refl, (refl, (refl, (refl, (refl, (refl, (refl, (refl, (refl, (refl, tt))))))))))))))))))))))))))))))))))))))))))))))))))))))))))))))))))))

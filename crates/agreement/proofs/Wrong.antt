@@ -34,17 +34,20 @@ use Rattle.cards.specs.Meaning.{Always, needed, set, cleared, columnOf}
 use Rattle.runs.specs.Touch.{questionOf}
 use Rattle.chains.specs.Link.{Link, touchLink, untouchedLink, Chain, chainWords, Fits}
 use Rattle.chains.proofs.Fits.{accepted-fits}
+use Rattle.endings.specs.Reached.{endlessList}
 use Rattle.chains.specs.Answer.{shown}
 use Rattle.chains.specs.Call.{answered, chained}
-use Rattle.agreement.specs.Samples.{L, selfCall, clearThenNeed, blank, card1}
+use Rattle.agreement.specs.Samples.{L, selfCall, clearThenNeed, tenSequences, blank, card1}
 use Rattle.dulimoven.specs.Returned.{Returned, returned}
 use Rattle.dulimoven.specs.ChainCall.{Asked, Answers, Links, ChainReturn}
 use Rattle.dulimoven.specs.ChainCall as chain
 use Rattle.dulimoven.specs.Demands.{Engine, count, Ready, Demand1, Demand2, Proves, Demand3}
 use Rattle.dulimoven.specs.Added.{Listed, listOver, Lists}
+use Rattle.dulimoven.specs.Explained.{found}
 use Rattle.dulimoven.specs.Engine.{engine}
 use Rattle.agreement.specs.Wrong.{Gets, Unwritten, LongerChain, BlankColumn, OneCard, Untouched, NoneAtOnce, AlwaysTwelve, SameLink, InventedLinks, InventedCount, RefusesAll, RefusesAllCards, RefusesAllChains}
 use Rattle.agreement.specs.Wrong.{RefusesAllLists, UnwrittenLists, LastMember, OrderUnnoticed, noList, lazyLists, secondCard}
+use Rattle.agreement.specs.Wrong.{RefusesAllEndless, UnwrittenReasons, AskedAlone, noReason, lazyReasons, askedOnly}
 use Rattle.agreement.specs.Wrong.{blankCards, flaglessCards, lazyCards, fixedChain, unwritten, fixedLinks, noImage}
 use Rattle.dulimoven.proofs.ChainCall.{chain-only}
 use Rattle.dulimoven.proofs.Demands.{only-engine, columns, runs}
@@ -106,6 +109,15 @@ no-list = refl
 list-L : listOver engine L (zeros 39) (1 ∷ 0 ∷ []) [] ≡ returned 0 card1
 unfolding checked scan total runningSums opened lastOf setsOf inColumn bit libraryOf has possible cards card listCard some
 list-L = refl
+
+-- sequence 2 of L calls itself, and nothing else
+endless-L : engine .endless L 2 (zeros 1) ≡ returned 1 (2 ∷ [])
+unfolding checked scan total runningSums opened lastOf setsOf inColumn bit libraryOf has possible some endlessList
+endless-L = refl
+
+endless-ten : engine .endless tenSequences 0 (zeros 3) ≡ returned 3 (0 ∷ 1 ∷ 3 ∷ [])
+unfolding checked scan total runningSums opened lastOf setsOf inColumn bit libraryOf has possible some endlessList
+endless-ten = refl
 
 chain-selfCall : chained selfCall 0 2 0 (length (zeros 2)) ≡ answered (shown (untouchedLink 0 1 ∷ []))
 unfolding chained checked scan total runningSums opened lastOf setsOf inColumn bit libraryOf has possible
@@ -184,6 +196,25 @@ refuses-all-lists e wrong d =
     let right = ap (λ (r : Returned). r .number) (only-engine e d .list 3 0 none none none ∙ no-list) in
     let high = wrong 3 0 none none none in
     omega arith
+
+-- the list of L's sequence 2, and that of sequence 0 of the ten
+pub refuses-all-endless : (e : Engine) → RefusesAllEndless e → ¬ Demand1 e
+refuses-all-endless e wrong d =
+    let right = ap (λ (r : Returned). r .number) (only-engine e d .endless L 2 (zeros 1) ∙ endless-L) in
+    let high = wrong L 2 (zeros 1) in
+    omega arith
+
+pub unwritten-reasons : (e : Engine) → UnwrittenReasons e → ¬ Demand1 e
+unwritten-reasons e wrong d =
+    let right : zeros 1 ≡ 2 ∷ [] = sym (wrong L 2 (zeros 1)) ∙ ap (λ (r : Returned). r .area) (only-engine e d .endless L 2 (zeros 1) ∙ endless-L) in
+    omega (arith, ap (λ (xs : List ℕ). getD xs 0 0) right)
+
+pub asked-alone : (e : Engine) → AskedAlone e → ¬ Demand1 e
+asked-alone e wrong d =
+    let right = only-engine e d .endless tenSequences 0 (zeros 3) ∙ endless-ten in
+    let number = ap (λ (r : Returned). r .number) right in
+    let one = wrong tenSequences 0 (zeros 3) (λ high. omega arith) in
+    omega (arith, ap (λ (xs : List ℕ). length xs) (sym (ap found right) ∙ one))
 
 pub unwritten-lists : (e : Engine) → UnwrittenLists e → ¬ Demand1 e
 unwritten-lists e wrong d =
@@ -502,3 +533,12 @@ order-unnoticed-goes image i j entries = refl
 
 pub refuses-goes : RefusesAll noImage
 refuses-goes image = omega arith
+
+pub no-reason-goes : RefusesAllEndless noReason
+no-reason-goes image c area = omega arith
+
+pub lazy-reasons-goes : UnwrittenReasons lazyReasons
+lazy-reasons-goes image c area = refl
+
+pub asked-alone-goes : AskedAlone askedOnly
+asked-alone-goes image c area low = refl

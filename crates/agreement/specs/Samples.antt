@@ -72,6 +72,16 @@ abbrev pub everyKind : List ℕ
 everyKind =
     0x10040102 ∷ 0x50000000 ∷ 0x50000001 ∷ 0x60000000 ∷ 0x70000000 ∷ 0x80000001 ∷ 0x90000000 ∷ 0xd0000001 ∷ 0xf022f01a ∷ []
 
+-- one fact, one step, which sets it. Sequences 0 to 9: <3, set>, <set, 1>; <0>; <itself>, <>; none; <2, itself>; <6, itself>; <7>, <check 0>;
+-- <itself>; <9, 1>; <3>, <7, set>
+abbrev pub tenSequences : List ℕ
+tenSequences =
+    0x10280081 ∷ 0x50000000 ∷ 0x30000000 ∷ 0x60000000 ∷ 0x70000000 ∷ 0x90000003 ∷ 0x80000000 ∷ 0x70000000 ∷ 0x80000000 ∷ 0x90000001
+    ∷ 0x60000001 ∷ 0x70000000 ∷ 0x90000000 ∷ 0x60000002 ∷ 0x70000000 ∷ 0x90000002 ∷ 0x70000000 ∷ 0x60000003 ∷ 0x60000004 ∷ 0x70000000
+    ∷ 0x90000002 ∷ 0x90000004 ∷ 0x60000005 ∷ 0x70000000 ∷ 0x90000006 ∷ 0x90000005 ∷ 0x60000006 ∷ 0x70000000 ∷ 0x90000007 ∷ 0x70000000
+    ∷ 0xd0000000 ∷ 0x60000007 ∷ 0x70000000 ∷ 0x90000007 ∷ 0x60000008 ∷ 0x70000000 ∷ 0x90000009 ∷ 0x90000001 ∷ 0x60000009 ∷ 0x70000000
+    ∷ 0x90000003 ∷ 0x70000000 ∷ 0x90000007 ∷ 0x80000000 ∷ 0xf74ba05b ∷ []
+
 -- ---- the table
 
 -- the bytes of an image: "little-endian words"
@@ -103,6 +113,8 @@ pub data Sample : Type 0 where
   -- the list call on F, C, cards and a list of sequences: the words of the list's card, or the number of the refusal
   composes : ℕ → ℕ → List (List ℕ) → List ℕ → List ℕ → Sample
   declines : ℕ → ℕ → List (List ℕ) → List ℕ → ℕ → Sample
+  -- the endless call on a sequence and an area: the number that it answers, and the area after it
+  explains : List ℕ → ℕ → List ℕ → ℕ → List ℕ → Sample
   -- a run of a sequence executes where just some facts stand at the start, and just some stand at its end
   executes : List ℕ → ℕ → List Item → List ℕ → List ℕ → Sample
   -- a run of a sequence does not execute where just some facts stand at the start
@@ -148,6 +160,7 @@ Holds (prints image text) = printed (bytesOf image) ≡ codes text
 Holds (chains image c q f before n after) = engine .chain image c q f before ≡ returned n after
 Holds (composes f c cards list card) = engine .list f c (joined cards) list spareCard ≡ returned 0 card
 Holds (declines f c cards list n) = engine .list f c (joined cards) list spareCard ≡ returned (n * 2 ^ 32) spareCard
+Holds (explains image c before n after) = engine .endless image c before ≡ returned n after
 Holds (executes image c w start after) =
     Run (libraryOf image) c w
     × Executes (libraryOf image) w (standing (libraryOf image) start)
@@ -254,4 +267,26 @@ starred =
     -- "b mod 2^28": the head counts 401 and the others 10003bff each, so the running sums are 401, 10004000, 20007bff and 3000b7fe, and b is
     -- 600177fe; "A word now counts as ..", whatever may stand there: the sum is right, and 4 at 1
     ∷ refuses (0x10000001 ∷ 0xffffffff ∷ 0xffffffff ∷ 0xffffffff ∷ 0xf00177fe ∷ []) 4 1
+    -- document 02, request 7: "all sequences without a run that the asked one reaches .., itself included": L's sequence 2 calls itself alone;
+    -- "words past it stay", and an area of no word is too short
+    ∷ explains L 2 (7 ∷ 7 ∷ 7 ∷ []) 1 (2 ∷ 7 ∷ 7 ∷ [])
+    ∷ explains L 2 [] (17 * 2 ^ 32) []
+    -- "16 where the sequence has a run, after 9", and before 17; all bits of the number count
+    ∷ explains L 0 [] (16 * 2 ^ 32) []
+    ∷ explains L 1 spare (16 * 2 ^ 32) spare
+    ∷ explains L 3 [] (9 * 2 ^ 32) []
+    ∷ explains L (2 ^ 32 + 2) spare (9 * 2 ^ 32) spare
+    -- "Like every later call over an image, this one meets 1 to 7 first.": 13 with 4 to 6
+    ∷ explains pulse 300 [] (13 * 2 ^ 32 + 3) []
+    -- 0 names 3, and 1, which names 0; 2 has a run; 3 has no alternative; 4 names 2, which has a run, and itself; of 5 the entry 6 has a run, and
+    -- 7 is named by 6 alone
+    ∷ explains tenSequences 0 spare 3 (0 ∷ 1 ∷ 3 ∷ 7 ∷ 7 ∷ [])
+    ∷ explains tenSequences 1 (7 ∷ 7 ∷ 7 ∷ []) 3 (0 ∷ 1 ∷ 3 ∷ [])
+    ∷ explains tenSequences 1 (7 ∷ 7 ∷ []) (17 * 2 ^ 32) (7 ∷ 7 ∷ [])
+    ∷ explains tenSequences 2 spare (16 * 2 ^ 32) spare
+    ∷ explains tenSequences 3 spare 1 (3 ∷ 7 ∷ 7 ∷ 7 ∷ 7 ∷ [])
+    ∷ explains tenSequences 4 spare 1 (4 ∷ 7 ∷ 7 ∷ 7 ∷ 7 ∷ [])
+    ∷ explains tenSequences 5 spare 1 (5 ∷ 7 ∷ 7 ∷ 7 ∷ 7 ∷ [])
+    -- 8 is <9, 1>: 1 counts too, though 9 stands before it
+    ∷ explains tenSequences 8 (replicate 7 9) 6 (0 ∷ 1 ∷ 3 ∷ 7 ∷ 8 ∷ 9 ∷ 9 ∷ [])
     ∷ []

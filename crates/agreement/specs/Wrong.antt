@@ -2,7 +2,7 @@
 -- one way, and nothing is said of what else it does. "Always stands" of document 02, request 4, counts among the columns. Two more are wrong about
 -- chains: one that never writes them for a question, and one with a link more than the fewest. Three are wrong about lists (request 5): one
 -- refuses all, one writes no card, and one takes the last member's card for the list's. One does not notice entries that change places
--- (request 6).
+-- (request 6). Three are wrong about sequences without a run (request 7): one refuses all, one writes no list, and one lists the asked sequence alone.
 use Prim.Native.Nat.{ℕ, _*_, _/_, _^_, _≤_, _<_}
 use mathlib.Core.Path.{_≡_}
 use mathlib.Core.Logic.{_≢_}
@@ -22,6 +22,7 @@ use Rattle.dulimoven.specs.Returned.{Returned, returned}
 use Rattle.dulimoven.specs.ChainCall.{Asked, Answers, Links}
 use Rattle.dulimoven.specs.Demands.{Engine, Refuses, Ready, count, Asks, Proves}
 use Rattle.dulimoven.specs.Added.{Listed, listOver}
+use Rattle.dulimoven.specs.Explained.{found}
 use Rattle.dulimoven.specs.Engine.{engine}
 
 -- a question whose answer is the chain ls, in an area that has room for it
@@ -131,19 +132,33 @@ LastMember e =
     (image area before : List ℕ) (m n : ℕ) → Listed image area (m ∷ n ∷ []) → (k : ℕ) → k < cardWords
     → getD (listOver e image area (m ∷ n ∷ []) before .area) k 0 ≡ partWord (e .cards image area .area) n k
 
+abbrev pub RefusesAllEndless : Engine → Type 0
+RefusesAllEndless e = (image : List ℕ) (c : ℕ) (area : List ℕ) → Refuses (e .endless image c area .number)
+
+-- no list: the words of every area as they were
+abbrev pub UnwrittenReasons : Engine → Type 0
+UnwrittenReasons e = (image : List ℕ) (c : ℕ) (area : List ℕ) → e .endless image c area .area ≡ area
+
+-- of each list the asked one alone
+abbrev pub AskedAlone : Engine → Type 0
+AskedAlone e = (image : List ℕ) (c : ℕ) (area : List ℕ) → ¬ Refuses (e .endless image c area .number) → found (e .endless image c area) ≡ c ∷ []
+
 -- ---- engines that are wrong in these ways: the right engine with another call in the place of one of its own
 
 abbrev pub withCheck : (List ℕ → ℕ) → Engine
-withCheck check = record { check = check; cards = engine .cards; chain = engine .chain; list = engine .list }
+withCheck check = record { check = check; cards = engine .cards; chain = engine .chain; list = engine .list; endless = engine .endless }
 
 abbrev pub withCards : (List ℕ → List ℕ → Returned) → Engine
-withCards cards = record { check = engine .check; cards = cards; chain = engine .chain; list = engine .list }
+withCards cards = record { check = engine .check; cards = cards; chain = engine .chain; list = engine .list; endless = engine .endless }
 
 abbrev pub withChain : (List ℕ → ℕ → ℕ → ℕ → List ℕ → Returned) → Engine
-withChain chain = record { check = engine .check; cards = engine .cards; chain = chain; list = engine .list }
+withChain chain = record { check = engine .check; cards = engine .cards; chain = chain; list = engine .list; endless = engine .endless }
 
 abbrev pub withLists : (ℕ → ℕ → List ℕ → List ℕ → List ℕ → Returned) → Engine
-withLists lists = record { check = engine .check; cards = engine .cards; chain = engine .chain; list = lists }
+withLists lists = record { check = engine .check; cards = engine .cards; chain = engine .chain; list = lists; endless = engine .endless }
+
+abbrev pub withEndless : (List ℕ → ℕ → List ℕ → Returned) → Engine
+withEndless endless = record { check = engine .check; cards = engine .cards; chain = engine .chain; list = engine .list; endless = endless }
 
 -- the right number, and an area of which every word is 0
 abbrev pub blankCards : Engine
@@ -182,6 +197,18 @@ lazyLists = withLists (λ facts sequences cards list card. returned 0 card)
 -- the card of the second member
 abbrev pub secondCard : Engine
 secondCard = withLists (λ facts sequences cards list card. returned 0 (listBelow (partWord cards (getD list 1 0)) cardWords))
+
+-- refusal 17, whatever the area
+abbrev pub noReason : Engine
+noReason = withEndless (λ image c area. returned (17 * 2 ^ 32) area)
+
+-- the right number, and the area as it was
+abbrev pub lazyReasons : Engine
+lazyReasons = withEndless (λ image c area. returned (engine .endless image c area .number) area)
+
+-- the asked one, whatever the image and however short the area
+abbrev pub askedOnly : Engine
+askedOnly = withEndless (λ image c area. returned 1 (c ∷ drop 1 area))
 
 -- refusal 1, whatever the image
 abbrev pub noImage : Engine
