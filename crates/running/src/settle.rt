@@ -17,8 +17,8 @@ ghost use Prim.Native.Nat.{_≤_, _<_};
 ghost use Rattle.settling.specs.Settling.{Scheduled, Visit, Pass, Settles};
 ghost use Rattle.running.specs.Visited.{lacking, RunsVisitable, visited};
 
-// One sequence of so many is visited to see in which direction passes go first.
-const TRIED: usize = 8;
+// One sequence of so many is visited from either end, to see which way passes go.
+const TRIED: usize = 16;
 
 // Puts sequence `c` into the set where one of its alternatives gives a run. Answers whether that is new.
 fn visit(part: &[u32], places: &[u32], runs: &mut [u64], n: usize, c: usize) -> bool
@@ -97,21 +97,20 @@ fn settle_by_callers(part: &[u32], places: &[u32], runs: &mut [u64], n: usize)
     take_turns(part, places, &callers, &order[..n], runs, n);
 }
 
-// Settles the set, in which so many are left to be found: by passes in one direction and the other in turn, as long as each finds as many as it
-// leaves, so that all of them together walk no more than two walks over all sequences; otherwise by way of the callers.
+// Settles the set, in which so many are left to be found: by passes, as long as each finds as many as it leaves, so that all of them together walk no
+// more than two walks over all sequences; otherwise by way of the callers.
 fn settle_from(
     part: &[u32],
     places: &[u32],
     runs: &mut [u64],
     n: usize,
-    first: bool,
+    forward: bool,
     unfound: usize,
 )
     requires { ⌜ RunsVisitable n (now part) (now places) (now runs) ⌝ }
     ensures { λ _. ⌜ Settles (visited (now (part .entry)) (now (places .entry))) n (now (runs .entry)) (now (runs .exit)) ⌝ }
 {
     let mut left = unfound;
-    let mut forward = first;
     loop {
         let count = pass(part, places, runs, n, forward, n);
         if count == 0 {
@@ -121,18 +120,18 @@ fn settle_from(
         if count < left {
             return settle_by_callers(part, places, runs, n);
         }
-        forward = !forward;
     }
 }
 
-// Settles the set. Some of the last sequences are visited first: where most of them are found, sequences mostly call later ones, and the first pass
-// goes on from the last; otherwise it goes from the first.
+// Settles the set. Some sequences are visited from the last on, and as many from the first on: where more are found, there sequences mostly come after
+// those that they call, and passes go that way.
 pub fn settle(part: &[u32], places: &[u32], runs: &mut [u64], n: usize)
     requires { ⌜ RunsVisitable n (now part) (now places) (now runs) ⌝ }
     ensures { λ _. ⌜ Settles (visited (now (part .entry)) (now (places .entry))) n (now (runs .entry)) (now (runs .exit)) ⌝ }
 {
     let some = n / TRIED;
-    let count = pass(part, places, runs, n, false, some);
-    let left = std::num::wrapping_sub_usize(n, count);
-    settle_from(part, places, runs, n, count < some / 2, left);
+    let back = pass(part, places, runs, n, false, some);
+    let forth = pass(part, places, runs, n, true, some);
+    let left = std::num::wrapping_sub_usize(n, back + forth);
+    settle_from(part, places, runs, n, back < forth, left);
 }

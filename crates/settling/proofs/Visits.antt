@@ -93,10 +93,11 @@ module _ {visit : List ℕ → ℕ → List ℕ} {weight : List ℕ → ℕ} {n 
             );
       }
 
-  pub passing-end : (turns : ℕ) → turns ≤ i → Pass visit weight n turns t₀ t count
-  passing-end turns over =
+  pub passing-end : (turns : ℕ) → turns ≤ i → i ≤ turns → Pass visit weight n turns t₀ t count
+  passing-end turns over within =
       record {
         reached = here .reached;
+        few = omega (arith, here .few);
         falls = here .falls;
         settled = λ all none c l.
             let (same, before) = here .still none in

@@ -36,6 +36,7 @@ module _ (visit : List ℕ → ℕ → List ℕ) where
     -- what a pass promises, which visits so many of the numbers below n, each once, and counts the visits that changed the table
     pub record Pass (n turns : ℕ) (before after : List ℕ) (count : ℕ) : Type 0 where
       pub reached : Reached n before after
+      pub few : count ≤ turns
       pub falls : 0 < count → weight after < weight before
       pub settled : n ≤ turns → count ≡ 0 → Settled n after
 

@@ -17,10 +17,10 @@ use Rattle.std.proofs.num.wrapping_sub_usize.Reads as wrapping-sub-usize-reads
 use Rattle.running.proofs.settle.settle_by_callers.Reads as settle-by-callers-reads
 
 abbrev Inv-loop : tie.InvT-loop
-Inv-loop part places runs₀ n first unfound left₀ forward₀ runs left forward = Reached (visited part places) n runs₀ runs
+Inv-loop part places runs₀ n forward unfound left₀ runs left = Reached (visited part places) n runs₀ runs
 
 abbrev μ-loop : tie.MeasureT-loop
-μ-loop part places runs₀ n first unfound left₀ forward₀ runs left forward = lacking runs
+μ-loop part places runs₀ n forward unfound left₀ runs left = lacking runs
 
 -- the set keeps its length
 kept : (c : tie.After-pass-arg Inv-loop μ-loop) → length (c .before .loop .runs) ≡ length (c .before .before .before .before .before .args .runs .now)
