@@ -33,8 +33,9 @@ use Rattle.endings.specs.Reached.{reaches, endlessList}
 use Rattle.endings.proofs.Names.{names-iff, accepted-names}
 use Rattle.endings.proofs.Support.{reached-endless}
 use Rattle.endings.proofs.Reached.{table-reaches}
-use Rattle.endless.specs.Found as found
-use Rattle.endless.specs.Found.{ReachAsked, FromAsked, Found, Marked}
+use Rattle.reach.specs.Found as found
+use Rattle.reach.specs.Found.{ReachAsked, FromAsked, Found}
+use Rattle.endless.specs.Marked.{Marked}
 use Rattle.endless.specs.Answer.{explained, areaAfter, afterCheck, Explains, EndlessCalled}
 use Rattle.endless.specs.declared.answer.Explained.{Explained}
 

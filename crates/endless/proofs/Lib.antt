@@ -1,4 +1,1 @@
-pub mod Queue
-pub mod Reaching
-pub mod Listing
 pub mod Explaining

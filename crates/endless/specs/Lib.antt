@@ -1,2 +1,2 @@
-pub mod Found
 pub mod Answer
+pub mod Marked

@@ -1,14 +1,14 @@
 // The endless call: refusals 1 to 7, 9, 16 and 17, or the list of the sequences without a run that one reaches.
 use crate::answer::Explained;
 use crate::answer::Members;
-use crate::members::write_members;
-use crate::reach::reach;
 use callers::sets::SET_WORDS;
 use callers::sets::contains;
 use image::answer::Checked;
 use image::answer::Head;
 use image::answer::Refusal;
 use library::parts::sequences_part;
+use reach::found::reach;
+use reach::members::write_members;
 use reader::check::check;
 use running::write::write_running;
 use tables::size::MOST_PLACES;
@@ -20,7 +20,7 @@ ghost use Rattle.rules.specs.Checked.{accepts};
 ghost use Rattle.library.specs.Library.{libraryOf};
 ghost use Rattle.runs.specs.Possible.{hasRun};
 ghost use Rattle.endless.specs.Answer.{EndlessCalled, Explains};
-ghost use Rattle.endless.specs.Found.{Marked};
+ghost use Rattle.endless.specs.Marked.{Marked};
 
 // Lists what sequence `c` reaches, which has no run, where the area has room for it.
 fn list_reached(

@@ -19,8 +19,8 @@ use Rattle.endless.proofs.call.list_reached.Statement.{statement}
 use Rattle.endless.proofs.call.list_reached.Tie as tie
 use Rattle.endless.proofs.call.list_reached.Reads as reads
 use Rattle.endless.proofs.call.list_reached.Lts as lts
-use Rattle.endless.proofs.members.write_members.Reads as write-members-reads
-use Rattle.endless.proofs.reach.reach.Reads as reach-reads
+use Rattle.reach.proofs.members.write_members.Reads as write-members-reads
+use Rattle.reach.proofs.found.reach.Reads as reach-reads
 use Rattle.library.proofs.parts.sequences_part.Reads as sequences-part-reads
 
 -- what was found, in rising order, is the list

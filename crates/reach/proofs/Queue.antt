@@ -22,7 +22,7 @@ use Rattle.walk.specs.Walk.{entriesEnd}
 use Rattle.callers.specs.Callers.{inSet, withMember}
 use Rattle.callers.proofs.CallerSets.{member-same, member-other, member-stays, none-member}
 use Rattle.callers.proofs.Calls.{left, left-start, left-call, left-on, left-out, left-past}
-use Rattle.endless.specs.Found.{Queued, Noted}
+use Rattle.reach.specs.Found.{Queued, Noted}
 
 -- ---- the queue
 

@@ -14,8 +14,8 @@ use Rattle.walk.specs.Walk.{alternativesAt}
 use Rattle.library.specs.Calls.{callsOf}
 use Rattle.callers.specs.Callers.{inSet, withMember, calls}
 use Rattle.callers.proofs.CallerSets.{member-same, member-other, none-member}
-use Rattle.endless.specs.Found.{Queued, Noted, ReachAsked, FromAsked, itself, onward, Found}
-use Rattle.endless.proofs.Queue.{queued-none, queued-more}
+use Rattle.reach.specs.Found.{Queued, Noted, ReachAsked, FromAsked, itself, onward, Found}
+use Rattle.reach.proofs.Queue.{queued-none, queued-more}
 
 -- what holds at the head of the loop: what is found is reached from sequence c, and what the first sequences of the queue call, so many of them,
 -- is found where it is not among `runs`

@@ -7,7 +7,7 @@ ghost use lib.ListN.{length, drop};
 ghost use Rattle.general.specs.Scan.{passing};
 ghost use Rattle.image.specs.Word.{mostSequences};
 ghost use Rattle.callers.specs.Callers.{setWords, inSet};
-ghost use Rattle.endless.specs.Found.{one, MemberPut};
+ghost use Rattle.reach.specs.Found.{one, MemberPut};
 
 // Writes sequence `c` at index `k` of the area, where it is in the set. Answers the index after it.
 fn put_member(set: &[u64], c: usize, area: &mut [u32], k: usize) -> usize

@@ -1,4 +1,4 @@
--- `endless::members::put_member` meets its contract.
+-- `reach::members::put_member` meets its contract.
 -- Assumes nothing.
 use borrow.Author.Needs.{needs}
 use native.Mathlib.Omega.{arith}
@@ -6,11 +6,11 @@ use Prim.Native.Nat.{_<_}
 use mathlib.Core.Path.{_≡_, sym, ap, _∙_}
 use mathlib.Core.Bool.{Bool, cond}
 use lib.ListN.{length, set}
-use Rattle.endless.specs.Found.{one}
-use Rattle.endless.proofs.members.put_member.Statement.{statement}
-use Rattle.endless.proofs.members.put_member.Tie as tie
-use Rattle.endless.proofs.members.put_member.Reads as reads
-use Rattle.endless.proofs.members.put_member.Lts as lts
+use Rattle.reach.specs.Found.{one}
+use Rattle.reach.proofs.members.put_member.Statement.{statement}
+use Rattle.reach.proofs.members.put_member.Tie as tie
+use Rattle.reach.proofs.members.put_member.Reads as reads
+use Rattle.reach.proofs.members.put_member.Lts as lts
 use Rattle.callers.proofs.sets.contains.Reads as contains-reads
 
 -- where it is in the set there is room for it

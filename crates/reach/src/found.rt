@@ -16,7 +16,7 @@ ghost use Rattle.general.specs.Numbers.{Zeros};
 ghost use Rattle.library.specs.Calls.{callsOf};
 ghost use Rattle.library.specs.Library.{alternativesFrom};
 ghost use Rattle.callers.specs.Callers.{setWords};
-ghost use Rattle.endless.specs.Found.{NamesWithin, ReachAsked, Queued, Noted, Found};
+ghost use Rattle.reach.specs.Found.{NamesWithin, ReachAsked, Queued, Noted, Found};
 
 // Finds sequence `d`, where it has no run and was not found before. Answers how many are found.
 fn note(

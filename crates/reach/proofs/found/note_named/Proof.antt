@@ -1,4 +1,4 @@
--- `endless::reach::note_named` meets its contract: what is found so far, with the calls to come, is all.
+-- `reach::found::note_named` meets its contract: what is found so far, with the calls to come, is all.
 -- Assumes nothing.
 use borrow.Author.Needs.{needs}
 use native.Mathlib.Omega.{arith}
@@ -7,13 +7,13 @@ use mathlib.Core.Path.{_≡_, refl, sym, _∙_}
 use borrow.Author.Tests.{not-true, not-false}
 use lib.ListN.{length}
 use Rattle.library.proofs.Decode.{kind-is}
-use Rattle.endless.proofs.Queue.{Noting, noting-start, noting-call, noting-on, noting-out, noting-end}
-use Rattle.endless.proofs.reach.note_named.Statement.{statement}
-use Rattle.endless.proofs.reach.note_named.Tie as tie
-use Rattle.endless.proofs.reach.note_named.Reads as reads
-use Rattle.endless.proofs.reach.note_named.Lts as lts
+use Rattle.reach.proofs.Queue.{Noting, noting-start, noting-call, noting-on, noting-out, noting-end}
+use Rattle.reach.proofs.found.note_named.Statement.{statement}
+use Rattle.reach.proofs.found.note_named.Tie as tie
+use Rattle.reach.proofs.found.note_named.Reads as reads
+use Rattle.reach.proofs.found.note_named.Lts as lts
 use Rattle.callers.proofs.write.goes_on.Reads as goes-on-reads
-use Rattle.endless.proofs.reach.note.Reads as note-reads
+use Rattle.reach.proofs.found.note.Reads as note-reads
 use Rattle.image.proofs.word.is_kind.Reads as is-kind-reads
 use Rattle.image.proofs.word.payload_of.Reads as payload-of-reads
 use Rattle.walk.proofs.sequence.entries_end.Reads as entries-end-reads

@@ -11,7 +11,7 @@ use mathlib.Core.List.{List, [], _∷_, _++_, append-nil, append-assoc}
 use lib.ListN.{length, getD, set, drop, length-append}
 use lib.Seq.{drop-cons, set-append-seam}
 use Rattle.general.specs.Scan.{passing}
-use Rattle.endless.specs.Found.{one}
+use Rattle.reach.specs.Found.{one}
 
 last-length : (b : Bool) (n : ℕ) → length (cond b (n ∷ []) []) ≡ one b
 last-length true n = refl

@@ -1,18 +1,18 @@
--- `endless::reach::reach` meets its contract.
+-- `reach::found::reach` meets its contract.
 -- Assumes nothing.
 use borrow.Author.Needs.{needs}
 use native.Mathlib.Omega.{arith}
 use Prim.Native.Nat.{_-_, _<_}
 use mathlib.Core.Path.{_≡_, refl, sym, _∙_}
 use lib.ListN.{length, getD, length-set}
-use Rattle.endless.proofs.Queue.{queued-few}
-use Rattle.endless.proofs.Reaching.{Reaching, reaching-start, reaching-turn, reaching-end}
-use Rattle.endless.proofs.reach.reach.Statement.{statement}
-use Rattle.endless.proofs.reach.reach.Tie as tie
-use Rattle.endless.proofs.reach.reach.Reads as reads
-use Rattle.endless.proofs.reach.reach.Lts as lts
+use Rattle.reach.proofs.Queue.{queued-few}
+use Rattle.reach.proofs.Reaching.{Reaching, reaching-start, reaching-turn, reaching-end}
+use Rattle.reach.proofs.found.reach.Statement.{statement}
+use Rattle.reach.proofs.found.reach.Tie as tie
+use Rattle.reach.proofs.found.reach.Reads as reads
+use Rattle.reach.proofs.found.reach.Lts as lts
 use Rattle.callers.proofs.sets.insert.Reads as insert-reads
-use Rattle.endless.proofs.reach.note_named.Reads as note-named-reads
+use Rattle.reach.proofs.found.note_named.Reads as note-named-reads
 
 abbrev Inv-loop : tie.InvT-loop
 Inv-loop part places runs found₀ queue₀ n c count₀ done₀ found queue count done = Reaching n part places runs c found queue count done × (length queue ≡ length queue₀)

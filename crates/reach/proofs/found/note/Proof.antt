@@ -1,4 +1,4 @@
--- `endless::reach::note` meets its contract.
+-- `reach::found::note` meets its contract.
 -- Assumes nothing.
 use borrow.Author.Needs.{needs}
 use native.Mathlib.Omega.{arith}
@@ -8,11 +8,11 @@ use mathlib.Core.Bool.{false, _||_}
 use lib.ListN.{length}
 use Rattle.general.proofs.Bools.{nor-right}
 use Rattle.callers.specs.Callers.{inSet}
-use Rattle.endless.proofs.Queue.{queue-room, noted-before, noted-new}
-use Rattle.endless.proofs.reach.note.Statement.{statement}
-use Rattle.endless.proofs.reach.note.Tie as tie
-use Rattle.endless.proofs.reach.note.Reads as reads
-use Rattle.endless.proofs.reach.note.Lts as lts
+use Rattle.reach.proofs.Queue.{queue-room, noted-before, noted-new}
+use Rattle.reach.proofs.found.note.Statement.{statement}
+use Rattle.reach.proofs.found.note.Tie as tie
+use Rattle.reach.proofs.found.note.Reads as reads
+use Rattle.reach.proofs.found.note.Lts as lts
 use Rattle.callers.proofs.sets.contains.Reads as contains-reads
 use Rattle.callers.proofs.sets.insert.Reads as insert-reads
 

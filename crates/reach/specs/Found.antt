@@ -8,9 +8,7 @@ use lib.ListN.{length, getD, set}
 use Rattle.general.specs.Numbers.{Zeros}
 use Rattle.general.specs.Scan.{passing}
 use Rattle.image.specs.Word.{kind, payload, mostSequences}
-use Rattle.image.specs.declared.answer.Head.{Head}
 use Rattle.callers.specs.Callers.{setWords, inSet, calls}
-use Rattle.running.specs.Written.{RunningWritten}
 
 -- a word that names a sequence names one below n
 abbrev pub NamesWithin : ℕ → List ℕ → Type 0
@@ -65,10 +63,3 @@ one b = cond b 1 0
 pub record MemberPut (members : List ℕ) (c : ℕ) (before : List ℕ) (k : ℕ) (after : List ℕ) (r : ℕ) : Type 0 where
   pub area : after ≡ cond (inSet members c) (set before k c) before
   pub next : r ≡ k + one (inSet members c)
-
--- the places of an accepted image's sequences, and which of them have a run, in areas with room
-pub record Marked (h : Head) (image places runs : List ℕ) : Type 0 where
-  pub before : List ℕ
-  pub written : RunningWritten h image before places runs
-  pub room : h .sequences ≤ length places
-  pub four : length runs ≡ setWords

@@ -1,15 +1,15 @@
--- `endless::members::write_members` meets its contract.
+-- `reach::members::write_members` meets its contract.
 -- Assumes nothing.
 use borrow.Author.Needs.{needs}
 use native.Mathlib.Omega.{arith}
 use Prim.Native.Nat.{_-_}
 use Rattle.callers.specs.Callers.{inSet}
-use Rattle.endless.proofs.Listing.{Writing, writing-start, writing-room, writing-turn, writing-done}
-use Rattle.endless.proofs.members.write_members.Statement.{statement}
-use Rattle.endless.proofs.members.write_members.Tie as tie
-use Rattle.endless.proofs.members.write_members.Reads as reads
-use Rattle.endless.proofs.members.write_members.Lts as lts
-use Rattle.endless.proofs.members.put_member.Reads as put-member-reads
+use Rattle.reach.proofs.Listing.{Writing, writing-start, writing-room, writing-turn, writing-done}
+use Rattle.reach.proofs.members.write_members.Statement.{statement}
+use Rattle.reach.proofs.members.write_members.Tie as tie
+use Rattle.reach.proofs.members.write_members.Reads as reads
+use Rattle.reach.proofs.members.write_members.Lts as lts
+use Rattle.reach.proofs.members.put_member.Reads as put-member-reads
 
 abbrev Inv-loop : tie.InvT-loop
 Inv-loop set n area₀ k₀ c₀ area k c = Writing (inSet set) n area₀ area k c

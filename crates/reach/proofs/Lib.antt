@@ -1,0 +1,3 @@
+pub mod Queue
+pub mod Reaching
+pub mod Listing
