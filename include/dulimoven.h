@@ -74,7 +74,7 @@ extern "C" {
 #define DULIMOVEN_STACK_CARDS 163840
 #define DULIMOVEN_STACK_CHAIN 65536
 #define DULIMOVEN_STACK_LIST 1024
-#define DULIMOVEN_STACK_ENDLESS 32768
+#define DULIMOVEN_STACK_ENDLESS 20480
 
 /*
  * The kinds of an image's words. Kinds 10 to 12 are those of a chain's words

@@ -6,9 +6,9 @@ use Prim.Native.Nat.{ℕ, zero, suc, _+_, _*_, _^_, _<_}
 use native.Mathlib.Omega.{arith}
 use mathlib.Core.Path.{_≡_, refl, sym, ap, subst, _∙_}
 use mathlib.Core.Logic.{inl, inr}
-use mathlib.Core.Bool.{_||_}
+use mathlib.Core.Bool.{false, _||_}
 use mathlib.Core.List.{List, [], _∷_, _++_}
-use lib.ListN.{length, getD, drop, replicate}
+use lib.ListN.{length, getD, drop, take, replicate}
 use lib.ListN as list
 use Rattle.general.specs.Tests.{some}
 use Rattle.general.proofs.Scan.{getD-listBelow}
@@ -24,7 +24,8 @@ use Rattle.general.specs.Numbers.{total}
 use Rattle.image.specs.Word.{runningSums}
 use Rattle.image.specs.declared.answer.Checked.{Checked}
 use Rattle.library.proofs.Accepted.{counted}
-use Rattle.runs.specs.Possible.{possible}
+use Rattle.runs.specs.Possible.{possible, hasRun}
+use Rattle.runs.proofs.Columns.{noRun-iff}
 use Rattle.runs.proofs.Outcome.{present≢untouched}
 use Rattle.cards.specs.Area.{partWord}
 use Rattle.cards.specs.Layout.{CardColumn, always-stands, place, cardWords}
@@ -34,20 +35,22 @@ use Rattle.cards.specs.Meaning.{Always, needed, set, cleared, columnOf}
 use Rattle.runs.specs.Touch.{questionOf}
 use Rattle.chains.specs.Link.{Link, touchLink, untouchedLink, Chain, chainWords, Fits}
 use Rattle.chains.proofs.Fits.{accepted-fits}
+use Rattle.endings.specs.Endless.{Endless}
 use Rattle.endings.specs.Reached.{endlessList}
+use Rattle.endings.proofs.Listed.{listed-is}
 use Rattle.chains.specs.Answer.{shown}
 use Rattle.chains.specs.Call.{answered, chained}
 use Rattle.agreement.specs.Samples.{L, selfCall, clearThenNeed, tenSequences, blank, card1}
 use Rattle.dulimoven.specs.Returned.{Returned, returned}
 use Rattle.dulimoven.specs.ChainCall.{Asked, Answers, Links, ChainReturn}
 use Rattle.dulimoven.specs.ChainCall as chain
-use Rattle.dulimoven.specs.Demands.{Engine, count, Ready, Demand1, Demand2, Proves, Demand3}
+use Rattle.dulimoven.specs.Demands.{Engine, Refuses, count, Ready, Demand1, Demand2, Proves, Demand3}
 use Rattle.dulimoven.specs.Added.{Listed, listOver, Lists}
-use Rattle.dulimoven.specs.Explained.{found}
+use Rattle.dulimoven.specs.Explained.{found, Explains}
 use Rattle.dulimoven.specs.Engine.{engine}
 use Rattle.agreement.specs.Wrong.{Gets, Unwritten, LongerChain, BlankColumn, OneCard, Untouched, NoneAtOnce, AlwaysTwelve, SameLink, InventedLinks, InventedCount, RefusesAll, RefusesAllCards, RefusesAllChains}
 use Rattle.agreement.specs.Wrong.{RefusesAllLists, UnwrittenLists, LastMember, OrderUnnoticed, noList, lazyLists, secondCard}
-use Rattle.agreement.specs.Wrong.{RefusesAllEndless, UnwrittenReasons, AskedAlone, noReason, lazyReasons, askedOnly}
+use Rattle.agreement.specs.Wrong.{RefusesAllEndless, UnwrittenReasons, AskedAlone, AlwaysSixteen, noReason, allRun, lazyReasons, askedOnly}
 use Rattle.agreement.specs.Wrong.{blankCards, flaglessCards, lazyCards, fixedChain, unwritten, fixedLinks, noImage}
 use Rattle.dulimoven.proofs.ChainCall.{chain-only}
 use Rattle.dulimoven.proofs.Demands.{only-engine, columns, runs}
@@ -73,6 +76,10 @@ oneSet = 0x10040081 ∷ 0x50000000 ∷ 0x30000000 ∷ 0x60000000 ∷ 0x70000000 
 accepted-L : checked L ≡ Checked.Accepted (record { facts = 3; steps = 3; sequences = 3 })
 unfolding checked scan total runningSums opened lastOf setsOf inColumn bit
 accepted-L = refl
+
+accepted-ten : checked tenSequences ≡ Checked.Accepted (record { facts = 1; steps = 1; sequences = 10 })
+unfolding checked scan total runningSums opened lastOf setsOf inColumn bit
+accepted-ten = refl
 
 accepted-selfCall : checked selfCall ≡ Checked.Accepted (record { facts = 1; steps = 0; sequences = 1 })
 unfolding checked scan total runningSums opened lastOf setsOf inColumn bit
@@ -320,6 +327,62 @@ asked-L =
     let size = counted L _ accepted-L .sequences in
     record { ready = ready-L; short = omega arith; below = (omega arith, (omega arith, tt)) }
 
+-- L's sequence 2, and sequence 0 of the ten, have no run
+none-L : hasRun (libraryOf L) 2 ≡ false
+unfolding libraryOf has possible some
+none-L = refl
+
+none-ten : hasRun (libraryOf tenSequences) 0 ≡ false
+unfolding libraryOf has possible some
+none-ten = refl
+
+unended-L : Endless (libraryOf L) 2
+unended-L = record { sequence = omega (arith, counted L _ accepted-L .sequences); none = noRun-iff (libraryOf L) 2 .0 none-L }
+
+unended-ten : Endless (libraryOf tenSequences) 0
+unended-ten = record { sequence = omega (arith, counted tenSequences _ accepted-ten .sequences); none = noRun-iff (libraryOf tenSequences) 0 .0 none-ten }
+
+-- their lists
+reason-L : endlessList (libraryOf L) 2 ≡ 2 ∷ []
+unfolding libraryOf has possible some endlessList
+reason-L = refl
+
+reason-ten : endlessList (libraryOf tenSequences) 0 ≡ 0 ∷ 1 ∷ 3 ∷ []
+unfolding libraryOf has possible some endlessList
+reason-ten = refl
+
+-- an area with room is not refused
+answered-L : (e : Engine) → Explains e → ¬ Refuses (e .endless L 2 (zeros 3) .number)
+answered-L e x =
+    let size : length (zeros 3) ≡ 3 = refl in
+    x .enough L (zeros 3) _ accepted-L 2 unended-L (omega (arith, counted L _ accepted-L .sequences))
+
+pub refuses-explained : (e : Engine) → RefusesAllEndless e → ¬ Explains e
+refuses-explained e wrong x = answered-L e x (wrong L 2 (zeros 3))
+
+pub unwritten-explained : (e : Engine) → UnwrittenReasons e → ¬ Explains e
+unwritten-explained e wrong x =
+    let is = listed-is (libraryOf L) 2 _ .0 (x .reason L 2 (zeros 3) (answered-L e x) .listed) ∙ reason-L in
+    go (e .endless L 2 (zeros 3) .number) (sym (ap (take (e .endless L 2 (zeros 3) .number)) (wrong L 2 (zeros 3))) ∙ is)
+  where
+    go : (n : ℕ) → take n (zeros 3) ≡ 2 ∷ [] → ⊥
+    go zero same = omega (arith, ap (λ (xs : List ℕ). length xs) same)
+    go (suc n) same = omega (arith, ap (λ (xs : List ℕ). getD xs 0 0) same)
+
+pub alone-explained : (e : Engine) → AskedAlone e → ¬ Explains e
+alone-explained e wrong x =
+    let size : length (zeros 10) ≡ 10 = refl in
+    let low = x .enough tenSequences (zeros 10) _ accepted-ten 0 unended-ten (omega (arith, counted tenSequences _ accepted-ten .sequences)) in
+    let is = listed-is (libraryOf tenSequences) 0 _ .0 (x .reason tenSequences 0 (zeros 10) low .listed) ∙ reason-ten in
+    omega (arith, ap (λ (xs : List ℕ). length xs) (sym (wrong tenSequences 0 (zeros 10) low) ∙ is))
+
+-- by demand 2 the card of L's sequence 2 has no bit 0
+pub sixteen-explained : (e : Engine) → AlwaysSixteen e → Demand2 e → ¬ Explains e
+sixteen-explained e wrong d x =
+    let low : 2 < count (libraryOf L) = omega (arith, counted L _ accepted-L .sequences) in
+    let (w, run) = d .card L (zeros 39) ready-L 2 low .flags .run .0 (x .told L [] (zeros 39) ready-L 2 low .0 (wrong L 2 [])) in
+    unended-L .none w run
+
 -- "refusing all .." lists
 pub refuses-listed : (e : Engine) → RefusesAllLists e → ¬ Lists e
 refuses-listed e wrong lists =
@@ -536,6 +599,9 @@ refuses-goes image = omega arith
 
 pub no-reason-goes : RefusesAllEndless noReason
 no-reason-goes image c area = omega arith
+
+pub all-run-goes : AlwaysSixteen allRun
+all-run-goes image c area = refl
 
 pub lazy-reasons-goes : UnwrittenReasons lazyReasons
 lazy-reasons-goes image c area = refl

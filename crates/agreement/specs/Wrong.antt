@@ -2,7 +2,8 @@
 -- one way, and nothing is said of what else it does. "Always stands" of document 02, request 4, counts among the columns. Two more are wrong about
 -- chains: one that never writes them for a question, and one with a link more than the fewest. Three are wrong about lists (request 5): one
 -- refuses all, one writes no card, and one takes the last member's card for the list's. One does not notice entries that change places
--- (request 6). Three are wrong about sequences without a run (request 7): one refuses all, one writes no list, and one lists the asked sequence alone.
+-- (request 6). Four are wrong about sequences without a run (request 7): one refuses all, one answers
+-- 16 to all, one writes no list, and one lists the asked sequence alone.
 use Prim.Native.Nat.{ℕ, _*_, _/_, _^_, _≤_, _<_}
 use mathlib.Core.Path.{_≡_}
 use mathlib.Core.Logic.{_≢_}
@@ -143,6 +144,10 @@ UnwrittenReasons e = (image : List ℕ) (c : ℕ) (area : List ℕ) → e .endle
 abbrev pub AskedAlone : Engine → Type 0
 AskedAlone e = (image : List ℕ) (c : ℕ) (area : List ℕ) → ¬ Refuses (e .endless image c area .number) → found (e .endless image c area) ≡ c ∷ []
 
+-- 16 whatever is asked
+abbrev pub AlwaysSixteen : Engine → Type 0
+AlwaysSixteen e = (image : List ℕ) (c : ℕ) (area : List ℕ) → e .endless image c area .number ≡ 16 * 2 ^ 32
+
 -- ---- engines that are wrong in these ways: the right engine with another call in the place of one of its own
 
 abbrev pub withCheck : (List ℕ → ℕ) → Engine
@@ -201,6 +206,10 @@ secondCard = withLists (λ facts sequences cards list card. returned 0 (listBelo
 -- refusal 17, whatever the area
 abbrev pub noReason : Engine
 noReason = withEndless (λ image c area. returned (17 * 2 ^ 32) area)
+
+-- refusal 16, whatever the sequence
+abbrev pub allRun : Engine
+allRun = withEndless (λ image c area. returned (16 * 2 ^ 32) area)
 
 -- the right number, and the area as it was
 abbrev pub lazyReasons : Engine

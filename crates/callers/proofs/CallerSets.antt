@@ -9,7 +9,6 @@ use native.Mathlib.Nat.{add-zero}
 use native.Mathlib.Decide.{ℕ-discrete, decLt}
 use mathlib.Core.Path.{_≡_, refl, sym, ap, ap₂, _∙_}
 use mathlib.Core.Bool.{Bool, true, false, _&&_, _||_}
-use mathlib.Core.Logic.{inl, inr, ⊎-elim}
 use mathlib.Core.List.{List, [], _∷_}
 use lib.Bits.{bitOr, or-zero-l}
 use lib.Dec.{eqb, ltb}
@@ -18,15 +17,11 @@ use lib.Pow.{pow-lt}
 use lib.Seq.{getD-set-same, getD-set-other}
 use mir.Val.{boolByte}
 use borrow.Author.Tests.{eqb-true, eqb-false, eq-eqb, ne-eqb, lt-ltb, le-ltb}
-use Rattle.image.specs.Word.{kind, payload, isKind, isEntry}
-use Rattle.image.proofs.Words.{entry-of}
-use Rattle.general.specs.Tests.{some}
-use Rattle.general.proofs.Bools.{or-right, or-cases, nor-left, nor-right}
-use Rattle.library.specs.Library.{Item, step, check, Entry, item, entryOf, Alternative, entriesFrom, alternativesFrom}
+use Rattle.image.specs.Word.{payload, isKind}
+use Rattle.general.proofs.Bools.{or-right}
+use Rattle.library.specs.Library.{alternativesFrom}
 use Rattle.library.specs.Calls.{callsOf}
 use Rattle.walk.specs.Walk.{entriesEnd}
-use Rattle.library.proofs.Decode.{kind-is, step-entry, check-entry, call-entry}
-use Rattle.walk.proofs.Walking.{end-skips, end-ends}
 use Rattle.callers.proofs.Calls.{left, left-start, left-call, left-on, left-out, left-past}
 use Rattle.column.specs.Column.{bit, withFact}
 use Rattle.column.specs.Sets.{inColumn, difference}

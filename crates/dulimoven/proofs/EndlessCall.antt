@@ -1,7 +1,7 @@
 -- What the engine's endless call gives back is one of the cases of specs/EndlessCall, and the cases give no other number and no other area. What
 -- a caller can tell by the number follows from the cases.
 -- Assumes nothing.
-use Prim.Native.Nat.{ℕ, _≤_, _<_}
+use Prim.Native.Nat.{ℕ, _≤_}
 use native.Mathlib.Omega.{arith}
 use mathlib.Core.Path.{_≡_, refl, sym, ap, _∙_}
 use mathlib.Core.Logic.{_↔_}

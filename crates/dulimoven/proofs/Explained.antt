@@ -3,10 +3,10 @@
 -- Assumes nothing.
 use Prim.Native.Nat.{ℕ, _*_, _^_, _≤_, _<_}
 use native.Mathlib.Omega.{arith}
-use mathlib.Core.Path.{_≡_, refl, sym, ap, _∙_, subst}
+use mathlib.Core.Path.{_≡_, sym, ap, _∙_, subst}
 use mathlib.Core.Logic.{_↔_}
-use mathlib.Core.List.{List, _++_}
-use lib.ListN.{length, drop, take}
+use mathlib.Core.List.{List}
+use lib.ListN.{length, drop}
 use lib.Seq.{take-append-seam}
 use Rattle.rules.specs.Checked.{checked}
 use Rattle.library.specs.Library.{Library, libraryOf}
@@ -19,9 +19,9 @@ use Rattle.endings.specs.Endless.{Endless, Listed, itself}
 use Rattle.endings.proofs.Names.{accepted-names}
 use Rattle.endings.proofs.Support.{supported-endless, listed-supports}
 use Rattle.endings.proofs.Listed.{listed-is, list-short}
-use Rattle.dulimoven.specs.Returned.{Returned, returned, turnedDown}
+use Rattle.dulimoven.specs.Returned.{Returned, turnedDown}
 use Rattle.dulimoven.specs.EndlessCall.{Asked, EndlessRefused, by-image, by-sequence, by-run, by-area, EndlessReturn, refused, listed}
-use Rattle.dulimoven.specs.Demands.{Engine, Refuses, count, Ready, Demand1, Demand2}
+use Rattle.dulimoven.specs.Demands.{Engine, Refuses, count, Demand1, Demand2}
 use Rattle.dulimoven.specs.Explained.{found, Reason, Explains}
 use Rattle.dulimoven.specs.Engine.{engine}
 use Rattle.dulimoven.proofs.Refusals.{refusal-high}
@@ -86,8 +86,8 @@ pub engines-explain : (e : Engine) → Demand1 e → Demand2 e → Explains e
 engines-explain e total columns =
     record {
       reason = λ image c area. return-reason image c area (e .endless image c area) (total .endless image c area);
-      enough = λ image area cards ready c none room.
-          return-enough image c area (e .endless image c area) (ready .head) (ready .accepted) none room (total .endless image c area);
+      enough = λ image area h accepted c none room.
+          return-enough image c area (e .endless image c area) h accepted none room (total .endless image c area);
       told = λ image area cards ready c low.
           let sixteen = return-sixteen image c area (e .endless image c area) (ready .head) (ready .accepted) low (total .endless image c area) in
           let run = columns .card image cards ready c low .flags .run in

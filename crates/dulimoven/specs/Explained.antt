@@ -5,6 +5,9 @@ use mathlib.Core.Logic.{_↔_}
 use mathlib.Core.List.{List, List·Memᴰ}
 use lib.ListN.{length, take}
 use Rattle.column.specs.Column.{bit}
+use Rattle.image.specs.declared.answer.Head.{Head}
+use Rattle.image.specs.declared.answer.Checked.{Checked}
+use Rattle.rules.specs.Checked.{checked}
 use Rattle.library.specs.Library.{Library, libraryOf}
 use Rattle.cards.specs.Area.{partWord}
 use Rattle.endings.specs.Endless.{Endless, Listed, Supports, NoneEnds}
@@ -32,8 +35,8 @@ pub record Explains (e : Engine) : Type 0 where
   pub reason : (image : List ℕ) (c : ℕ) (area : List ℕ) → ¬ Refuses (e .endless image c area .number)
       → Reason (libraryOf image) c (found (e .endless image c area))
   -- an area with a word for each sequence is enough, for every sequence without a run
-  pub enough : (image area cards : List ℕ) → Ready image cards → (c : ℕ) → Endless (libraryOf image) c → count (libraryOf image) ≤ length area
-      → ¬ Refuses (e .endless image c area .number)
+  pub enough : (image area : List ℕ) (h : Head) → checked image ≡ Checked.Accepted h → (c : ℕ) → Endless (libraryOf image) c
+      → count (libraryOf image) ≤ length area → ¬ Refuses (e .endless image c area .number)
   -- "16 where the sequence has a run": where its card has bit 0, "a run exists", and only there
   pub told : (image area cards : List ℕ) → Ready image cards → (c : ℕ) → c < count (libraryOf image)
       → (e .endless image c area .number ≡ 16 * 2 ^ 32) ↔ (bit (partWord (e .cards image cards .area) c 0) 0 ≡ 1)

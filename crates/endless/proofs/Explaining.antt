@@ -28,7 +28,7 @@ use Rattle.runs.specs.Possible.{hasRun}
 use Rattle.runs.proofs.Columns.{noRun-iff}
 use Rattle.tables.proofs.Tables.{few-sequences, place-in, reads-in}
 use Rattle.callers.specs.Callers.{inSet, calls}
-use Rattle.endings.specs.Endless.{Endless, Names, Reaches, itself, onward}
+use Rattle.endings.specs.Endless.{Endless, Reaches, itself, onward}
 use Rattle.endings.specs.Reached.{reaches, endlessList}
 use Rattle.endings.proofs.Names.{names-iff, accepted-names}
 use Rattle.endings.proofs.Support.{reached-endless}

@@ -7,7 +7,6 @@ use mathlib.Core.List.{List, _++_}
 use lib.ListN.{length, drop}
 use lib.Dec.{ltb}
 use Rattle.image.specs.Answer.{refusalAnswer}
-use Rattle.image.specs.declared.answer.Head.{Head}
 use Rattle.image.specs.declared.answer.Refusal.the-variants.{Sequence, HasRun, ListArea}
 use Rattle.image.specs.declared.answer.Checked.{Checked}
 use Rattle.rules.specs.Checked.{checked}

@@ -8,7 +8,7 @@ use mathlib.Core.Logic.{⊎-elim}
 use mathlib.Core.List.{List, [], _∷_}
 use lib.ListN.{length, length-set}
 use borrow.Author.Tests.{not-true}
-use Rattle.general.specs.Scan.{every, passing}
+use Rattle.general.specs.Scan.{every}
 use Rattle.general.specs.Tests.{some, All}
 use Rattle.general.proofs.Bools.{passes-or-not, and-parts}
 use Rattle.general.proofs.Scan.{countPassing, count-more}

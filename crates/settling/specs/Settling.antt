@@ -33,7 +33,7 @@ module _ (visit : List ℕ → ℕ → List ℕ) where
       pub falls : changed ≡ true → weight after < weight before
       pub stays : changed ≡ false → after ≡ before
 
-    -- what a pass promises, which visits so many of the numbers below n, each once, and counts the visits that changed the table
+    -- what a pass over so many of the numbers below n promises; `count` is how many of its visits changed the table
     pub record Pass (n turns : ℕ) (before after : List ℕ) (count : ℕ) : Type 0 where
       pub reached : Reached n before after
       pub few : count ≤ turns

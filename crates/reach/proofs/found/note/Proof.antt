@@ -1,7 +1,6 @@
 -- `reach::found::note` meets its contract.
 -- Assumes nothing.
 use borrow.Author.Needs.{needs}
-use native.Mathlib.Omega.{arith}
 use mathlib.Core.Path.{_≡_, sym, ap₂, _∙_}
 use Prim.Native.Nat.{_<_}
 use mathlib.Core.Bool.{false, _||_}
