@@ -11,14 +11,14 @@ use mathlib.Core.List.{List, [], _∷_, _++_, append-nil, append-assoc}
 use lib.ListN.{length, getD, set, drop, length-append}
 use lib.Seq.{drop-cons, set-append-seam}
 use Rattle.general.specs.Scan.{passing}
-use Rattle.reach.specs.Found.{one}
+use mir.Val.{boolByte}
 
-last-length : (b : Bool) (n : ℕ) → length (cond b (n ∷ []) []) ≡ one b
+last-length : (b : Bool) (n : ℕ) → length (cond b (n ∷ []) []) ≡ boolByte b
 last-length true n = refl
 last-length false n = refl
 
 module _ (p : ℕ → Bool) where
-  pub passing-next : (c : ℕ) → length (passing p (c + 1)) ≡ length (passing p c) + one (p c)
+  pub passing-next : (c : ℕ) → length (passing p (c + 1)) ≡ length (passing p c) + boolByte (p c)
   unfolding passing
   passing-next c = ap (λ (n : ℕ). length (passing p n)) (add-one c) ∙ length-append (passing p c) (cond (p c) (c ∷ []) []) ∙ ap (λ (n : ℕ). length (passing p c) + n) (last-length (p c) c)
 
@@ -50,10 +50,10 @@ module _ (p : ℕ → Bool) where
       ∙ ap (λ (m : ℕ). xs ++ c ∷ drop m area₀) size ∙ sym (append-assoc xs (c ∷ []) (drop (length (xs ++ c ∷ [])) area₀))
 
   module _ {n : ℕ} {area₀ area : List ℕ} {k c : ℕ} (here : Writing n area₀ area k c) (below : c < n) (room : length (passing p n) ≤ length area₀) where
-    pub writing-room : k + one (p c) ≤ length area
+    pub writing-room : k + boolByte (p c) ≤ length area
     writing-room = omega (arith, here .index, here .long, passing-next c, passing-longer (c + 1) n (omega arith))
 
-    pub writing-turn : {area′ : List ℕ} {k′ : ℕ} → length area′ ≡ length area → area′ ≡ cond (p c) (set area k c) area → k′ ≡ k + one (p c) → Writing n area₀ area′ k′ (c + 1)
+    pub writing-turn : {area′ : List ℕ} {k′ : ℕ} → length area′ ≡ length area → area′ ≡ cond (p c) (set area k c) area → k′ ≡ k + boolByte (p c) → Writing n area₀ area′ k′ (c + 1)
     unfolding passing
     writing-turn {area′} kept put next =
         record {
@@ -66,7 +66,7 @@ module _ (p : ℕ → Bool) where
         xs : List ℕ
         xs = passing p c
 
-        go : (b : Bool) → k + one b ≤ length area → cond b (set area k c) area ≡ (xs ++ cond b (c ∷ []) []) ++ drop (length (xs ++ cond b (c ∷ []) [])) area₀
+        go : (b : Bool) → k + boolByte b ≤ length area → cond b (set area k c) area ≡ (xs ++ cond b (c ∷ []) []) ++ drop (length (xs ++ cond b (c ∷ []) [])) area₀
         go true l = ap₂ (λ (m : List ℕ) (i : ℕ). set m i c) (here .written) (here .index) ∙ put-next area₀ xs c (omega (arith, here .index, here .long))
         go false l = here .written ∙ ap (λ (ys : List ℕ). ys ++ drop (length ys) area₀) (sym (append-nil xs))
 

@@ -1,10 +1,11 @@
 -- What is found from a sequence on, in the form that the loops follow: a set, and a queue of its members in the order in which they were found.
--- That it is what the sequence reaches is proved in `proofs/`.
+-- That it is what the sequence reaches is proved in crate `endless`.
 use Prim.Native.Nat.{ℕ, _+_, _≤_, _<_}
 use mathlib.Core.Path.{_≡_}
 use mathlib.Core.Bool.{Bool, true, false, not, cond, _&&_, _||_}
 use mathlib.Core.List.{List}
 use lib.ListN.{length, getD, set}
+use mir.Val.{boolByte}
 use Rattle.general.specs.Numbers.{Zeros}
 use Rattle.general.specs.Scan.{passing}
 use Rattle.image.specs.Word.{kind, payload, mostSequences}
@@ -55,11 +56,7 @@ pub record Found (n : ℕ) (part places runs : List ℕ) (c : ℕ) (found : List
   pub closed : (d e : ℕ) → inSet found d ≡ true → calls part places d e ≡ true → inSet runs e ≡ false → inSet found e ≡ true
   pub size : count ≡ length (passing (inSet found) n)
 
--- 1 where a test passes
-abbrev pub one : Bool → ℕ
-one b = cond b 1 0
-
 -- sequence c is written at index k where it is in the set, and r is the index after it
 pub record MemberPut (members : List ℕ) (c : ℕ) (before : List ℕ) (k : ℕ) (after : List ℕ) (r : ℕ) : Type 0 where
   pub area : after ≡ cond (inSet members c) (set before k c) before
-  pub next : r ≡ k + one (inSet members c)
+  pub next : r ≡ k + boolByte (inSet members c)

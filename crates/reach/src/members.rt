@@ -4,14 +4,15 @@ ghost use mathlib.Core.Path.{_≡_};
 ghost use mathlib.Core.List.{_++_};
 ghost use Prim.Native.Nat.{_+_, _≤_, _<_};
 ghost use lib.ListN.{length, drop};
+ghost use mir.Val.{boolByte};
 ghost use Rattle.general.specs.Scan.{passing};
 ghost use Rattle.image.specs.Word.{mostSequences};
 ghost use Rattle.callers.specs.Callers.{setWords, inSet};
-ghost use Rattle.reach.specs.Found.{one, MemberPut};
+ghost use Rattle.reach.specs.Found.{MemberPut};
 
 // Writes sequence `c` at index `k` of the area, where it is in the set. Answers the index after it.
 fn put_member(set: &[u64], c: usize, area: &mut [u32], k: usize) -> usize
-    requires { ⌜ (length (now set) ≡ setWords) × (c < mostSequences) × (k + one (inSet (now set) c) ≤ length (now area)) ⌝ }
+    requires { ⌜ (length (now set) ≡ setWords) × (c < mostSequences) × (k + boolByte (inSet (now set) c) ≤ length (now area)) ⌝ }
     ensures { λ r. ⌜ MemberPut (now (set .entry)) c (now (area .entry)) k (now (area .exit)) r ⌝ }
 {
     if contains(set, c) {
