@@ -97,8 +97,8 @@ fn settle_by_callers(part: &[u32], places: &[u32], runs: &mut [u64], n: usize)
     take_turns(part, places, &callers, &order[..n], runs, n);
 }
 
-// Settles the set, in which so many are left to be found: by passes, as long as each finds as many as it leaves, so that all of them together walk no
-// more than two walks over all sequences; otherwise by way of the callers.
+// Settles the set, in which so many are left to be found: by passes, as long as each finds as many as it leaves, so that what is left halves and there
+// are few of them; otherwise by way of the callers.
 fn settle_from(
     part: &[u32],
     places: &[u32],
