@@ -1,6 +1,7 @@
 /*
  * The benchmark: the library's check, cards, chain, list and why there is no
- * run beside the engines in C, over the generator's shapes. First each answer
+ * run beside the engines in C, over the generator's shapes, some of which it
+ * also has with 64 facts and with 256, side by side. First each answer
  * and each word written is compared, and a difference is an error; then each
  * call is timed. The engines take turns, so that other work on the machine
  * meets all alike, and each time is the median of many.
@@ -215,17 +216,18 @@ static void card_row(const struct shape *shape)
 
 /*
  * All questions on the facts 0, F/2 and F-1 of the sequences 0, C/2 and C-1,
- * and the fact and the sequence that are a third of the way up. Answers what
- * the library takes for the median question.
+ * and the fact and the sequence that are a third of the way up. What each
+ * engine takes for the median question is put into `middle`; where it is not
+ * shown, a slow engine is timed once. Answers that of the library.
  */
-static double chain_row(const struct shape *shape, int shown)
+static double chain_row(const struct shape *shape, int shown, double *middle)
 {
     static double us[ENGINES][96];
     uint32_t head = shape->words[0];
     uint32_t facts = facts_of(head), sequences = sequences_of(head);
     uint32_t fact[4] = {0, facts / 3, facts / 2, facts - 1};
     uint32_t sequence[4] = {0, sequences / 3, sequences / 2, sequences - 1};
-    double one[ENGINES], to_plain = 1e9, to_tuned = 0, middle[ENGINES];
+    double one[ENGINES], to_plain = 1e9, to_tuned = 0;
     int n = 0, found = 0, e, s, q, f;
     uint64_t most = 0, links;
     for (s = 0; s < 4; s++)
@@ -237,7 +239,7 @@ static double chain_row(const struct shape *shape, int shown)
                 links = run(&t, LIBRARY);
                 found += links != 0;
                 most = links > most ? links : most;
-                measure(&t, 1e4, 5, one);
+                measure(&t, 1e4, shown ? 5 : 1, one);
                 for (e = 0; e < ENGINES; e++)
                     us[e][n] = one[e];
                 n++;
@@ -334,12 +336,62 @@ static void list_rows(const struct shape *shape)
         verify(&t);
         measure(&t, 2e5, 9, us);
         measure(&call, 2e5, 5, all);
-        printf("%-22s %5zu %7zu | %8.4f %8.4f %5.2f | %8.2f %8.5f\n",
-               shape->name, shape->length, members[i], us[LIBRARY], us[PLAIN],
-               us[LIBRARY] / us[PLAIN], all[LIBRARY],
-               us[LIBRARY] / all[LIBRARY]);
+        printf("%-22s %5zu %5u %7zu | %8.4f %8.4f %5.2f | %8.2f %8.5f\n",
+               shape->name, shape->length, facts_of(shape->words[0]),
+               members[i], us[LIBRARY], us[PLAIN], us[LIBRARY] / us[PLAIN],
+               all[LIBRARY], us[LIBRARY] / all[LIBRARY]);
         fflush(stdout);
     }
+}
+
+/* What check, cards and the median question take, by each engine. */
+enum { CHECK_TIME, CARDS_TIME, QUESTION_TIME, TIMES };
+
+/*
+ * One shape with 64 facts and with 256. They take turns: each time is the
+ * median of five rounds.
+ */
+static void facts_row(const struct shape *few, const struct shape *many)
+{
+    enum { ROUNDS = 5 };
+    static double us[2][TIMES][ENGINES][ROUNDS];
+    double one[ENGINES], time[2][TIMES][ENGINES];
+    const struct shape *shapes[2];
+    int round, i, k, e;
+    shapes[0] = few;
+    shapes[1] = many;
+    for (round = 0; round < ROUNDS; round++)
+        for (i = 0; i < 2; i++) {
+            struct timed check = {shapes[i], CHECK, 0, 0, 0, 0};
+            struct timed call = {shapes[i], CARDS, 0, 0, 0, 0};
+            verify(&check);
+            verify(&call);
+            for (k = 0; k < TIMES; k++) {
+                if (k == CHECK_TIME)
+                    measure(&check, 1e5, 3, one);
+                else if (k == CARDS_TIME)
+                    measure(&call, 2e5, 3, one);
+                else
+                    chain_row(shapes[i], 0, one);
+                for (e = 0; e < ENGINES; e++)
+                    us[i][k][e][round] = one[e];
+            }
+        }
+    for (i = 0; i < 2; i++)
+        for (k = 0; k < TIMES; k++)
+            for (e = 0; e < ENGINES; e++)
+                time[i][k][e] = median(us[i][k][e], ROUNDS);
+    printf("%-20s", few->name);
+    for (k = 0; k < TIMES; k++)
+        printf(" | %8.2f %8.2f %5.2f %5.2f %5.2f", time[0][k][LIBRARY],
+               time[1][k][LIBRARY], time[1][k][LIBRARY] / time[0][k][LIBRARY],
+               time[0][k][LIBRARY] / time[0][k][TUNED],
+               time[1][k][LIBRARY] / time[1][k][TUNED]);
+    printf(" | %7.1f %6.2f %6.2f\n",
+           time[1][CARDS_TIME][PAPER] / time[1][CARDS_TIME][LIBRARY],
+           time[1][CARDS_TIME][PLAIN] / time[1][CARDS_TIME][LIBRARY],
+           time[1][CARDS_TIME][TUNED] / time[0][CARDS_TIME][TUNED]);
+    fflush(stdout);
 }
 
 /*
@@ -385,11 +437,14 @@ static void growth(const struct shape *shapes)
 int main(void)
 {
     static struct shape shapes[SHAPES], sizes[GROWTH], rings[RINGS];
-    double question[SHAPES];
+    static struct shape few[FACT_SHAPES], many[FACT_SHAPES];
+    double question[SHAPES], middle[ENGINES];
     int i;
     write_shapes(shapes);
     write_rings(rings);
     write_growth(sizes);
+    write_facts(few, 64);
+    write_facts(many, 256);
     printf("Microseconds, medians of many calls, the engines in turns. paper: "
            "the algorithms of 001, fact by\nfact; plain: columns with plain "
            "passes; tuned: the best C. Of the ratios, paper/lib and plain/lib\n"
@@ -411,7 +466,7 @@ int main(void)
            "li/tu", "lib", "plain", "tuned", "pl/li", "li/tu", "pl/li",
            "li/tu");
     for (i = 0; i < SHAPES; i++)
-        question[i] = chain_row(&shapes[i], 1);
+        question[i] = chain_row(&shapes[i], 1, middle);
     printf("\nWhy the sequence asked has no run; list: its members, or 16! "
            "where each sequence has a run;\nbeside the check, the median "
            "question of the chain and the cards: the library's time, and how\n"
@@ -425,14 +480,31 @@ int main(void)
     for (i = 0; i < SHAPES; i++)
         endless_row(&shapes[i], question[i]);
     for (i = 0; i < RINGS; i++)
-        endless_row(&rings[i], chain_row(&rings[i], 0));
+        endless_row(&rings[i], chain_row(&rings[i], 0, middle));
+    printf("\nWith 64 facts and with 256, in turns; times: how many times as "
+           "long with 256; li/tu: how many times as long\nas the tuned C, with "
+           "64 facts and with 256; last, the baselines of the cards with 256 "
+           "facts, and how many\ntimes as long they take the tuned C with "
+           "256.\n");
+    printf("%-20s | %-35s | %-35s | %-35s | %-21s\n", "", "check", "cards",
+           "the median question", "cards");
+    printf("%-20s", "shape");
+    for (i = 0; i < TIMES; i++)
+        printf(" | %8s %8s %5s %5s %5s", "lib 64", "lib 256", "times", "li/tu",
+               "li/tu");
+    printf(" | %7s %6s %6s\n", "pap/lib", "pl/lib", "tuned");
+    for (i = 0; i < FACT_SHAPES; i++)
+        facts_row(&few[i], &many[i]);
     printf("\nThe list call, beside a plain fold over the same words and beside "
            "the library's cards of the image.\n");
-    printf("%-22s %5s %7s | %-23s | %-17s\n", "", "", "", "list", "cards");
-    printf("%-22s %5s %7s | %8s %8s %5s | %8s %8s\n", "shape", "words",
-           "members", "lib", "plain", "li/pl", "lib", "list/ca");
+    printf("%-22s %5s %5s %7s | %-23s | %-17s\n", "", "", "", "", "list",
+           "cards");
+    printf("%-22s %5s %5s %7s | %8s %8s %5s | %8s %8s\n", "shape", "words",
+           "facts", "members", "lib", "plain", "li/pl", "lib", "list/ca");
     list_rows(&shapes[1]);
     list_rows(&shapes[2]);
+    list_rows(&many[1]);
+    list_rows(&many[2]);
     printf("\nGrowth with the size of everyday images: the library's time, by "
            "what it grew, and the tuned C.\n");
     printf("%5s | %-24s | %-24s | %-24s | %10s\n", "words", "check", "cards",

@@ -11,7 +11,13 @@
 #include "../tests/second/second.h"
 #include "dulimoven.h"
 
-enum { CARD = DULIMOVEN_CARD_WORDS, SHAPES = 15, GROWTH = 6, RINGS = 2 };
+enum {
+    CARD = DULIMOVEN_CARD_WORDS,
+    SHAPES = 15,
+    GROWTH = 6,
+    RINGS = 2,
+    FACT_SHAPES = 6
+};
 
 /* An image of the generator. */
 struct shape {
@@ -20,11 +26,13 @@ struct shape {
     uint32_t words[MOST_WORDS];
 };
 
-/* Writes the shapes, images like the everyday one of 256 to 8,192 words, or
- * rings of 256 sequences without a way out, in 770 and in 8,192 words. */
+/* Writes the shapes, images like the everyday one of 256 to 8,192 words, rings
+ * of 256 sequences without a way out, in 770 and in 8,192 words, or some of the
+ * shapes with so many facts. */
 void write_shapes(struct shape shapes[SHAPES]);
 void write_growth(struct shape shapes[GROWTH]);
 void write_rings(struct shape shapes[RINGS]);
+void write_facts(struct shape shapes[FACT_SHAPES], uint32_t facts);
 
 /* The calls as the library has them. */
 typedef uint64_t check_call(const uint32_t *image, size_t image_len);

@@ -1,7 +1,8 @@
 /*
- * The second baseline: columns of 64 facts, and plain passes over all sequences
- * in the order of their numbers until nothing changes. The check is the second
- * engine's, one word after the other.
+ * The second baseline: 64 facts at a time, one block of them after the other,
+ * and for each plain passes over all sequences in the order of their numbers
+ * until nothing changes. The check is the second engine's, one word after the
+ * other.
  */
 #include "bench.h"
 #include <string.h>
@@ -15,31 +16,49 @@ struct row {
     uint64_t run, empty, last[3], first[3], standing[2];
 };
 
+/* The library, as a block of 64 facts sees it: bit b is fact 64 * block + b,
+ * and `all` has those that there are. */
 static struct {
     uint64_t all;
-    uint32_t sequences;
+    uint32_t block, sequences;
     uint64_t needs[MOST_STEPS], sets[MOST_STEPS], clears[MOST_STEPS];
     size_t place[MOST_SEQUENCES];
     struct row table[MOST_SEQUENCES];
 } lib;
 
-static void read_library(const uint32_t *image, size_t length)
+/* The bit of a fact in the block, or 0 where it is in another. */
+static uint64_t bit_of(uint32_t fact)
+{
+    return fact / 64 == lib.block ? UINT64_C(1) << fact % 64 : 0;
+}
+
+/* The facts from the block's first on that are below F. */
+static uint64_t facts_in_block(uint64_t facts, uint64_t block)
+{
+    if (facts <= 64 * block)
+        return 0;
+    return facts - 64 * block >= 64 ? ~UINT64_C(0)
+                                    : (UINT64_C(1) << facts % 64) - 1;
+}
+
+static void read_library(const uint32_t *image, size_t length, uint32_t block)
 {
     uint32_t a = 0;
     size_t i;
-    lib.all = ~UINT64_C(0) >> (64 - facts_of(image[0]));
+    lib.block = block;
+    lib.all = facts_in_block(facts_of(image[0]), block);
     lib.sequences = sequences_of(image[0]);
     for (i = 1; i + 1 < length; i++) {
         uint32_t p = payload_of(image[i]);
         switch (kind_of(image[i])) {
         case KIND_NEEDS:
-            lib.needs[a] |= UINT64_C(1) << p;
+            lib.needs[a] |= bit_of(p);
             break;
         case KIND_SETS:
-            lib.sets[a] |= UINT64_C(1) << p;
+            lib.sets[a] |= bit_of(p);
             break;
         case KIND_CLEARS:
-            lib.clears[a] |= UINT64_C(1) << p;
+            lib.clears[a] |= bit_of(p);
             break;
         case KIND_STEP:
             a = p;
@@ -63,7 +82,7 @@ static struct row step_row(uint32_t a)
 
 static struct row check_row(uint32_t f)
 {
-    uint64_t n = UINT64_C(1) << f;
+    uint64_t n = bit_of(f);
     struct row r = {lib.all, lib.all, {0, 0, lib.all}, {n, 0, lib.all & ~n},
                     {0, lib.all & ~n}};
     return r;
@@ -128,92 +147,125 @@ static void fill_table(const uint32_t *image)
     }
 }
 
+/* Where a card has the first word of a column. */
+enum {
+    ALWAYS_NEEDED = 1,
+    MAY_NEED = ALWAYS_NEEDED + COLUMN_WORDS,
+    MAY_SET = MAY_NEED + COLUMN_WORDS,
+    MAY_CLEAR = MAY_SET + COLUMN_WORDS,
+    ALWAYS_SET = MAY_CLEAR + COLUMN_WORDS,
+    ALWAYS_CLEARED = ALWAYS_SET + COLUMN_WORDS,
+    ALWAYS_STANDS = ALWAYS_CLEARED + COLUMN_WORDS,
+    FIRST_SET = ALWAYS_STANDS + COLUMN_WORDS,
+    UNTOUCHED_FIRST = FIRST_SET + COLUMN_WORDS,
+    UNTOUCHED_LAST = UNTOUCHED_FIRST + COLUMN_WORDS,
+    END_CLEARED = UNTOUCHED_LAST + COLUMN_WORDS,
+    UNMENTIONED = END_CLEARED + COLUMN_WORDS
+};
+
+/* Writes a block's word of each column, and adds its count to the flags. */
+static void write_block(const struct row *r, uint32_t block, uint64_t *card)
+{
+    uint64_t *word = card + block;
+    uint64_t changeable = r->last[0] | r->last[1];
+    card[0] += (uint64_t)__builtin_popcountll(changeable) << 8;
+    card[0] |= (r->run & 1) | (r->empty & 1) << 1;
+    word[ALWAYS_NEEDED] = r->run & ~(r->first[1] | r->first[2]);
+    word[MAY_NEED] = r->first[0];
+    word[MAY_SET] = r->last[0];
+    word[MAY_CLEAR] = r->last[1];
+    word[ALWAYS_SET] = r->run & ~(r->last[1] | r->last[2]);
+    word[ALWAYS_CLEARED] = r->run & ~(r->last[0] | r->last[2]);
+    word[ALWAYS_STANDS] = r->run & ~(r->standing[0] | r->standing[1]);
+    word[FIRST_SET] = r->first[1];
+    word[UNTOUCHED_FIRST] = r->first[2];
+    word[UNTOUCHED_LAST] = r->last[2];
+    word[END_CLEARED] = r->standing[0];
+    word[UNMENTIONED] = r->standing[1];
+}
+
 uint64_t plain_cards(const uint32_t *image, size_t length, uint64_t *area,
                      size_t area_length)
 {
     uint64_t answer = second_check(image, length);
-    uint32_t c;
+    uint32_t c, block, sequences;
     if (answer >> 32 != 0)
         return answer;
-    if (area_length < (size_t)CARD * sequences_of(image[0]))
+    sequences = sequences_of(image[0]);
+    if (area_length < (size_t)CARD * sequences)
         return refusal(8);
-    read_library(image, length);
-    fill_table(image);
-    for (c = 0; c < lib.sequences; c++) {
-        const struct row *r = &lib.table[c];
-        uint64_t *card = area + CARD * c;
-        card[0] = (r->run & 1) | (r->empty & 1) << 1 |
-                  (uint64_t)__builtin_popcountll(r->last[0] | r->last[1]) << 8;
-        card[1] = r->run & ~(r->first[1] | r->first[2]);
-        card[2] = r->first[0];
-        card[3] = r->last[0];
-        card[4] = r->last[1];
-        card[5] = r->run & ~(r->last[1] | r->last[2]);
-        card[6] = r->run & ~(r->last[0] | r->last[2]);
-        card[7] = r->run & ~(r->standing[0] | r->standing[1]);
-        card[8] = r->first[1];
-        card[9] = r->first[2];
-        card[10] = r->last[2];
-        card[11] = r->standing[0];
-        card[12] = r->standing[1];
+    memset(area, 0, sizeof *area * CARD * sequences);
+    for (block = 0; 64 * block < facts_of(image[0]); block++) {
+        read_library(image, length, block);
+        fill_table(image);
+        for (c = 0; c < sequences; c++)
+            write_block(&lib.table[c], block, area + CARD * c);
     }
-    return lib.sequences;
+    return sequences;
 }
 
-/* One member after the other; the bits from F upward are dropped at the end. */
+/*
+ * One member after the other, 64 facts at a time; the bits from F upward are
+ * dropped at the end.
+ */
+static void fold_block(uint64_t all, uint32_t block, const uint64_t *cards,
+                       const uint32_t *list, size_t list_length, uint64_t *card)
+{
+    const uint64_t every = ~UINT64_C(0);
+    uint64_t last[3] = {0, 0, every}, first[3] = {0, 0, every};
+    uint64_t standing[2] = {0, every};
+    struct row r;
+    size_t i;
+    for (i = 0; i < list_length; i++) {
+        const uint64_t *y = cards + (size_t)CARD * list[i] + block;
+        last[0] = (last[0] & y[UNTOUCHED_LAST]) | y[MAY_SET];
+        last[1] = (last[1] & y[UNTOUCHED_LAST]) | y[MAY_CLEAR];
+        last[2] &= y[UNTOUCHED_LAST];
+        first[0] |= first[2] & y[MAY_NEED];
+        first[1] |= first[2] & y[FIRST_SET];
+        first[2] &= y[UNTOUCHED_FIRST];
+        standing[0] = (standing[0] & y[UNMENTIONED]) | y[END_CLEARED];
+        standing[1] &= y[UNMENTIONED];
+    }
+    r = (struct row){all,
+                     0,
+                     {all & last[0], all & last[1], all & last[2]},
+                     {all & first[0], all & first[1], all & first[2]},
+                     {all & standing[0], all & standing[1]}};
+    write_block(&r, block, card);
+}
+
 uint64_t plain_list(uint64_t facts, uint64_t sequences, const uint64_t *cards,
                     size_t cards_length, const uint32_t *list,
                     size_t list_length, uint64_t *card)
 {
-    const uint64_t every = ~UINT64_C(0);
-    uint64_t all = facts >= 64 ? every : (UINT64_C(1) << facts) - 1;
-    uint64_t flags = 3, last[3] = {0, 0, every}, first[3] = {0, 0, every};
-    uint64_t standing[2] = {0, every};
+    uint64_t flags = 3;
+    uint32_t block;
     size_t i;
     if (cards_length / CARD < sequences)
         return refusal(8);
     if (list_length > DULIMOVEN_MOST_LIST)
         return refusal(14);
-    for (i = 0; i < list_length; i++)
+    for (i = 0; i < list_length; i++) {
         if (list[i] >= sequences)
             return refusal(15);
-    for (i = 0; i < list_length; i++) {
-        const uint64_t *y = cards + (size_t)CARD * list[i];
-        flags &= y[0];
-        last[0] = (last[0] & y[10]) | y[3];
-        last[1] = (last[1] & y[10]) | y[4];
-        last[2] &= y[10];
-        first[0] |= first[2] & y[2];
-        first[1] |= first[2] & y[8];
-        first[2] &= y[9];
-        standing[0] = (standing[0] & y[12]) | y[11];
-        standing[1] &= y[12];
+        flags &= cards[(size_t)CARD * list[i]];
     }
-    if ((flags & 1) == 0) {
-        memset(card, 0, CARD * sizeof *card);
+    memset(card, 0, CARD * sizeof *card);
+    if ((flags & 1) == 0)
         return 0;
-    }
-    card[0] = flags |
-              (uint64_t)__builtin_popcountll((last[0] | last[1]) & all) << 8;
-    card[1] = all & ~(first[1] | first[2]);
-    card[2] = all & first[0];
-    card[3] = all & last[0];
-    card[4] = all & last[1];
-    card[5] = all & ~(last[1] | last[2]);
-    card[6] = all & ~(last[0] | last[2]);
-    card[7] = all & ~(standing[0] | standing[1]);
-    card[8] = all & first[1];
-    card[9] = all & first[2];
-    card[10] = all & last[2];
-    card[11] = all & standing[0];
-    card[12] = all & standing[1];
+    for (block = 0; block < COLUMN_WORDS && 64 * (uint64_t)block < facts;
+         block++)
+        fold_block(facts_in_block(facts, block), block, cards, list,
+                   list_length, card);
+    card[0] = (card[0] & ~(uint64_t)3) | flags;
     return 0;
 }
 
 /* The question, and the rank of each sequence. */
 static struct {
     int first;
-    uint32_t mark, fact, none;
+    uint32_t mark, fact, bit, none;
     uint32_t rank[MOST_SEQUENCES];
 } ask;
 
@@ -231,7 +283,7 @@ static uint32_t mark_of(uint32_t w)
         return ask.first && p == ask.fact ? 0 : 2;
     one = ask.first ? lib.needs[p] : lib.sets[p];
     other = ask.first ? lib.sets[p] : lib.clears[p];
-    return one >> ask.fact & 1 ? 0 : other >> ask.fact & 1 ? 1 : 2;
+    return one >> ask.bit & 1 ? 0 : other >> ask.bit & 1 ? 1 : 2;
 }
 
 static struct traits traits(uint32_t w)
@@ -246,8 +298,8 @@ static struct traits traits(uint32_t w)
     } else {
         const struct row *r = &lib.table[p];
         t.rank = ask.rank[p];
-        t.stays = (ask.first ? r->first[2] : r->last[2]) >> ask.fact & 1;
-        t.runs = r->run >> ask.fact & 1;
+        t.stays = (ask.first ? r->first[2] : r->last[2]) >> ask.bit & 1;
+        t.runs = r->run >> ask.bit & 1;
     }
     return t;
 }
@@ -312,11 +364,12 @@ uint64_t plain_chain(const uint32_t *image, size_t length, uint64_t sequence,
         return refusal(10);
     if (fact >= facts_of(image[0]))
         return refusal(11);
-    read_library(image, length);
+    read_library(image, length, (uint32_t)fact / 64);
     fill_table(image);
     ask.first = question >= 3;
     ask.mark = (uint32_t)(question % 3);
     ask.fact = (uint32_t)fact;
+    ask.bit = (uint32_t)fact % 64;
     ask.none = lib.sequences + 2;
     for (c = 0; c < lib.sequences; c++)
         ask.rank[c] = ask.none;

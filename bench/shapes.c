@@ -43,29 +43,30 @@ static void end(void)
 /* How many words are left, with one kept for the sum word. */
 static size_t room(void) { return MOST_WORDS - 1 - out->length; }
 
-static void column(uint32_t k, uint64_t facts)
+static void put_facts(uint32_t k, struct column facts)
 {
     uint32_t f;
-    for (f = 0; f < 64; f++)
-        if (facts >> f & 1u)
+    for (f = 0; f < MOST_FACTS; f++)
+        if (is_in(f, facts))
             put(k, f);
 }
 
 /* A step, which clears no fact that it sets. */
-static void step(uint32_t a, uint64_t needs, uint64_t sets, uint64_t clears)
+static void step(uint32_t a, struct column needs, struct column sets,
+                 struct column clears)
 {
     put(KIND_STEP, a);
-    column(KIND_NEEDS, needs);
-    column(KIND_SETS, sets);
-    column(KIND_CLEARS, clears & ~sets);
+    put_facts(KIND_NEEDS, needs);
+    put_facts(KIND_SETS, sets);
+    put_facts(KIND_CLEARS, without(clears, sets));
 }
 
 /* Some of the facts from `from` up to and without `to`. */
-static uint64_t some(uint32_t count, uint32_t from, uint32_t to)
+static struct column some(uint32_t count, uint32_t from, uint32_t to)
 {
-    uint64_t c = 0;
+    struct column c = low_facts(0);
     while (count-- > 0)
-        c |= UINT64_C(1) << (from + below(to - from));
+        c = union_of(c, one_fact(from + below(to - from)));
     return c;
 }
 
@@ -90,9 +91,9 @@ static void put_step_or_check(uint32_t steps, uint32_t facts)
  * to six entries, mostly steps, one in 16 a check; a sequence calls those of
  * lower numbers, and now and then any one.
  */
-static void everyday(struct shape *shape, const char *name, uint32_t words)
+static void everyday(struct shape *shape, const char *name, uint32_t words,
+                     uint32_t facts)
 {
-    uint32_t facts = words < 512 ? 24 : 64;
     uint32_t steps = words / 16, sequences = words / 32;
     uint32_t a, c, i, entries;
     size_t stop;
@@ -125,27 +126,27 @@ static void everyday(struct shape *shape, const char *name, uint32_t words)
 }
 
 /* 512 steps, of up to two needs, sets and clears each. */
-static void random_steps(void)
+static void random_steps(uint32_t facts)
 {
     uint32_t a;
     for (a = 0; a < 512; a++)
-        step(a, some(below(3), 0, 64), some(below(3), 0, 64),
-             some(below(3), 0, 64));
+        step(a, some(below(3), 0, facts), some(below(3), 0, facts),
+             some(below(3), 0, facts));
 }
 
-static void random_words(struct shape *shape)
+static void random_words(struct shape *shape, uint32_t facts)
 {
     uint32_t c;
     size_t stop;
-    begin(shape, "random", 64, 512, 256);
-    random_steps();
+    begin(shape, "random", facts, 512, 256);
+    random_steps(facts);
     for (c = 0; c < 256; c++) {
         stop = out->length + room() / (256 - c);
         put(KIND_SEQUENCE, c);
         while (out->length + 1 < stop) {
             put(KIND_ALTERNATIVE, 0);
             while (out->length < stop && below(5) != 0) {
-                if (puts_check(64))
+                if (puts_check(facts))
                     continue;
                 if (below(2) == 0)
                     put(KIND_SEQUENCE_ENTRY, below(256));
@@ -161,14 +162,15 @@ static void random_words(struct shape *shape)
  * The steps of the shapes of 256 sequences: step 0 sets fact 0, step 1 clears
  * it, step 2 needs it, and no other touches it.
  */
-static void chain_steps(void)
+static void chain_steps(uint32_t facts)
 {
+    const struct column none = low_facts(0), fact = one_fact(0);
     uint32_t a;
-    step(0, 0, 1, 0);
-    step(1, 0, 0, 1);
-    step(2, 1, 0, 0);
+    step(0, none, fact, none);
+    step(1, none, none, fact);
+    step(2, fact, none, none);
     for (a = 3; a < 256; a++)
-        step(a, some(1, 1, 64), some(1, 1, 64), some(1, 1, 64));
+        step(a, some(1, 1, facts), some(1, 1, facts), some(1, 1, facts));
 }
 
 enum calls { NEXT, BEFORE, SHUFFLED, NEIGHBOURS, RING, ENDLESS, NO_WAY_OUT };
@@ -179,13 +181,14 @@ enum calls { NEXT, BEFORE, SHUFFLED, NEIGHBOURS, RING, ENDLESS, NO_WAY_OUT };
  * the alternatives of one sequence that call none; of an endless shape, and of
  * a ring without a way out, no sequence has one.
  */
-static void calling(struct shape *shape, const char *name, enum calls calls)
+static void calling(struct shape *shape, const char *name, enum calls calls,
+                    uint32_t facts)
 {
     uint32_t order[256], place[256];
     uint32_t c, d, i, n, swap, base;
     size_t stop;
-    begin(shape, name, 64, 256, 256);
-    chain_steps();
+    begin(shape, name, facts, 256, 256);
+    chain_steps(facts);
     for (i = 0; i < 256; i++)
         order[i] = i;
     if (calls == SHUFFLED) {
@@ -246,10 +249,10 @@ static void calling(struct shape *shape, const char *name, enum calls calls)
 static void one_alternative(struct shape *shape)
 {
     uint32_t a;
-    begin(shape, "one alternative", 64, 1024, 2);
-    for (a = 0; a < 1024; a++)
-        step(a, a % 3 == 0 ? some(1, 0, 64) : 0, a % 3 == 1 ? some(1, 0, 64) : 0,
-             a % 3 == 2 ? some(1, 0, 64) : 0);
+    begin(shape, "one alternative", 64, 1023, 2);
+    for (a = 0; a < 1023; a++)
+        step(a, some(a % 3 == 0, 0, 64), some(a % 3 == 1, 0, 64),
+             some(a % 3 == 2, 0, 64));
     put(KIND_SEQUENCE, 0);
     put(KIND_ALTERNATIVE, 0);
     put(KIND_STEP_ENTRY, 1);
@@ -260,7 +263,7 @@ static void one_alternative(struct shape *shape)
         if (below(8) == 0)
             put(KIND_SEQUENCE_ENTRY, 0);
         else
-            put(KIND_STEP_ENTRY, below(1024));
+            put(KIND_STEP_ENTRY, below(1023));
     }
     end();
 }
@@ -270,7 +273,7 @@ static void empty_alternatives(struct shape *shape)
     uint32_t c;
     size_t stop;
     begin(shape, "empty alternatives", 64, 256, 8);
-    chain_steps();
+    chain_steps(64);
     for (c = 0; c < 8; c++) {
         stop = out->length + room() / (8 - c);
         put(KIND_SEQUENCE, c);
@@ -283,17 +286,21 @@ static void empty_alternatives(struct shape *shape)
 }
 
 /*
- * Steps of 64 fact words each, in turn 64 sets, 64 clears, and 32 sets with the
- * other 32 facts cleared. One sequence, of one of each, is there to be asked.
+ * Steps of as many fact words as there are facts, in turn sets, clears, and of
+ * one half sets with the other half cleared. One sequence, of one of each, is
+ * there to be asked.
  */
-static void full_steps(struct shape *shape)
+static void full_steps(struct shape *shape, const char *name, uint32_t steps,
+                       uint32_t facts)
 {
-    const uint64_t all = ~UINT64_C(0), half = all >> 32;
-    const uint64_t sets[3] = {all, 0, half}, clears[3] = {0, all, ~half};
-    uint32_t a, steps = 63;
-    begin(shape, "steps of 64 facts", 64, steps, 1);
+    const struct column all = facts_below(facts), none = low_facts(0);
+    const struct column half = facts_below(facts / 2);
+    const struct column sets[3] = {all, none, half};
+    const struct column clears[3] = {none, all, without(all, half)};
+    uint32_t a;
+    begin(shape, name, facts, steps, 1);
     for (a = 0; a < steps; a++)
-        step(a, 0, sets[a % 3], clears[a % 3]);
+        step(a, none, sets[a % 3], clears[a % 3]);
     put(KIND_SEQUENCE, 0);
     put(KIND_ALTERNATIVE, 0);
     for (a = 0; a < 3; a++)
@@ -315,7 +322,7 @@ static void dead_alternatives(struct shape *shape, const char *name,
     uint32_t c, i;
     size_t stop;
     begin(shape, name, 64, 512, LIVE + 1);
-    random_steps();
+    random_steps(64);
     for (c = 0; c < LIVE; c++) {
         stop = out->length +
                (WORDS - 1 - ENDLESS_WORDS - out->length) / (LIVE - c);
@@ -345,18 +352,18 @@ static void dead_alternatives(struct shape *shape, const char *name,
 
 void write_shapes(struct shape shapes[SHAPES])
 {
-    everyday(&shapes[0], "everyday", 200);
-    everyday(&shapes[1], "everyday, large", MOST_WORDS);
-    random_words(&shapes[2]);
-    calling(&shapes[3], "calls the next", NEXT);
-    calling(&shapes[4], "calls the one before", BEFORE);
-    calling(&shapes[5], "calls next, shuffled", SHUFFLED);
-    calling(&shapes[6], "calls both neighbours", NEIGHBOURS);
-    calling(&shapes[7], "one ring", RING);
+    everyday(&shapes[0], "everyday", 200, 24);
+    everyday(&shapes[1], "everyday, large", MOST_WORDS, 64);
+    random_words(&shapes[2], 64);
+    calling(&shapes[3], "calls the next", NEXT, 64);
+    calling(&shapes[4], "calls the one before", BEFORE, 64);
+    calling(&shapes[5], "calls next, shuffled", SHUFFLED, 64);
+    calling(&shapes[6], "calls both neighbours", NEIGHBOURS, 64);
+    calling(&shapes[7], "one ring", RING, 64);
     one_alternative(&shapes[8]);
     empty_alternatives(&shapes[9]);
-    calling(&shapes[10], "all endless", ENDLESS);
-    full_steps(&shapes[11]);
+    calling(&shapes[10], "all endless", ENDLESS, 64);
+    full_steps(&shapes[11], "steps of 64 facts", 63, 64);
     dead_alternatives(&shapes[12], "dead at first entry", 0);
     dead_alternatives(&shapes[13], "dead at middle entry", 20);
     dead_alternatives(&shapes[14], "dead at last entry", 39);
@@ -378,12 +385,22 @@ static void short_ring(struct shape *shape)
 void write_rings(struct shape shapes[RINGS])
 {
     short_ring(&shapes[0]);
-    calling(&shapes[1], "one ring, no way out", NO_WAY_OUT);
+    calling(&shapes[1], "one ring, no way out", NO_WAY_OUT, 64);
+}
+
+void write_facts(struct shape shapes[FACT_SHAPES], uint32_t facts)
+{
+    everyday(&shapes[0], "everyday", 200, facts);
+    everyday(&shapes[1], "everyday, large", MOST_WORDS, facts);
+    random_words(&shapes[2], facts);
+    calling(&shapes[3], "calls the next", NEXT, facts);
+    calling(&shapes[4], "one ring", RING, facts);
+    full_steps(&shapes[5], "steps of all facts", 4096 / (facts + 1), facts);
 }
 
 void write_growth(struct shape shapes[GROWTH])
 {
     int i;
     for (i = 0; i < GROWTH; i++)
-        everyday(&shapes[i], "everyday", 256u << i);
+        everyday(&shapes[i], "everyday", 256u << i, i == 0 ? 24 : 64);
 }

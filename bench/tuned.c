@@ -7,7 +7,9 @@
  * neighbouring steps and checks are joined once and for all; an alternative
  * without calls is worked out once. Sequences are visited in the finishing
  * order of a depth-first walk and against it by turns, and only where one that
- * they call has changed. Chain: everything is about one fact, so that counting
+ * they call has changed. Where there are more than 64 facts, each alternative
+ * is gone through once for every 64 of them. All this is compiled twice, for 64
+ * facts and for more. Chain: everything is about one fact, so that counting
  * what each alternative still lacks gives the answer in one walk, by levels.
  * Why there is no run: an alternative waits at its first call without a run and
  * goes on from there once that has one; what it names from there on is written
@@ -36,9 +38,28 @@ static int64_t both_halves(four v)
 }
 
 /*
+ * Whether two ascending runs of fact words, the sets from `s` up to `c` and the
+ * clears from there up to `end`, have a fact in common.
+ */
+static int share_fact(const uint32_t *s, const uint32_t *c, const uint32_t *end)
+{
+    const uint32_t *sets_end = c;
+    while (s < sets_end && c < end) {
+        uint32_t set = payload_of(*s), cleared = payload_of(*c);
+        if (set == cleared)
+            return 1;
+        s += set < cleared;
+        c += cleared < set;
+    }
+    return 0;
+}
+
+/*
  * Where the steps end, or 0 where one breaks a rule. The fact words of a step
  * are three runs, each ascending to its kind's end. A word past that end fails
- * in the next run, since it is not above its start, or as an opener.
+ * in the next run, since it is not above its start, or as an opener. That a
+ * step clears no fact that it sets is seen by the last six bits of its facts;
+ * only where two agree in these are the runs compared.
  */
 static size_t steps_end(const uint32_t *image, uint32_t facts, uint32_t steps)
 {
@@ -49,6 +70,7 @@ static size_t steps_end(const uint32_t *image, uint32_t facts, uint32_t steps)
     uint32_t a, w, before;
     for (a = 0; a < steps; a++) {
         uint64_t sets = 0, clears = 0;
+        size_t sets_from, clears_from;
         if (image[i] != (0x50000000u | a))
             return 0;
         w = image[++i];
@@ -57,19 +79,22 @@ static size_t steps_end(const uint32_t *image, uint32_t facts, uint32_t steps)
                 return 0;
             before = w;
         }
+        sets_from = i;
         for (before = 0x2fffffffu; w < sets_end; w = image[++i]) {
             if (w <= before)
                 return 0;
             before = w;
             sets |= UINT64_C(1) << (w & 63);
         }
+        clears_from = i;
         for (before = 0x3fffffffu; w < clears_end; w = image[++i]) {
             if (w <= before)
                 return 0;
             before = w;
             clears |= UINT64_C(1) << (w & 63);
         }
-        if (sets & clears)
+        if ((sets & clears) &&
+            share_fact(image + sets_from, image + clears_from, image + i))
             return 0;
     }
     return i;
@@ -157,9 +182,8 @@ uint64_t tuned_check(const uint32_t *image, size_t length)
         return second_check(image, length);
     head = image[0];
     if (image[length - 1] != tuned_sum_word(image, length - 1) ||
-        kind_of(head) != 1 || facts_of(head) < 1 || facts_of(head) > 64 ||
-        steps_of(head) > MOST_STEPS || sequences_of(head) > MOST_SEQUENCES ||
-        (head >> 27 & 1u) ||
+        kind_of(head) != 1 || facts_of(head) < 1 ||
+        facts_of(head) > MOST_FACTS || sequences_of(head) > MOST_SEQUENCES ||
         !well_formed(image, length, facts_of(head), steps_of(head),
                      sequences_of(head)))
         return second_check(image, length);
@@ -172,17 +196,17 @@ static int is_step(uint32_t w) { return w - 0x80000000u < 0x10000000u; }
 static int is_call(uint32_t w) { return w - 0x90000000u < 0x10000000u; }
 static int is_check(uint32_t w) { return w - 0xd0000000u < 0x10000000u; }
 
-/* Two columns side by side, and one of them twice. */
+/* Two columns of 64 facts side by side, and one of them twice. */
 typedef uint64_t pair __attribute__((vector_size(16)));
 
 static pair twice_first(pair x) { return __builtin_shuffle(x, (pair){0, 0}); }
 static pair twice_second(pair x) { return __builtin_shuffle(x, (pair){1, 1}); }
 
 /*
- * What is possible, in pairs, which make 64 bytes: last is sets and clears,
- * first is needs and sets, and untouched is that on the last side and on the
- * first. Standing is of the last item that sets, clears, needs or checks the
- * fact: it clears it, and there is none.
+ * What is possible for 64 facts, in pairs, which make 64 bytes: last is sets
+ * and clears, first is needs and sets, and untouched is that on the last side
+ * and on the first. Standing is of the last item that sets, clears, needs or
+ * checks the fact: it clears it, and there is none.
  */
 struct row {
     pair last, first, untouched, standing;
@@ -190,10 +214,24 @@ struct row {
 
 enum { RUN = 1, EMPTY = 2 };
 enum { STEP_ROWS = MOST_SEQUENCES, JOINED_ROWS = STEP_ROWS + MOST_STEPS };
+enum { MOST_ROWS = JOINED_ROWS + MOST_WORDS / 2, BLOCKS = COLUMN_WORDS };
 
-/* Rows of sequences, of steps, and of neighbouring steps and checks joined. */
-static struct row rows[JOINED_ROWS + MOST_WORDS / 2];
-static uint8_t flags[JOINED_ROWS + MOST_WORDS / 2];
+/*
+ * Rows of sequences, of steps, and of neighbouring steps and checks joined. Of
+ * each there is one, or where there are more than 64 facts four in a row, one
+ * for each block of 64 facts.
+ */
+static struct row rows[BLOCKS * MOST_ROWS];
+static uint8_t flags[MOST_ROWS];
+
+/* How many blocks there are, how many rows there are of each, and the facts of
+ * each block. The first two are known where the functions are compiled. */
+struct width {
+    uint32_t blocks, apart;
+    uint64_t all[BLOCKS];
+};
+
+#define INLINE static inline __attribute__((always_inline))
 
 static struct row joined(struct row x, const struct row *y)
 {
@@ -205,10 +243,11 @@ static struct row joined(struct row x, const struct row *y)
     return x;
 }
 
-/* A row and after it a check of fact f. */
-static struct row checked(struct row x, uint32_t f)
+/* A row of a block and after it a check of fact f. */
+INLINE struct row checked(struct row x, uint32_t f, uint32_t block,
+                          uint32_t blocks)
 {
-    uint64_t bit = UINT64_C(1) << f;
+    uint64_t bit = blocks == 1 || f >> 6 == block ? UINT64_C(1) << (f & 63) : 0;
     x.first |= twice_second(x.untouched) & (pair){bit, 0};
     x.untouched &= (pair){~UINT64_C(0), ~bit};
     x.standing &= (pair){~bit, ~bit};
@@ -231,50 +270,93 @@ static int same(struct row x, struct row y)
     return (d[0] | d[1]) == 0;
 }
 
+/* The row of no entry. */
+static struct row start_row(uint64_t all)
+{
+    return (struct row){{0, 0}, {0, 0}, {all, all}, {0, all}};
+}
+
 /* What the alternatives without calls give, and the lists of the others. */
-static struct row base[MOST_SEQUENCES];
+static struct row base[BLOCKS * MOST_SEQUENCES];
 static uint8_t base_flags[MOST_SEQUENCES];
 static uint32_t first_list[MOST_SEQUENCES + 1];
 static uint16_t list_end[MOST_WORDS + 1];
 static uint16_t list_rows[MOST_WORDS];
 static uint64_t calls[MOST_SEQUENCES][4], callers[MOST_SEQUENCES][4];
 
-static size_t read_steps(const uint32_t *image, uint64_t all, uint32_t steps)
+INLINE size_t read_steps(const uint32_t *image, const struct width *width,
+                         uint32_t steps)
 {
-    uint64_t mask[3];
     size_t i = 1;
-    uint32_t a, w;
+    uint32_t a, w, k;
     for (a = 0; a < steps; a++) {
-        struct row *r = &rows[STEP_ROWS + a];
-        uint64_t u;
-        mask[0] = mask[1] = mask[2] = 0;
-        for (i++; (w = image[i]) - 0x20000000u < 0x30000000u; i++)
-            mask[kind_of(w) - 2] |= UINT64_C(1) << (w & 63);
-        u = all & ~(mask[0] | mask[1]);
-        r->last = (pair){mask[1], mask[2]};
-        r->first = (pair){mask[0], mask[1] & ~mask[0]};
-        r->untouched = (pair){all & ~(mask[1] | mask[2]), u};
-        r->standing = (pair){mask[2], u & ~mask[2]};
+        uint64_t mask[BLOCKS][3];
+        for (k = 0; k < width->blocks; k++)
+            mask[k][0] = mask[k][1] = mask[k][2] = 0;
+        for (i++; (w = image[i]) - 0x20000000u < 0x30000000u; i++) {
+            k = width->blocks == 1 ? 0 : w >> 6 & 3;
+            mask[k][kind_of(w) - 2] |= UINT64_C(1) << (w & 63);
+        }
+        for (k = 0; k < width->blocks; k++) {
+            struct row *r = &rows[(STEP_ROWS + a) * width->apart + k];
+            uint64_t all = width->all[k], *m = mask[k];
+            uint64_t u = all & ~(m[0] | m[1]);
+            r->last = (pair){m[1], m[2]};
+            r->first = (pair){m[0], m[1] & ~m[0]};
+            r->untouched = (pair){all & ~(m[1] | m[2]), u};
+            r->standing = (pair){m[2], u & ~m[2]};
+        }
     }
     return i;
 }
 
-static void read_sequences(const uint32_t *image, size_t i, uint64_t all,
-                           uint32_t sequences)
+/* The steps and checks from `i` on, of which there is one, joined for a block;
+ * where they end, and whether there is a step. */
+INLINE struct row join_run(const uint32_t *image, size_t *i, uint32_t block,
+                           const struct width *width, uint8_t *has)
 {
-    const struct row none = {{0, 0}, {0, 0}, {0, 0}, {0, 0}};
-    const struct row start = {{0, 0}, {0, 0}, {all, all}, {0, all}};
-    uint32_t c, n = 0, lists = 0, spare = JOINED_ROWS;
+    uint32_t w = image[(*i)++];
+    struct row x;
+    if (is_step(w)) {
+        x = rows[(STEP_ROWS + payload_of(w)) * width->apart + block];
+        *has = RUN;
+    } else {
+        x = checked(start_row(width->all[block]), payload_of(w), block,
+                    width->blocks);
+        *has = RUN | EMPTY;
+    }
+    for (;; ++*i) {
+        if (is_step(w = image[*i])) {
+            x = joined(
+                x, &rows[(STEP_ROWS + payload_of(w)) * width->apart + block]);
+            *has = RUN;
+        } else if (is_check(w)) {
+            x = checked(x, payload_of(w), block, width->blocks);
+        } else {
+            return x;
+        }
+    }
+}
+
+INLINE void read_sequences(const uint32_t *image, size_t i,
+                           const struct width *width, uint32_t sequences)
+{
+    const uint32_t blocks = width->blocks, apart = width->apart;
+    uint32_t c, k, n = 0, lists = 0, spare = JOINED_ROWS;
     memset(calls, 0, sizeof calls[0] * sequences);
     memset(callers, 0, sizeof callers[0] * sequences);
     for (c = 0; c < sequences; c++) {
-        struct row sum = none;
+        struct row sum[BLOCKS];
         uint8_t found = 0;
+        for (k = 0; k < blocks; k++)
+            sum[k] = (struct row){{0, 0}, {0, 0}, {0, 0}, {0, 0}};
         first_list[c] = lists;
         for (i++; image[i] == 0x70000000u;) {
             uint32_t from = n, w;
-            struct row x = start;
+            struct row x[BLOCKS];
             uint8_t has = RUN | EMPTY;
+            for (k = 0; k < blocks; k++)
+                x[k] = start_row(width->all[k]);
             for (i++; is_any_entry(w = image[i]);) {
                 if (is_call(w)) {
                     uint32_t d = payload_of(w);
@@ -283,44 +365,35 @@ static void read_sequences(const uint32_t *image, size_t i, uint64_t all,
                     list_rows[n++] = (uint16_t)d;
                     i++;
                 } else {
-                    uint32_t step = STEP_ROWS + payload_of(w);
-                    size_t begin = i++;
-                    if (is_step(w)) {
-                        x = rows[step];
-                        has = RUN;
-                    } else {
-                        x = checked(start, payload_of(w));
-                        has = RUN | EMPTY;
+                    uint32_t row = STEP_ROWS + payload_of(w);
+                    size_t begin = i;
+                    x[0] = join_run(image, &i, 0, width, &has);
+                    for (k = 1; k < blocks; k++) {
+                        i = begin;
+                        x[k] = join_run(image, &i, k, width, &has);
                     }
-                    for (;; i++) {
-                        if (is_step(w = image[i])) {
-                            x = joined(x, &rows[STEP_ROWS + payload_of(w)]);
-                            has = RUN;
-                        } else if (is_check(w)) {
-                            x = checked(x, payload_of(w));
-                        } else {
-                            break;
-                        }
-                    }
-                    if (n == from && !is_call(w))
+                    if (n == from && !is_call(image[i]))
                         goto constant;
                     if (i - begin > 1 || (has & EMPTY)) {
-                        step = spare++;
-                        rows[step] = x;
-                        flags[step] = has;
+                        row = spare++;
+                        for (k = 0; k < blocks; k++)
+                            rows[row * apart + k] = x[k];
+                        flags[row] = has;
                     }
-                    list_rows[n++] = (uint16_t)step;
+                    list_rows[n++] = (uint16_t)row;
                 }
             }
             if (n == from) {
             constant:
                 found |= has;
-                sum = united(sum, x);
+                for (k = 0; k < blocks; k++)
+                    sum[k] = united(sum[k], x[k]);
             } else {
                 list_end[++lists] = (uint16_t)n;
             }
         }
-        base[c] = sum;
+        for (k = 0; k < blocks; k++)
+            base[c * apart + k] = sum[k];
         base_flags[c] = found;
     }
     first_list[c] = lists;
@@ -357,8 +430,57 @@ static void finishing_order(uint32_t sequences, uint8_t *order)
     }
 }
 
-/* Looks at a sequence again; whether its row changed. */
-static int visit(uint32_t c, struct row start)
+/* The entries of an alternative joined, as a block sees them. */
+INLINE struct row join_list(uint32_t n, uint32_t end, uint32_t block,
+                            const struct width *width)
+{
+    struct row x = start_row(width->all[block]);
+    for (; n < end; n++)
+        x = joined(x, &rows[list_rows[n] * width->apart + block]);
+    return x;
+}
+
+/* What all entries of an alternative have of a run and of an empty one. */
+static uint8_t list_flags(uint32_t n, uint32_t end)
+{
+    uint8_t has = RUN | EMPTY;
+    for (; n < end; n++)
+        has &= flags[list_rows[n]];
+    return has;
+}
+
+/* Looks at a sequence of more than 64 facts again; whether its rows changed. */
+static int visit_wide(uint32_t c, const struct width *width)
+{
+    uint8_t found = base_flags[c];
+    uint32_t l = first_list[c], stop = first_list[c + 1], k;
+    uint32_t first = list_end[l], lists = 0, n;
+    static uint16_t live[MOST_WORDS][2];
+    int changed;
+    for (n = first; l < stop; l++) {
+        uint32_t end = list_end[l + 1];
+        uint8_t has = list_flags(n, end);
+        if (has & RUN) {
+            found |= has;
+            live[lists][0] = (uint16_t)n;
+            live[lists++][1] = (uint16_t)end;
+        }
+        n = end;
+    }
+    changed = found != flags[c];
+    flags[c] = found;
+    for (k = 0; k < width->blocks; k++) {
+        struct row sum = base[c * BLOCKS + k];
+        for (l = 0; l < lists; l++)
+            sum = united(sum, join_list(live[l][0], live[l][1], k, width));
+        changed |= !same(sum, rows[c * BLOCKS + k]);
+        rows[c * BLOCKS + k] = sum;
+    }
+    return changed;
+}
+
+/* The same of one with up to 64 facts. */
+static int visit_narrow(uint32_t c, struct row start)
 {
     struct row sum = base[c];
     uint8_t found = base_flags[c];
@@ -383,15 +505,15 @@ static int visit(uint32_t c, struct row start)
     return 1;
 }
 
-static void settle(uint32_t sequences, uint64_t all)
+INLINE void settle(uint32_t sequences, const struct width *width)
 {
-    const struct row start = {{0, 0}, {0, 0}, {all, all}, {0, all}};
+    const struct row start = start_row(width->all[0]);
     uint8_t order[MOST_SEQUENCES];
     uint64_t dirty[4];
     uint32_t i, c, k;
     int back = 0;
     finishing_order(sequences, order);
-    memset(rows, 0, sizeof rows[0] * sequences);
+    memset(rows, 0, sizeof rows[0] * width->apart * sequences);
     memset(flags, 0, sequences);
     memset(dirty, 0xff, sizeof dirty);
     for (c = sequences; c < MOST_SEQUENCES; c++)
@@ -402,7 +524,8 @@ static void settle(uint32_t sequences, uint64_t all)
             if (!(dirty[c >> 6] >> (c & 63) & 1))
                 continue;
             dirty[c >> 6] ^= UINT64_C(1) << (c & 63);
-            if (visit(c, start))
+            if (width->blocks == 1 ? visit_narrow(c, start)
+                                   : visit_wide(c, width))
                 for (k = 0; k < 4; k++)
                     dirty[k] |= callers[c][k];
         }
@@ -410,43 +533,76 @@ static void settle(uint32_t sequences, uint64_t all)
     }
 }
 
+/* Writes a block's word of each column, and adds its count to the flags. */
+INLINE void write_block(const struct row *r, uint64_t run, uint32_t block,
+                        uint64_t *card)
+{
+    uint64_t *word = card + 1 + block;
+    card[0] += (uint64_t)__builtin_popcountll(r->last[0] | r->last[1]) << 8;
+    word[0 * BLOCKS] = run & ~(r->first[1] | r->untouched[1]);
+    word[1 * BLOCKS] = r->first[0];
+    word[2 * BLOCKS] = r->last[0];
+    word[3 * BLOCKS] = r->last[1];
+    word[4 * BLOCKS] = run & ~(r->last[1] | r->untouched[0]);
+    word[5 * BLOCKS] = run & ~(r->last[0] | r->untouched[0]);
+    word[6 * BLOCKS] = run & ~(r->standing[0] | r->standing[1]);
+    word[7 * BLOCKS] = r->first[1];
+    word[8 * BLOCKS] = r->untouched[1];
+    word[9 * BLOCKS] = r->untouched[0];
+    word[10 * BLOCKS] = r->standing[0];
+    word[11 * BLOCKS] = r->standing[1];
+}
+
+INLINE void fill_cards(const uint32_t *image, const struct width *width,
+                       uint64_t *area)
+{
+    uint32_t c, k, sequences = sequences_of(image[0]);
+    size_t at = read_steps(image, width, steps_of(image[0]));
+    memset(flags + STEP_ROWS, RUN, steps_of(image[0]));
+    read_sequences(image, at, width, sequences);
+    settle(sequences, width);
+    for (c = 0; c < sequences; c++) {
+        uint64_t *card = area + CARD * c;
+        memset(card, 0, sizeof *card * CARD);
+        card[0] = flags[c];
+        for (k = 0; k < width->blocks; k++)
+            write_block(&rows[c * width->apart + k],
+                        flags[c] & RUN ? width->all[k] : 0, k, card);
+    }
+}
+
+static void fill_narrow(const uint32_t *image, uint32_t facts, uint64_t *area)
+{
+    const struct width width = {1, 1, {~UINT64_C(0) >> (64 - facts), 0, 0, 0}};
+    fill_cards(image, &width, area);
+}
+
+static void fill_wide(const uint32_t *image, uint32_t facts, uint64_t *area)
+{
+    struct width width = {(facts + 63) / 64, BLOCKS, {0, 0, 0, 0}};
+    uint32_t k;
+    for (k = 0; k < width.blocks; k++)
+        width.all[k] = facts >= 64 * k + 64
+                           ? ~UINT64_C(0)
+                           : ~UINT64_C(0) >> (64 - facts % 64);
+    fill_cards(image, &width, area);
+}
+
 uint64_t tuned_cards(const uint32_t *image, size_t length, uint64_t *area,
                      size_t area_length)
 {
     uint64_t answer = tuned_check(image, length);
-    uint64_t all;
-    uint32_t c, sequences;
-    size_t at;
+    uint32_t facts;
     if (answer >> 32 != 0)
         return answer;
-    sequences = sequences_of(image[0]);
-    if (area_length < (size_t)CARD * sequences)
+    if (area_length < (size_t)CARD * sequences_of(image[0]))
         return refusal(8);
-    all = ~UINT64_C(0) >> (64 - facts_of(image[0]));
-    at = read_steps(image, all, steps_of(image[0]));
-    memset(flags + STEP_ROWS, RUN, steps_of(image[0]));
-    read_sequences(image, at, all, sequences);
-    settle(sequences, all);
-    for (c = 0; c < sequences; c++) {
-        struct row r = rows[c];
-        uint64_t run = flags[c] & RUN ? all : 0;
-        uint64_t *card = area + CARD * c;
-        card[0] = flags[c] |
-                  (uint64_t)__builtin_popcountll(r.last[0] | r.last[1]) << 8;
-        card[1] = run & ~(r.first[1] | r.untouched[1]);
-        card[2] = r.first[0];
-        card[3] = r.last[0];
-        card[4] = r.last[1];
-        card[5] = run & ~(r.last[1] | r.untouched[0]);
-        card[6] = run & ~(r.last[0] | r.untouched[0]);
-        card[7] = run & ~(r.standing[0] | r.standing[1]);
-        card[8] = r.first[1];
-        card[9] = r.untouched[1];
-        card[10] = r.untouched[0];
-        card[11] = r.standing[0];
-        card[12] = r.standing[1];
-    }
-    return sequences;
+    facts = facts_of(image[0]);
+    if (facts <= 64)
+        fill_narrow(image, facts, area);
+    else
+        fill_wide(image, facts, area);
+    return sequences_of(image[0]);
 }
 
 /* The alternatives, as a chain question sees them. */

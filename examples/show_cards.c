@@ -30,6 +30,9 @@
  * Each of their alternatives calls one of them, so that none is the first to
  * have a run; which have no alternative at all is said too.
  *
+ * Facts in a row, four or more of them, are printed as the first and the last:
+ * 1-62 are the facts 1 to 62.
+ *
  * A file that cannot be read, and an image that is refused, get a line on
  * standard error and exit status 1.
  */
@@ -38,8 +41,8 @@
 #include <stdio.h>
 #include <string.h>
 
-/* The words of a card after its flags, in their order. */
-static const char *const names[DULIMOVEN_CARD_WORDS] = {
+/* The columns of a card by their numbers, which count from 1. */
+static const char *const names[1 + DULIMOVEN_COLUMNS] = {
     "",
     "always needed",
     "may need",
@@ -392,20 +395,37 @@ static void print_links(const struct reason *reason, const char *it)
         printf("%sand so on\n", to_step ? "      " : "    ");
 }
 
+/* Prints the facts that are marked, and answers how many they are. */
+static int print_facts(const char *marked)
+{
+    enum { IN_A_ROW = 4 };
+    uint32_t fact, next;
+    int count = 0;
+    for (fact = 0; fact < DULIMOVEN_MOST_FACTS; fact = next + 1) {
+        for (next = fact; next < DULIMOVEN_MOST_FACTS && marked[next]; next++)
+            count++;
+        if (next >= fact + IN_A_ROW)
+            printf(" %u-%u", fact, next - 1);
+        else
+            for (; fact < next; fact++)
+                printf(" %u", fact);
+    }
+    return count;
+}
+
 /* Prints the reason's fact and those of the missing ones that have the same
  * reason. They are not missing any more. Answers how many they are. */
 static int print_facts_with(const struct reason *reason, char *missing)
 {
+    char marked[DULIMOVEN_MOST_FACTS];
     uint32_t fact;
-    int count = 0;
-    for (fact = 0; fact < DULIMOVEN_MOST_FACTS; fact++)
-        if (fact == reason->fact ||
-            (missing[fact] && same_reason(reason, reasons + fact))) {
-            printf(" %u", fact);
+    for (fact = 0; fact < DULIMOVEN_MOST_FACTS; fact++) {
+        marked[fact] = fact == reason->fact ||
+                       (missing[fact] && same_reason(reason, reasons + fact));
+        if (marked[fact])
             missing[fact] = 0;
-            count++;
-        }
-    return count;
+    }
+    return print_facts(marked);
 }
 
 /* A reason, with the facts that have it missing from a column. */
@@ -479,15 +499,17 @@ static void print_why(uint32_t sequence)
 /* A column of a card, where it has a fact. */
 static void print_column(const uint64_t *card, int column)
 {
+    char marked[DULIMOVEN_MOST_FACTS];
     uint32_t fact;
     int count = 0;
-    for (fact = 0; fact < DULIMOVEN_MOST_FACTS; fact++)
-        if (dulimoven_card_has(card, column, fact)) {
-            if (count == 0)
-                printf("; %s", names[column]);
-            printf(" %u", fact);
-            count++;
-        }
+    for (fact = 0; fact < DULIMOVEN_MOST_FACTS; fact++) {
+        marked[fact] = (char)dulimoven_card_has(card, column, fact);
+        count += marked[fact];
+    }
+    if (count == 0)
+        return;
+    printf("; %s", names[column]);
+    print_facts(marked);
 }
 
 /* A card in words. */
@@ -503,7 +525,7 @@ static void print_card(uint32_t sequence)
         printf("%s%u %s can change",
                dulimoven_has_empty_run(card) ? "may be empty; " : "", count,
                count == 1 ? "fact" : "facts");
-    for (column = 1; column < DULIMOVEN_CARD_WORDS; column++)
+    for (column = 1; column <= DULIMOVEN_COLUMNS; column++)
         print_column(card, column);
     printf("\n");
 }

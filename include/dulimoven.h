@@ -41,17 +41,21 @@ extern "C" {
  * The numbers from here to the refusals are plain numbers and no enumerators,
  * since they are multiplied and added with one another.
  */
-#define DULIMOVEN_FORMAT 4
-#define DULIMOVEN_VERSION (DULIMOVEN_FORMAT * 1000 + 1)
+#define DULIMOVEN_FORMAT 5
+#define DULIMOVEN_VERSION (DULIMOVEN_FORMAT * 1000)
 
-/* How many words of 64 bits a card has, and how many of 32 bits a link. */
-#define DULIMOVEN_CARD_WORDS 13
+/* How many columns a card has, how many words of 64 bits a column, and how many
+ * a card, whose first word is no column but the flags; how many words of 32
+ * bits a link. */
+#define DULIMOVEN_COLUMNS 12
+#define DULIMOVEN_COLUMN_WORDS 4
+#define DULIMOVEN_CARD_WORDS (1 + DULIMOVEN_COLUMNS * DULIMOVEN_COLUMN_WORDS)
 #define DULIMOVEN_LINK_WORDS 2
 
 /* Bounds: the most words of an image, facts, steps and sequences. */
 #define DULIMOVEN_MOST_IMAGE_WORDS 8192
-#define DULIMOVEN_MOST_FACTS 64
-#define DULIMOVEN_MOST_STEPS 1024
+#define DULIMOVEN_MOST_FACTS 256
+#define DULIMOVEN_MOST_STEPS 1023
 #define DULIMOVEN_MOST_SEQUENCES 256
 
 /* The most members of a list that dulimoven_list is given. */
@@ -81,7 +85,8 @@ extern "C" {
  * (enum dulimoven_link_word).
  */
 enum dulimoven_kind {
-    /* the first word: how many facts, steps and sequences there are */
+    /* the first word: how many facts there are, in bits 0 to 8 of the payload,
+     * steps, in bits 9 to 18, and sequences, in bits 19 to 27 */
     DULIMOVEN_KIND_HEAD = 1,
     /* the step needs, sets or clears the fact of that number */
     DULIMOVEN_KIND_NEEDS = 2,
@@ -128,7 +133,7 @@ enum dulimoven_refusal {
     DULIMOVEN_FACT_ORDER = 6,
     /* fewer steps or sequences than the head counts; the last word's place */
     DULIMOVEN_MISSING = 7,
-    /* the card area has fewer than 13 words of 64 bits for each sequence */
+    /* the card area has fewer than 49 words of 64 bits for each sequence */
     DULIMOVEN_CARD_AREA = 8,
     /* the sequence asked about is not in the library */
     DULIMOVEN_SEQUENCE = 9,
@@ -176,14 +181,17 @@ enum dulimoven_refusal {
 uint64_t dulimoven_check(const uint32_t *image, size_t image_len);
 
 /*
- * The words of a card, in their order. In all but the flags, which are columns,
- * bit f is fact f (dulimoven_card_has), and no bit stands for a fact that the
- * library does not have. A fact is needed where a run first touches it by a
- * need, and a check of it is one; it is set or cleared where the run's last
- * touch sets or clears it. Without a run all words are 0, and
+ * The parts of a card, in their order: the flags, which are its first word, and
+ * the columns, 1 to 12. A column has four words, facts 0 to 63 in the first:
+ * fact f is bit f % 64 of word f / 64. dulimoven_column has these words of a
+ * card by the column's number, and dulimoven_card_has says whether a fact is in
+ * it, so that no caller works out where a word stands. No bit stands for a fact
+ * that the library does not have. A fact is needed where a run first touches it
+ * by a need, and a check of it is one; it is set or cleared where the run's
+ * last touch sets or clears it. Without a run all words are 0, and
  * dulimoven_endless says why there is none.
  */
-enum dulimoven_card_word {
+enum dulimoven_card_part {
     /* dulimoven_has_run, dulimoven_has_empty_run, dulimoven_changeable */
     DULIMOVEN_FLAGS = 0,
     /* a run exists, and every run needs the fact */
@@ -222,9 +230,9 @@ enum dulimoven_flag {
     DULIMOVEN_FLAG_RUN = 0x1,
     /* bit 1: an empty run exists: one without steps. It may have checks. */
     DULIMOVEN_FLAG_EMPTY_RUN = 0x2,
-    /* bits 8 to 14: how many facts are in "may set" or in "may clear" */
+    /* bits 8 to 16: how many facts are in "may set" or in "may clear" */
     DULIMOVEN_FLAG_COUNT_SHIFT = 8,
-    DULIMOVEN_FLAG_COUNT_MASK = 0x7f
+    DULIMOVEN_FLAG_COUNT_MASK = 0x1ff
 };
 
 /*
@@ -236,13 +244,13 @@ enum dulimoven_flag {
  *            pointer to them. They may not overlap the image, and no other
  *            thread may read or write them before the call returns. An empty
  *            area, area_len 0, may have a null pointer.
- * area_len   how many words area has; 13 for each sequence are enough.
+ * area_len   how many words area has; 49 for each sequence are enough.
  *
  * Answers C, the number of sequences, at most 256. The card of sequence c
- * stands in the 13 words from area[13 * c] on then, and the words after the
+ * stands in the 49 words from area[49 * c] on then, and the words after the
  * last card are as they were. Otherwise the call answers one of refusals 1 to 7
  * and 13, as dulimoven_check does for the image, or
- *   8  DULIMOVEN_CARD_AREA   area_len is below 13 * C; position 0
+ *   8  DULIMOVEN_CARD_AREA   area_len is below 49 * C; position 0
  * and every word of the area is as it was.
  */
 uint64_t dulimoven_cards(const uint32_t *image, size_t image_len,
@@ -353,19 +361,19 @@ uint64_t dulimoven_chain(const uint32_t *image, size_t image_len,
  * from F and the sequences' cards alone.
  *
  * facts      F, the number of facts. In the columns that are read, bits from F
- *            upward count as 0. No number is out of range: from 64 on no bit is
- *            dropped.
+ *            upward count as 0. No number is out of range: from 256 on no bit
+ *            is dropped.
  * sequences  C, the number of sequences. No number is out of range.
  * cards      cards_len words of 64 bits, lent for the call, which changes none
  *            of them and keeps no pointer to them: the cards of the sequences,
  *            as dulimoven_cards writes them. An empty array, cards_len 0, may
  *            have a null pointer.
- * cards_len  how many words cards has; 13 for each sequence are enough.
+ * cards_len  how many words cards has; 49 for each sequence are enough.
  * list       list_len numbers of sequences, the members, lent as the cards are.
  *            One may come more than once, and counts each time. An empty list,
  *            list_len 0, may have a null pointer.
  * list_len   how many members list has.
- * card       13 words of 64 bits, lent for the call, which keeps no pointer to
+ * card       49 words of 64 bits, lent for the call, which keeps no pointer to
  *            them. They may overlap neither the cards nor the list. No other
  *            thread may read or write them, or write the cards or the list,
  *            before the call returns.
@@ -374,9 +382,9 @@ uint64_t dulimoven_chain(const uint32_t *image, size_t image_len,
  * dulimoven_cards wrote, with F and C of the same library, it is the card of a
  * sequence that is added to the library, limits aside, and whose one
  * alternative names the members in their order. Over any other words it follows
- * the same rule, which reads of a member's card flags 0 and 1 and the words 2
+ * the same rule, which reads of a member's card flags 0 and 1 and the columns 2
  * to 4 and 8 to 12:
- *   - Where a member has no run, all 13 words are 0.
+ *   - Where a member has no run, all 49 words are 0.
  *   - A flag is set, and a fact is in "may first untouched", "may last
  *     untouched" or "may end unmentioned", where that is so of every member.
  *   - A fact is in "may need" or "may first set" where it is there of a member
@@ -395,7 +403,7 @@ uint64_t dulimoven_chain(const uint32_t *image, size_t image_len,
  *
  * Otherwise the call answers the first refusal that applies, with position 0,
  * and every word of card is as it was:
- *   8   DULIMOVEN_CARD_AREA    cards_len is below 13 * C, which does not wrap
+ *   8   DULIMOVEN_CARD_AREA    cards_len is below 49 * C, which does not wrap
  *   14  DULIMOVEN_LIST_LENGTH  list_len is above 256
  *   15  DULIMOVEN_MEMBER       a member is not below C
  */
@@ -463,22 +471,22 @@ static inline uint32_t dulimoven_position_of(uint64_t answer)
     return (uint32_t)(answer & 0xffffffffu);
 }
 
-/* F, the number of facts, of an image that the check accepted: 1 to 64. */
+/* F, the number of facts, of an image that the check accepted: 1 to 256. */
 static inline uint32_t dulimoven_facts(uint64_t accepted)
 {
-    return (uint32_t)(accepted & 0x7fu);
+    return (uint32_t)(accepted & 0x1ffu);
 }
 
-/* A, its number of steps: 0 to 1,024. */
+/* A, its number of steps: 0 to 1,023. */
 static inline uint32_t dulimoven_steps(uint64_t accepted)
 {
-    return (uint32_t)(accepted >> 7 & 0x7ffu);
+    return (uint32_t)(accepted >> 9 & 0x3ffu);
 }
 
 /* C, its number of sequences: 0 to 256. */
 static inline uint32_t dulimoven_sequences(uint64_t accepted)
 {
-    return (uint32_t)(accepted >> 18 & 0x1ffu);
+    return (uint32_t)(accepted >> 19 & 0x1ffu);
 }
 
 /* Whether a card's sequence has a run. */
@@ -493,7 +501,7 @@ static inline int dulimoven_has_empty_run(const uint64_t *card)
     return (card[DULIMOVEN_FLAGS] & DULIMOVEN_FLAG_EMPTY_RUN) != 0;
 }
 
-/* How many facts it may set or may clear: 0 to 64. */
+/* How many facts it may set or may clear: 0 to 256. */
 static inline uint32_t dulimoven_changeable(const uint64_t *card)
 {
     return (uint32_t)(card[DULIMOVEN_FLAGS] >> DULIMOVEN_FLAG_COUNT_SHIFT &
@@ -501,13 +509,23 @@ static inline uint32_t dulimoven_changeable(const uint64_t *card)
 }
 
 /*
- * Whether a fact is in a column of a card: one of enum dulimoven_card_word, but
- * not the flags. No number of a fact is out of range.
+ * The four words of a column of a card, facts 0 to 63 in the first. The column
+ * is one of enum dulimoven_card_part, but not the flags.
+ */
+static inline const uint64_t *dulimoven_column(const uint64_t *card, int column)
+{
+    return card + 1 + DULIMOVEN_COLUMN_WORDS * (column - 1);
+}
+
+/*
+ * Whether a fact is in a column of a card, which is one as above. No number of
+ * a fact is out of range.
  */
 static inline int dulimoven_card_has(const uint64_t *card, int column,
                                      uint64_t fact)
 {
-    return fact < DULIMOVEN_MOST_FACTS && (card[column] >> fact & 1u) != 0;
+    return fact < DULIMOVEN_MOST_FACTS &&
+           (dulimoven_column(card, column)[fact / 64] >> fact % 64 & 1u) != 0;
 }
 
 /* The sequence that a link is about, by the link's two words. */

@@ -4,6 +4,7 @@
  * call the image as it was. C11 and C++17. Prints a line for each word that
  * differs, then a count; the exit status is 0 where nothing differs.
  */
+#include "borders.h"
 #include "checks.h"
 #include "dead.h"
 #include "harness.h"
@@ -38,17 +39,17 @@ static void lend(void)
     }
 }
 
-/* Expects this card of a sequence. */
-static void expect(size_t sequence, const uint64_t *card)
+/* Where the card of a sequence is expected. */
+static uint64_t *due_card(size_t sequence)
 {
-    memcpy(expected_area + GUARD + CARD * sequence, card,
-           CARD * sizeof card[0]);
+    return expected_area + GUARD + CARD * sequence;
 }
 
-#define EXPECT(sequence, ...)                             \
-    do {                                                  \
-        static const uint64_t card[CARD] = {__VA_ARGS__}; \
-        expect(sequence, card);                           \
+/* Expects the card of these numbers of a sequence, all facts below 64. */
+#define EXPECT(sequence, ...)                                \
+    do {                                                     \
+        static const uint64_t card[NUMBERS] = {__VA_ARGS__}; \
+        lay_out_low(card, due_card(sequence));               \
     } while (0)
 
 /* "Without a run all words are 0." */
@@ -83,21 +84,21 @@ static void expect_l(void)
 {
     size_t sequence;
     for (sequence = 0; sequence < L_SEQUENCES; sequence++)
-        expect(sequence, cards_of_l[sequence]);
+        lay_out_low(cards_of_l[sequence], due_card(sequence));
 }
 
 /*
  * L, "in L's sample the areas become one word too few and just enough": its
- * three cards have 39 words, so 38 words get 8 and 39 suffice. Every length
- * from 0 to 43: a shorter area stays as it was, a longer one keeps its last
+ * three cards have 147 words, so 146 words get 8 and 147 suffice. Every length
+ * from 0 to 151: a shorter area stays as it was, a longer one keeps its last
  * words.
  */
 static void areas_of_l(void)
 {
-    size_t enough = 39;
+    size_t enough = 147;
     size_t length;
     build(library_l, L_SUM);
-    hold("three cards of thirteen words", L_SEQUENCES * CARD == enough);
+    hold("three cards of 49 words", L_SEQUENCES * CARD == enough);
     for (length = 0; length < enough; length++) {
         lend();
         cards("L, an area that is too short", length, REFUSED(8, 0));
@@ -267,6 +268,90 @@ static void columns(void)
     cards("fact 63 set and cleared", CARD, REFUSED(13, 6));
 }
 
+/*
+ * The library of borders.h, in an area that is a word short, in one that is
+ * just enough and in longer ones; and of its first card each word in its place.
+ */
+static void at_borders(void)
+{
+    size_t c, enough = 245;
+    build_borders();
+    hold("five cards of 49 words", BORDERS * CARD == enough);
+    lend();
+    cards("facts at the borders of words, a word short", enough - 1,
+          REFUSED(8, 0));
+    for (c = 0; c < BORDERS; c++)
+        lay_out(borders_cards[c], due_card(c));
+    cards("facts at the borders of words", enough, BORDERS);
+    hold("sequence 0, word by word",
+         memcmp(card_area + GUARD, borders_words_of_0,
+                sizeof borders_words_of_0) == 0);
+    lend();
+    for (c = 0; c < BORDERS; c++)
+        lay_out(borders_cards[c], due_card(c));
+    cards("facts at the borders of words, a word more", enough + 1, BORDERS);
+    cards("facts at the borders of words, a long area", LONG_AREA, BORDERS);
+}
+
+/*
+ * So many facts, and one step that sets the highest: that fact is set and
+ * stands, and the others, which are below it, are left and not named. No word
+ * has a bit from F upward.
+ */
+static void highest_fact(uint32_t facts)
+{
+    struct column top = one_fact(facts - 1), rest = facts_below(facts - 1);
+    struct column none = low_facts(0), flags = low_facts(0x101);
+    const struct column card[NUMBERS] = {flags, none, none, top, none,
+                                         top,   none, top,  top, rest,
+                                         rest,  none, rest};
+    char name[64];
+    snprintf(name, sizeof name, "%u facts, and the highest is set",
+             (unsigned)facts);
+    BUILD(HEAD(facts, 1, 1), STEP(0), SETS(facts - 1),
+          SEQUENCE(0), ALTERNATIVE, DO(0));
+    lend();
+    cards(name, CARD - 1, REFUSED(8, 0));
+    lay_out(card, due_card(0));
+    cards(name, CARD, 1);
+}
+
+static void highest_facts(void)
+{
+    static const uint32_t facts[] = {1,   63,  64,  65,  127, 128,
+                                     129, 191, 192, 193, 255, 256};
+    size_t i;
+    for (i = 0; i < COUNT(facts); i++)
+        highest_fact(facts[i]);
+}
+
+/*
+ * Each fact of 256 by itself: step f needs it and clears the next, and sequence
+ * f is that step. Facts and sequences go round at 256.
+ */
+static void each_fact(void)
+{
+    uint32_t f;
+    start();
+    put(HEAD(256, 256, 256));
+    for (f = 0; f < 256; f++)
+        PUT(STEP(f), NEEDS(f), CLEARS((f + 1) % 256));
+    for (f = 0; f < 256; f++)
+        PUT(SEQUENCE(f), ALTERNATIVE, DO(f));
+    put_sum();
+    lend();
+    for (f = 0; f < 256; f++) {
+        struct column all = facts_below(256), none = low_facts(0);
+        struct column need = one_fact(f), clear = one_fact((f + 1) % 256);
+        struct column first = without(all, need), last = without(all, clear);
+        const struct column card[NUMBERS] = {
+            low_facts(0x101), need, need,  none, clear, none, clear,
+            need,             none, first, last, clear, without(first, clear)};
+        lay_out(card, due_card(f));
+    }
+    cards("each fact of 256 by itself", 256 * CARD, 256);
+}
+
 /* The libraries of dead.h. */
 static void dead(void)
 {
@@ -318,16 +403,60 @@ static void with_checks(void)
         lend();
         cards(library->name, library->sequences * CARD - 1, REFUSED(8, 0));
         for (c = 0; c < library->sequences; c++)
-            expect(c, library->cards[c]);
+            checks_card(library, c, due_card(c));
         cards(library->name, library->sequences * CARD, library->sequences);
     }
 }
 
 /*
- * All 64 facts set by 64 steps: the count is 64, in bits 8 to 14. None always
- * stands, since each run names one alone: each fact is first set by one run,
- * and left and not named by the 63 others.
+ * All 256 facts set by one step: the count is 256, in bits 8 to 16, and so the
+ * flags are 10001. Then by 256 steps: none always stands, since each run names
+ * one alone; each fact is first set by one run, and left and not named by the
+ * 255 others.
  */
+static void most_facts(void)
+{
+    const struct column all = facts_below(256), none = low_facts(0);
+    const struct column flags = low_facts(0x10001);
+    const struct column one_step[NUMBERS] = {flags, none, none, all,  none,
+                                             all,   none, all,  all,  none,
+                                             none,  none, none};
+    const struct column each_step[NUMBERS] = {flags, none, none, all, none,
+                                              none,  none, none, all, all,
+                                              all,   none, all};
+    uint32_t f;
+    start();
+    PUT(HEAD(256, 1, 1), STEP(0));
+    for (f = 0; f < 256; f++)
+        put(SETS(f));
+    PUT(SEQUENCE(0), ALTERNATIVE, DO(0));
+    put_sum();
+    lend();
+    lay_out(one_step, due_card(0));
+    cards("256 facts set by one step", CARD, 1);
+    hold("its flags", card_area[GUARD] == 0x10001);
+    hold("256 facts can change",
+         dulimoven_changeable(card_area + GUARD) == 256);
+
+    start();
+    put(HEAD(256, 256, 1));
+    for (f = 0; f < 256; f++)
+        PUT(STEP(f), SETS(f));
+    put(SEQUENCE(0));
+    for (f = 0; f < 256; f++)
+        PUT(ALTERNATIVE, DO(f));
+    put_sum();
+    lend();
+    lay_out(each_step, due_card(0));
+    cards("256 facts, each set by one alternative", CARD, 1);
+    hold("a run, and no empty one",
+         dulimoven_has_run(card_area + GUARD) == 1 &&
+             dulimoven_has_empty_run(card_area + GUARD) == 0);
+    hold("256 facts can change, one by one",
+         dulimoven_changeable(card_area + GUARD) == 256);
+}
+
+/* The same with 64 facts, whose count is 64. */
 static void all_facts(void)
 {
     uint32_t f;
@@ -346,6 +475,37 @@ static void all_facts(void)
     hold("a run", dulimoven_has_run(card_area + GUARD) == 1);
     hold("no empty run", dulimoven_has_empty_run(card_area + GUARD) == 0);
     hold("64 facts can change", dulimoven_changeable(card_area + GUARD) == 64);
+}
+
+/*
+ * Sequences without an alternative, so that each card is blank. The opener of
+ * sequence c of 161 is taken 161 - c times: their kinds come to 6 * 13041,
+ * their payloads to 695520. The head counts 0x5080001 + 1024, 162 times: 162 *
+ * 0x5080401 + 695520 + 1024 * 78246 = 0x333e3bd82.
+ */
+static void blank_cards(void)
+{
+    static const uint32_t counts[] = {160, 161, 256};
+    static const uint32_t heads[] = {0x15000001, 0x15080001, 0x18000001};
+    static const uint32_t sums[] = {0xf9c46f31, 0xf3e3bd82, 0xf43aaf81};
+    size_t i;
+    uint32_t c;
+    for (i = 0; i < COUNT(counts); i++) {
+        start();
+        put(HEAD(1, 0, counts[i]));
+        for (c = 0; c < counts[i]; c++)
+            put(SEQUENCE(c));
+        put_sum();
+        hold("the head and the sum word",
+             *word_at(0) == heads[i] && *word_at(words - 1) == sums[i]);
+        lend();
+        cards("sequences without an alternative, a word short",
+              counts[i] * CARD - 1, REFUSED(8, 0));
+        for (c = 0; c < counts[i]; c++)
+            EXPECT_BLANK(c);
+        cards("sequences without an alternative", counts[i] * CARD, counts[i]);
+    }
+    hold("161 cards have 7,889 words, more than 7,840", 161 * CARD == 7889);
 }
 
 /*
@@ -372,7 +532,9 @@ static void deep(const char *name, int up)
 
 static void names(void)
 {
-    hold("the words of a card",
+    uint64_t card[CARD] = {0};
+    int column;
+    hold("the parts of a card",
          DULIMOVEN_FLAGS == 0 && DULIMOVEN_ALWAYS_NEEDED == 1 &&
              DULIMOVEN_MAY_NEED == 2 && DULIMOVEN_MAY_SET == 3 &&
              DULIMOVEN_MAY_CLEAR == 4 && DULIMOVEN_ALWAYS_SET == 5 &&
@@ -381,7 +543,25 @@ static void names(void)
              DULIMOVEN_MAY_FIRST_UNTOUCHED == 9 &&
              DULIMOVEN_MAY_LAST_UNTOUCHED == 10 &&
              DULIMOVEN_MAY_END_CLEARED == 11 &&
-             DULIMOVEN_MAY_END_UNMENTIONED == 12 && DULIMOVEN_CARD_WORDS == 13);
+             DULIMOVEN_MAY_END_UNMENTIONED == 12 && DULIMOVEN_COLUMNS == 12 &&
+             DULIMOVEN_COLUMN_WORDS == 4 && DULIMOVEN_CARD_WORDS == 49);
+    /* "word 1 + 4 x (k - 1) + f / 64 of a card, bit f % 64": facts 0 to 63
+       first */
+    for (column = 1; column <= DULIMOVEN_COLUMNS; column++) {
+        uint32_t f;
+        hold("the words of a column",
+             dulimoven_column(card, column) == card + 4 * column - 3);
+        for (f = 0; f < 256; f++) {
+            memset(card, 0, sizeof card);
+            card[1 + 4 * (column - 1) + (int)(f / 64)] = UINT64_C(1) << f % 64;
+            hold("a fact of a column",
+                 dulimoven_card_has(card, column, f) == 1 &&
+                     dulimoven_card_has(card, column, f ^ 64) == 0 &&
+                     dulimoven_card_has(card, column, f ^ 1) == 0 &&
+                     dulimoven_card_has(card, column % 12 + 1, f) == 0 &&
+                     dulimoven_card_has(card, column, f + 256) == 0);
+        }
+    }
     hold("sequence 0 of L has an empty run",
          dulimoven_has_empty_run(cards_of_l[0]) == 1);
     hold("sequence 1 of L can change two facts",
@@ -399,9 +579,14 @@ int main(void)
     refusals();
     set_and_cleared();
     columns();
+    at_borders();
+    highest_facts();
+    each_fact();
     dead();
     with_checks();
+    most_facts();
     all_facts();
+    blank_cards();
     deep("each calls the next", 1);
     deep("each calls the one before", 0);
     names();

@@ -9,6 +9,7 @@
  * a step that does neither, "check" checks that it stands, and <..> is an
  * alternative with its entries.
  */
+#include "borders.h"
 #include "checks.h"
 #include "dead.h"
 #include "harness.h"
@@ -173,13 +174,25 @@ static void samples(void)
     none("<set>, question 1", 0, 1, 0);
     none("<set>, question 2", 0, 2, 0);
 
-    /* 64 facts are read, 65 are not */
+    /* 256 facts are read, 257 are not; a fact is told by all its bits */
     BUILD(HEAD(64, 1, 1), STEP(0), SETS(63), SEQUENCE(0), ALTERNATIVE, DO(0));
     SHOWN("fact 63 of 64", 0, 0, 63, CHOICE(0, 0), AT(0));
     SHOWN("fact 62 of 64", 0, 2, 62, CHOICE(0, 0), UNTOUCHED);
     unwritten("fact 64 of 64", 0, 0, 64, REFUSED(11, 0));
-    BUILD(HEAD(65, 1, 1), STEP(0), SETS(63), SEQUENCE(0), ALTERNATIVE, DO(0));
-    unwritten("fact 63 of 65", 0, 0, 63, REFUSED(3, 0));
+    BUILD(HEAD(256, 1, 1), STEP(0), SETS(255), SEQUENCE(0), ALTERNATIVE, DO(0));
+    SHOWN("fact 255 of 256", 0, 0, 255, CHOICE(0, 0), AT(0));
+    none("fact 191 of 256", 0, 0, 191);
+    none("fact 127 of 256", 0, 0, 127);
+    none("fact 63 of 256", 0, 0, 63);
+    SHOWN("fact 63 of 256, untouched", 0, 2, 63, CHOICE(0, 0), UNTOUCHED);
+    unwritten("fact 256 of 256", 0, 0, 256, REFUSED(11, 0));
+    unwritten("fact 511 of 256", 0, 0, 511, REFUSED(11, 0));
+    BUILD(HEAD(257, 1, 1), STEP(0), SETS(63), SEQUENCE(0), ALTERNATIVE, DO(0));
+    unwritten("fact 63 of 257", 0, 0, 63, REFUSED(3, 0));
+    BUILD(HEAD(65, 1, 1), STEP(0), SETS(64), SEQUENCE(0), ALTERNATIVE, DO(0));
+    SHOWN("fact 64 of 65", 0, 0, 64, CHOICE(0, 0), AT(0));
+    none("fact 0 of 65", 0, 0, 0);
+    unwritten("fact 65 of 65", 0, 0, 65, REFUSED(11, 0));
 }
 
 /* A question that has a chain, of one link or two. */
@@ -254,6 +267,91 @@ static void every_question_of_l(void)
     };
     build(library_l, L_SUM);
     every_question("L", 3, 3, chains, COUNT(chains));
+}
+
+/* The chains of the library of borders.h, as they are put down. */
+static struct answer border_chains[20 * 256];
+static size_t border_count;
+
+static void put_one(uint64_t question, uint64_t fact, uint32_t first,
+                    uint32_t second)
+{
+    struct answer a = {first & 0xff, question, fact, 1, {0, 0, 0, 0}};
+    a.given[0] = first;
+    a.given[1] = second;
+    border_chains[border_count++] = a;
+}
+
+/* Sequence 3 sets it by the call in alternative 1, and there by step 0. */
+static void put_called(uint64_t question, uint64_t fact)
+{
+    struct answer a = {3, question, fact, 2,
+                       {CHOICE(3, 1), AT(0), CHOICE(0, 0), AT(0)}};
+    border_chains[border_count++] = a;
+}
+
+/* A fact that no step has, and no check: of <1>, <> and of <check 255>,
+ * <sequence 0> the one that nests least, and of two such the newest. */
+static void put_untouched(uint64_t fact)
+{
+    uint64_t question;
+    for (question = 2; question <= 5; question += 3) {
+        put_one(question, fact, CHOICE(0, 0), UNTOUCHED);
+        put_one(question, fact, CHOICE(1, 0), UNTOUCHED);
+        put_one(question, fact, CHOICE(2, 1), UNTOUCHED);
+        put_one(question, fact, CHOICE(3, 0), UNTOUCHED);
+    }
+}
+
+/* A fact that step 0 sets: 0, 63, 64 and 255. */
+static void put_set(uint64_t fact)
+{
+    put_one(0, fact, CHOICE(0, 0), AT(0));
+    put_one(4, fact, CHOICE(0, 0), AT(0));
+    /* step 1 clears 63, and touches none of the others on the last side */
+    if (fact == 63)
+        put_one(1, fact, CHOICE(1, 0), AT(1));
+    else
+        put_one(0, fact, CHOICE(1, 0), AT(0));
+    put_one(4, fact, CHOICE(1, 0), AT(0));
+    if (fact == 63)
+        put_one(1, fact, CHOICE(2, 0), AT(0));
+    put_one(2, fact, CHOICE(2, 1), UNTOUCHED);
+    if (fact == 64 || fact == 255)
+        put_one(3, fact, CHOICE(2, 0), AT(0));
+    put_one(5, fact, CHOICE(2, 1), UNTOUCHED);
+    put_called(0, fact);
+    put_one(2, fact, CHOICE(3, 0), UNTOUCHED);
+    put_called(4, fact);
+    /* the check of 255 is a need on the first side */
+    if (fact == 255)
+        put_one(3, fact, CHOICE(3, 0), AT(0));
+    else
+        put_one(5, fact, CHOICE(3, 0), UNTOUCHED);
+}
+
+/* Every question about each of its 256 facts, and some of them as printed. */
+static void at_borders(void)
+{
+    uint64_t fact;
+    build_borders();
+    SHOWN("1, question 0, fact 255", 1, 0, 255, 0xa0000001, 0xb0000000);
+    SHOWN("1, question 1, fact 63", 1, 1, 63, 0xa0000001, 0xb0000001);
+    none("1, question 0, fact 63", 1, 0, 63);
+    SHOWN("2, question 3, fact 255", 2, 3, 255, 0xa0000002, 0xb0000000);
+    SHOWN("2, question 2, fact 64", 2, 2, 64, 0xa0000102, 0xc0000000);
+    SHOWN("3, question 3, fact 255", 3, 3, 255, 0xa0000003, 0xb0000000);
+    SHOWN("3, question 4, fact 255", 3, 4, 255, 0xa0000103, 0xb0000000,
+          0xa0000000, 0xb0000000);
+    for (fact = 256; fact <= 512; fact += 64)
+        unwritten("a fact from 256 on", 1, 0, fact, REFUSED(11, 0));
+    border_count = 0;
+    for (fact = 0; fact < 256; fact++)
+        if (fact == 0 || fact == 63 || fact == 64 || fact == 255)
+            put_set(fact);
+        else
+            put_untouched(fact);
+    every_question("borders", BORDERS, 256, border_chains, border_count);
 }
 
 /* 9 before 10 before 11 before 12, whatever stands in the upper bits. */
@@ -655,7 +753,7 @@ static void newest(void)
           SEQUENCE(0), ALTERNATIVE, SET, SET, ALTERNATIVE, OTHER, SET,
               ALTERNATIVE, CALL(1), ALTERNATIVE, NEED,
           SEQUENCE(1), ALTERNATIVE, SET);
-    sealed("newest first, the sum word", 0xf0c4d0a4);
+    sealed("newest first, the sum word", 0xf17554a4);
     SHOWN("newest first, question 0", 0, 0, 0, CHOICE(0, 1), AT(1));
     none("newest first, question 1", 0, 1, 0);
     SHOWN("newest first, question 2", 0, 2, 0, CHOICE(0, 3), UNTOUCHED);
@@ -671,7 +769,7 @@ static void newest(void)
           SEQUENCE(0), ALTERNATIVE, CALL(1), CALL(1),
               ALTERNATIVE, CALL(1), OTHER, CALL(1), CALL(1),
           SEQUENCE(1), ALTERNATIVE, SET, ALTERNATIVE, ALTERNATIVE, SET);
-    sealed("lowest of calls, the sum word", 0xf0cfc2d2);
+    sealed("lowest of calls, the sum word", 0xf1884cd2);
     SHOWN("lowest of calls, 0, question 0", 0, 0, 0, CHOICE(0, 1), AT(0),
           CHOICE(1, 2), AT(0));
     SHOWN("lowest of calls, 0, question 2", 0, 2, 0, CHOICE(0, 1), UNTOUCHED);
@@ -689,7 +787,7 @@ static void newest(void)
           SEQUENCE(1), ALTERNATIVE, CALL(2), ALTERNATIVE, SET,
               ALTERNATIVE, CALL(2),
           SEQUENCE(2), ALTERNATIVE, SET, ALTERNATIVE);
-    sealed("fewest first, the sum word", 0xf147c6f5);
+    sealed("fewest first, the sum word", 0xf2745cf5);
     SHOWN("fewest first, 0, question 0", 0, 0, 0, CHOICE(0, 0), AT(1));
     SHOWN("fewest first, 1, question 0", 1, 0, 0, CHOICE(1, 1), AT(0));
     SHOWN("fewest first, 0, question 2", 0, 2, 0, CHOICE(0, 1), UNTOUCHED);
@@ -706,7 +804,7 @@ static void newest(void)
           SEQUENCE(0), ALTERNATIVE, DO(0), ALTERNATIVE, ALTERNATIVE, CALL(1),
           SEQUENCE(1), ALTERNATIVE, CALL(2), ALTERNATIVE, CALL(2),
           SEQUENCE(2), ALTERNATIVE, ALTERNATIVE);
-    sealed("least depth first, the sum word", 0xf0cd543b);
+    sealed("least depth first, the sum word", 0xf18d6c3b);
     SHOWN("least depth first, 0, question 2", 0, 2, 0, CHOICE(0, 1), UNTOUCHED);
     SHOWN("least depth first, 0, question 5", 0, 5, 0, CHOICE(0, 1), UNTOUCHED);
     SHOWN("least depth first, 1, question 2", 1, 2, 0, CHOICE(1, 1), UNTOUCHED);
@@ -721,7 +819,7 @@ static void newest(void)
               ALTERNATIVE, SET, CALL(1), ALTERNATIVE, CALL(2),
           SEQUENCE(1), ALTERNATIVE, CALL(1),
           SEQUENCE(2));
-    sealed("newer, no run, the sum word", 0xf11ccc91);
+    sealed("newer, no run, the sum word", 0xf2255091);
     SHOWN("newer, no run, question 0", 0, 0, 0, CHOICE(0, 1), AT(0));
     none("newer, no run, question 1", 0, 1, 0);
     none("newer, no run, question 2", 0, 2, 0);
@@ -734,7 +832,7 @@ static void newest(void)
     BUILD(HEAD(1, 4, 2), FOUR_STEPS,
           SEQUENCE(0),
           SEQUENCE(1), ALTERNATIVE, SET, ALTERNATIVE, CLEAR, ALTERNATIVE, SET);
-    sealed("last words, the sum word", 0xf089b058);
+    sealed("last words, the sum word", 0xf10a1058);
     all_none("last words, 0", 0);
     SHOWN("last words, 1, question 0", 1, 0, 0, CHOICE(1, 2), AT(0));
     SHOWN("last words, 1, question 1", 1, 1, 0, CHOICE(1, 1), AT(0));
@@ -979,30 +1077,31 @@ static void with_checks(void)
 }
 
 /*
- * 64 facts: sequence 0 is <check 63>, <set 63>, sequence 1 <check 0, check 63>.
- * Facts 1 to 62 are untouched.
+ * 64 facts and 256: with the highest of them for h, sequence 0 is <check h>,
+ * <set h>, sequence 1 <check 0, check h>. The facts between are untouched.
  */
-static void highest_check(void)
+static void highest_check(const struct checks *library, uint32_t h)
 {
-    build_checks(&checks[WIDEST]);
-    none("64 facts, 0, question 1", 0, 1, 63);
-    SHOWN("64 facts, 0, question 0", 0, 0, 63, CHOICE(0, 1), AT(0));
-    SHOWN("64 facts, 0, question 2", 0, 2, 63, CHOICE(0, 0), UNTOUCHED);
-    SHOWN("64 facts, 0, question 3", 0, 3, 63, CHOICE(0, 0), AT(0));
-    SHOWN("64 facts, 0, question 4", 0, 4, 63, CHOICE(0, 1), AT(0));
-    none("64 facts, 0, question 5", 0, 5, 63);
-    SHOWN("64 facts, 0, question 2, fact 62", 0, 2, 62, CHOICE(0, 1),
-          UNTOUCHED);
-    SHOWN("64 facts, 0, question 5, fact 62", 0, 5, 62, CHOICE(0, 1),
-          UNTOUCHED);
-    SHOWN("64 facts, 1, question 3", 1, 3, 63, CHOICE(1, 0), AT(1));
-    SHOWN("64 facts, 1, question 3, fact 0", 1, 3, 0, CHOICE(1, 0), AT(0));
-    none("64 facts, 1, question 3, fact 62", 1, 3, 62);
-    SHOWN("64 facts, 1, question 2", 1, 2, 63, CHOICE(1, 0), UNTOUCHED);
-    none("64 facts, 1, question 5", 1, 5, 63);
-    none("64 facts, 1, question 5, fact 0", 1, 5, 0);
-    SHOWN("64 facts, 1, question 5, fact 62", 1, 5, 62, CHOICE(1, 0),
-          UNTOUCHED);
+    uint32_t f;
+    build_checks(library);
+    none("highest, 0, question 1", 0, 1, h);
+    SHOWN("highest, 0, question 0", 0, 0, h, CHOICE(0, 1), AT(0));
+    SHOWN("highest, 0, question 2", 0, 2, h, CHOICE(0, 0), UNTOUCHED);
+    SHOWN("highest, 0, question 3", 0, 3, h, CHOICE(0, 0), AT(0));
+    SHOWN("highest, 0, question 4", 0, 4, h, CHOICE(0, 1), AT(0));
+    none("highest, 0, question 5", 0, 5, h);
+    SHOWN("highest, 1, question 3", 1, 3, h, CHOICE(1, 0), AT(1));
+    SHOWN("highest, 1, question 3, fact 0", 1, 3, 0, CHOICE(1, 0), AT(0));
+    SHOWN("highest, 1, question 2", 1, 2, h, CHOICE(1, 0), UNTOUCHED);
+    none("highest, 1, question 5", 1, 5, h);
+    none("highest, 1, question 5, fact 0", 1, 5, 0);
+    for (f = 1; f < h; f++) {
+        none("between, 0, question 0", 0, 0, f);
+        SHOWN("between, 0, question 2", 0, 2, f, CHOICE(0, 1), UNTOUCHED);
+        SHOWN("between, 0, question 5", 0, 5, f, CHOICE(0, 1), UNTOUCHED);
+        none("between, 1, question 3", 1, 3, f);
+        SHOWN("between, 1, question 5", 1, 5, f, CHOICE(1, 0), UNTOUCHED);
+    }
 }
 
 /*
@@ -1146,9 +1245,13 @@ static void names(void)
 {
     static const uint32_t first[2] = {0xa01ff9ff, 0xb0001ff8};
     static const uint32_t second[2] = {0xa0000100, 0xc0000000};
-    static const uint64_t card[DULIMOVEN_CARD_WORDS] = {
-        0x4003, 0, 0, UINT64_C(0x8000000000000001), 0, 0, 0, 0, 0, 0, 0, 0,
-        2};
+    static const struct column numbers[NUMBERS] = {
+        FLAGS(0x10003), COLUMN_0, COLUMN_0, COLUMN(HIGH | 1, 1, 0, HIGH),
+        COLUMN_0,       COLUMN_0, COLUMN_0, COLUMN_0,
+        COLUMN_0,       COLUMN_0, COLUMN_0, COLUMN_0,
+        COLUMN(2, 0, 4, 0)};
+    uint64_t card[DULIMOVEN_CARD_WORDS];
+    lay_out(numbers, card);
     hold("the questions",
          DULIMOVEN_LAST_SET == 0 && DULIMOVEN_LAST_CLEARED == 1 &&
              DULIMOVEN_LAST_UNTOUCHED == 2 && DULIMOVEN_FIRST_NEEDED == 3 &&
@@ -1159,11 +1262,11 @@ static void names(void)
     hold("the flags",
          DULIMOVEN_FLAG_RUN == 1 && DULIMOVEN_FLAG_EMPTY_RUN == 2 &&
              DULIMOVEN_FLAG_COUNT_SHIFT == 8 &&
-             DULIMOVEN_FLAG_COUNT_MASK == 127);
+             DULIMOVEN_FLAG_COUNT_MASK == 511);
     hold("the bounds",
-         DULIMOVEN_MOST_IMAGE_WORDS == 8192 && DULIMOVEN_MOST_FACTS == 64 &&
-             DULIMOVEN_MOST_STEPS == 1024 && DULIMOVEN_MOST_SEQUENCES == 256 &&
-             DULIMOVEN_MOST_CARD_WORDS == 13 * 256 &&
+         DULIMOVEN_MOST_IMAGE_WORDS == 8192 && DULIMOVEN_MOST_FACTS == 256 &&
+             DULIMOVEN_MOST_STEPS == 1023 && DULIMOVEN_MOST_SEQUENCES == 256 &&
+             DULIMOVEN_MOST_CARD_WORDS == 49 * 256 &&
              DULIMOVEN_MOST_CHAIN_WORDS == 2 * 256);
     /* 0x1ff9ff is 8185 * 2^8 + 255 */
     hold("sequence 255", dulimoven_link_sequence(first) == 255);
@@ -1181,20 +1284,34 @@ static void names(void)
     hold("a refusal at 8,191", dulimoven_is_refusal(REFUSED(12, 8191)) == 1);
     hold("the number of refusal 12",
          dulimoven_refusal_of(REFUSED(12, 0)) == DULIMOVEN_CHAIN_AREA);
-    hold("a run, an empty one, 64 facts",
+    hold("a run, an empty one, 256 facts",
          dulimoven_has_run(card) == 1 && dulimoven_has_empty_run(card) == 1 &&
-             dulimoven_changeable(card) == 64);
-    hold("facts 0 and 63",
+             dulimoven_changeable(card) == 256);
+    hold("facts 0, 63, 64 and 255",
          dulimoven_card_has(card, DULIMOVEN_MAY_SET, 0) == 1 &&
-             dulimoven_card_has(card, DULIMOVEN_MAY_SET, 63) == 1);
-    hold("no fact 1, 62, 64",
+             dulimoven_card_has(card, DULIMOVEN_MAY_SET, 63) == 1 &&
+             dulimoven_card_has(card, DULIMOVEN_MAY_SET, 64) == 1 &&
+             dulimoven_card_has(card, DULIMOVEN_MAY_SET, 255) == 1);
+    hold("no fact 1, 62, 65, 128, 192, 254, 256",
          dulimoven_card_has(card, DULIMOVEN_MAY_SET, 1) == 0 &&
              dulimoven_card_has(card, DULIMOVEN_MAY_SET, 62) == 0 &&
-             dulimoven_card_has(card, DULIMOVEN_MAY_SET, 64) == 0 &&
+             dulimoven_card_has(card, DULIMOVEN_MAY_SET, 65) == 0 &&
+             dulimoven_card_has(card, DULIMOVEN_MAY_SET, 128) == 0 &&
+             dulimoven_card_has(card, DULIMOVEN_MAY_SET, 192) == 0 &&
+             dulimoven_card_has(card, DULIMOVEN_MAY_SET, 254) == 0 &&
+             dulimoven_card_has(card, DULIMOVEN_MAY_SET, 256) == 0 &&
              dulimoven_card_has(card, DULIMOVEN_MAY_SET,
                                 UINT64_C(0xffffffffffffffff)) == 0);
+    hold("the words of a column",
+         dulimoven_column(card, DULIMOVEN_MAY_SET)[0] == (HIGH | 1) &&
+             dulimoven_column(card, DULIMOVEN_MAY_SET)[1] == 1 &&
+             dulimoven_column(card, DULIMOVEN_MAY_SET)[2] == 0 &&
+             dulimoven_column(card, DULIMOVEN_MAY_SET)[3] == HIGH &&
+             dulimoven_column(card, DULIMOVEN_MAY_SET) == card + 9);
     hold("fact 1 in the last column, and not in the one before it",
          dulimoven_card_has(card, DULIMOVEN_MAY_END_UNMENTIONED, 1) == 1 &&
+             dulimoven_card_has(card, DULIMOVEN_MAY_END_UNMENTIONED, 130) ==
+                 1 &&
              dulimoven_card_has(card, DULIMOVEN_MAY_END_UNMENTIONED, 0) == 0 &&
              dulimoven_card_has(card, DULIMOVEN_MAY_END_CLEARED, 1) == 0);
 }
@@ -1203,6 +1320,7 @@ int main(void)
 {
     samples();
     every_question_of_l();
+    at_borders();
     order();
     refusals();
     set_and_cleared();
@@ -1213,7 +1331,8 @@ int main(void)
     newest();
     dead();
     with_checks();
-    highest_check();
+    highest_check(&checks[ONE_WORD], 63);
+    highest_check(&checks[WIDEST], 255);
     choices_with_checks();
     deep("each calls the next", 1);
     deep("each calls the one before", 0);

@@ -9,11 +9,21 @@
  * The name of a row says which rule of documents 01 and 02 its answer follows
  * from. A refusal is said with its number and position; words count from 0, the
  * head.
+ *
+ * Tried: an engine in C that finds 13 by a word of 64 bits for the sets and one
+ * for the clears, and where these have a bit in common by a merge of the two
+ * runs of words, stood in the library's place. Breaks of it were all reported:
+ * the word of the last set or of the last clear alone, or by five bits of a
+ * fact; of the merge that the first or the last word of either run is left out,
+ * that both runs go on at a time, that only one does, or that no fact is ever
+ * found in both.
  */
+#include "borders.h"
 #include "checks.h"
 #include "harness.h"
 #include "pulses.h"
 #include "samples.h"
+#include "ten.h"
 
 static void print_answer(uint64_t answer)
 {
@@ -88,7 +98,7 @@ static void take(const uint32_t *given, size_t count)
 static void samples(void)
 {
     uint64_t answer = dulimoven_check(library_l, L_WORDS);
-    compare("L", answer, payload_of(library_l[0]));
+    compare("L", answer, 0x180603);
     hold("L has 3 facts", dulimoven_facts(answer) == 3);
     hold("L has 3 steps", dulimoven_steps(answer) == 3);
     hold("L has 3 sequences", dulimoven_sequences(answer) == 3);
@@ -106,9 +116,14 @@ static void samples(void)
     take(no_fact, COUNT(no_fact));
     refuses(3, 0, "F = 0: at least one fact is asked for");
 
-    /* "F = 64 is read, 65 gets 3" */
+    /* "256 and 257 replace the sample of 64 and 65" */
+    ACCEPTS("F = 256", HEAD(256, 0, 0));
+    REFUSES(3, 0, "F = 257", HEAD(257, 0, 0));
     ACCEPTS("F = 64", HEAD(64, 0, 0));
-    REFUSES(3, 0, "F = 65", HEAD(65, 0, 0));
+    ACCEPTS("F = 65", HEAD(65, 0, 0));
+
+    build_borders();
+    accepts("facts at the borders of a column's words");
 }
 
 /* Steps that keep every rule. */
@@ -137,6 +152,11 @@ static void accepted_steps(void)
             STEP(0), CLEARS(1), STEP(1), NEEDS(0));
     ACCEPTS("the same fact word in two steps: the order is within a step",
             HEAD(1, 2, 0), STEP(0), CLEARS(0), STEP(1), CLEARS(0));
+    ACCEPTS("facts 0, 64, 128 and 192 ascend", HEAD(256, 1, 0), STEP(0),
+            SETS(0), SETS(64), SETS(128), SETS(192));
+    ACCEPTS("facts 63 and 64, needed, set and cleared by turns",
+            HEAD(256, 2, 0), STEP(0), NEEDS(63), NEEDS(64), SETS(63),
+            CLEARS(64), STEP(1), NEEDS(64), SETS(64), CLEARS(63));
 }
 
 /* Sequences that do. */
@@ -293,10 +313,18 @@ static void build_counted(uint32_t head, uint32_t steps, uint32_t sequences)
     put_sum();
 }
 
-/* Step i stands at 1 + i, and after A steps sequence i at 1 + A + i. */
+/*
+ * Step i stands at 1 + i, and after A steps sequence i at 1 + A + i. The sum
+ * word of 1,023 steps: the head counts 0x7fe01 + 1024, 1,024 times, and the
+ * opener of step i counts i + 5120, 1,023 - i times: 1024 * 0x80201 + 178433024
+ * + 1024 * 2618880 = 0xca82b000, of which 28 bits are a82b000.
+ */
 static void most_steps(void)
 {
     build_counted(HEAD(1, MOST_A, 0), MOST_A, 0);
+    hold("1,023 steps in 1,025 words",
+         words == 1025 && *word_at(0) == 0x1007fe01 &&
+             *word_at(1024) == 0xfa82b000);
     accepts("as many steps as there can be");
     build_counted(HEAD(1, MOST_A, 0), MOST_A + 1, 0);
     refuses(5, 1 + MOST_A, "a step more: the next number, but not below A");
@@ -395,6 +423,134 @@ static void all_facts(void)
     refuses(13, 2 + 2 * MOST_F, "all facts set, and the last one cleared");
 }
 
+/*
+ * Steps whose sets and clears agree in their last six bits, so that a word of
+ * 64 bits for the facts of each would not tell them apart: 13 exactly where a
+ * clear word names a fact that is set, at the first such word. `kinds` says of
+ * each fact whether it is set, cleared, both or neither.
+ */
+enum { NEITHER, SET_ONLY, CLEARED_ONLY, SET_AND_CLEARED };
+
+static void build_kinds(uint32_t facts, const unsigned char *kinds)
+{
+    uint32_t f;
+    start();
+    PUT(HEAD(facts, 2, 0), STEP(0), NEEDS(0), STEP(1), NEEDS(facts - 1));
+    for (f = 0; f < facts; f++)
+        if (kinds[f] & SET_ONLY)
+            put(SETS(f));
+    for (f = 0; f < facts; f++)
+        if (kinds[f] & CLEARED_ONLY)
+            put(CLEARS(f));
+    put_sum();
+}
+
+static void judge_kinds(const char *name, uint32_t facts,
+                        const unsigned char *kinds)
+{
+    /* the step's first set word stands at 5 */
+    size_t at = 5;
+    uint32_t f;
+    build_kinds(facts, kinds);
+    for (f = 0; f < facts; f++)
+        at += kinds[f] & SET_ONLY;
+    for (f = 0; f < facts && kinds[f] != SET_AND_CLEARED; f++)
+        at += kinds[f] == CLEARED_ONLY;
+    if (f < facts)
+        refuses(13, at, name);
+    else
+        accepts(name);
+}
+
+/* The blocks of 64 facts by turns set and cleared; then in addition one that is
+ * set is cleared, each in turn: the first clear word, any, and the last. */
+static void clash_in_blocks(uint32_t set_first)
+{
+    unsigned char kinds[MOST_F];
+    uint32_t f;
+    for (f = 0; f < MOST_F; f++)
+        kinds[f] = f / 64 % 2 == set_first ? SET_ONLY : CLEARED_ONLY;
+    judge_kinds("blocks of 64 facts set and cleared by turns", MOST_F, kinds);
+    for (f = 0; f < MOST_F; f++) {
+        unsigned char before = kinds[f];
+        kinds[f] = SET_AND_CLEARED;
+        judge_kinds("the same, and one fact more is set or cleared", MOST_F,
+                    kinds);
+        kinds[f] = before;
+    }
+}
+
+/* A few facts with the same last six bits: set, cleared, both or neither, in
+ * all 256 ways for four of them. */
+static void clash_in_four(uint32_t fact)
+{
+    unsigned ways;
+    for (ways = 0; ways < 256; ways++) {
+        unsigned char kinds[MOST_F] = {0};
+        uint32_t block;
+        for (block = 0; block < 4; block++)
+            kinds[64 * block + fact] = ways >> 2 * block & 3;
+        judge_kinds("four facts with the same last six bits", MOST_F, kinds);
+    }
+}
+
+/* Facts set and cleared at random, so many of 64 of each, and then two of them
+ * both: the earlier decides. */
+static void clash_at_random(void)
+{
+    unsigned char kinds[MOST_F];
+    uint32_t state = 8, n, f;
+    for (n = 0; n < 600; n++) {
+        uint32_t of = 1 + n % 32, facts = n % 3 == 0 ? 256 : 65 + n % 191;
+        for (f = 0; f < facts; f++) {
+            state = state * 1664525u + 1013904223u;
+            kinds[f] = state >> 26 < of       ? SET_ONLY
+                       : state >> 26 < 2 * of ? CLEARED_ONLY
+                                              : NEITHER;
+        }
+        judge_kinds("facts at random", facts, kinds);
+        kinds[n * 37 % facts] = SET_AND_CLEARED;
+        judge_kinds("facts at random, and one set and cleared", facts, kinds);
+        kinds[n * 101 % facts] = SET_AND_CLEARED;
+        judge_kinds("facts at random, and two set and cleared", facts, kinds);
+    }
+}
+
+static void clashes(void)
+{
+    unsigned char kinds[MOST_F] = {0};
+    clash_in_blocks(0);
+    clash_in_blocks(1);
+    clash_in_four(0);
+    clash_in_four(31);
+    clash_in_four(63);
+    clash_at_random();
+
+    /* the first set and the last cleared, and the other way round */
+    kinds[0] = SET_ONLY;
+    kinds[192] = CLEARED_ONLY;
+    judge_kinds("0 set, 192 cleared", 256, kinds);
+    kinds[0] = CLEARED_ONLY;
+    kinds[192] = SET_ONLY;
+    judge_kinds("0 cleared, 192 set", 256, kinds);
+
+    /* with another fault beside it: the earliest word decides */
+    REFUSES(6, 6, "64 cleared where 0 is set, then 64 once more",
+            HEAD(256, 1, 0), STEP(0), SETS(0), SETS(128), CLEARS(64),
+            CLEARS(192), CLEARS(64));
+    REFUSES(13, 5, "128 cleared, which is set, then a word out of order",
+            HEAD(256, 1, 0), STEP(0), SETS(0), SETS(128), CLEARS(64),
+            CLEARS(128), CLEARS(64));
+    REFUSES(5, 5, "64 cleared where 0 is set, then a fact not below F",
+            HEAD(200, 1, 0), STEP(0), SETS(0), SETS(128), CLEARS(64),
+            CLEARS(200));
+    REFUSES(13, 5, "in the second step, after one that sets another fact",
+            HEAD(256, 2, 0), STEP(0), SETS(64), STEP(1), SETS(0), CLEARS(0));
+    ACCEPTS("a step clears what the one before it sets, modulo 64 too",
+            HEAD(256, 2, 0), STEP(0), SETS(64), SETS(191), STEP(1), SETS(0),
+            SETS(63), CLEARS(64), CLEARS(191));
+}
+
 /* The sum word's payload is so much greater than the right one. */
 #define WRONG_SUM(by, name, ...)     \
     do {                             \
@@ -417,13 +573,13 @@ static void wrong_sums(void)
     WRONG_SUM(-0x401, "the payload for no earlier words", HEAD(1, 0, 0));
     WRONG_SUM(0x10000, "wrong in bit 16", HEAD(1, 0, 0));
     WRONG_SUM(0x8000000, "wrong in the highest payload bit", HEAD(1, 0, 0));
-    /* the words count 0x40401, 0x1800, 0x1c00 and 0x1c00; the running sums are
-       0x40401, 0x41c01, 0x43801 and 0x45401, so b is 0x10ac04 */
-    WRONG_SUM(0x45401 - 0x10ac04, "the running sum and not those before it",
+    /* the words count 0x80401, 0x1800, 0x1c00 and 0x1c00; the running sums are
+       0x80401, 0x81c01, 0x83801 and 0x85401, so b is 0x20ac04 */
+    WRONG_SUM(0x85401 - 0x20ac04, "the running sum and not those before it",
               HEAD(1, 0, 1), SEQUENCE(0), ALTERNATIVE, ALTERNATIVE);
-    WRONG_SUM(-0x45401, "the running sums before each word", HEAD(1, 0, 1),
+    WRONG_SUM(-0x85401, "the running sums before each word", HEAD(1, 0, 1),
               SEQUENCE(0), ALTERNATIVE, ALTERNATIVE);
-    WRONG_SUM(0x4f801 - 0x10ac04, "the words from the last to the first",
+    WRONG_SUM(0x8f801 - 0x20ac04, "the words from the last to the first",
               HEAD(1, 0, 1), SEQUENCE(0), ALTERNATIVE, ALTERNATIVE);
     /* 0xfffffff + 0x400 is 0x100003ff, so 0x3ff is right */
     WRONG_SUM(1, "2^28 is reached, and 1 is kept of it",
@@ -436,18 +592,20 @@ static void wrong_sums(void)
     WRONG_SUM(-1, "no step of one: 2 comes before 7", HEAD(1, 1, 0));
 }
 
-/* L's sum word is f0f20910. */
+/* L's sum word is f1d65e90. */
 static void wrong_sums_of_l(void)
 {
     static const struct {
         const char *name;
         uint32_t sum;
-    } wrong[] = {{"L with a sum one too low", 0xf0f2090f},
-                 {"L with a sum one too high", 0xf0f20911},
-                 {"L with the right payload under kind 14", 0xe0f20910},
-                 {"L with the right payload under kind 7", 0x70f20910},
-                 {"L with a sum that differs in bit 20", 0xf0e20910},
-                 {"L with its sum word of the rule before", 0xf00c019a}};
+    } wrong[] = {{"L with a sum one too low", 0xf1d65e8f},
+                 {"L with a sum one too high", 0xf1d65e91},
+                 {"L with the right payload under kind 14", 0xe1d65e90},
+                 {"L with the right payload under kind 7", 0x71d65e90},
+                 {"L with a sum that differs in bit 20", 0xf1c65e90},
+                 {"L with its sum word of the rule before", 0xf018061a},
+                 {"L with the sum word that it had with another head",
+                  0xf0f20910}};
     size_t i;
     for (i = 0; i < COUNT(wrong); i++) {
         take(library_l, L_SUM);
@@ -485,26 +643,26 @@ static void exchanged(size_t i, size_t j, const char *name)
 static void exchanged_entries(void)
 {
     take(library_l, L_WORDS);
-    /* 8193 - 9216 is -1023, so b would be 0xf20511 */
+    /* 8193 - 9216 is -1023, so b would be 0x1d65a91 */
     exchanged(14, 15, "L with 90000000 and 80000001 exchanged");
-    /* 4 * (9216 - 8192) is 0x1000, so b would be 0xf21910 */
+    /* 4 * (9216 - 8192) is 0x1000, so b would be 0x1d66e90 */
     exchanged(10, 14, "L with 80000000 and 90000000 exchanged");
-    /* 8 * (9218 - 8192) is 0x2010, so b would be 0xf22920 */
+    /* 8 * (9218 - 8192) is 0x2010, so b would be 0x1d67ea0 */
     exchanged(10, 18, "L with 80000000 and 90000002 exchanged");
     exchange(9, 13);
     accepts("L with its openers at 9 and 13 exchanged, which are equal");
 
-    /* the words count 263426, 5120, 5121, 6144, 7168, 8193, 9216 and 13313,
-       taken 8 times, 7 times and so on: 2289690, which is 0x22f01a */
+    /* the words count 526338, 5120, 5121, 6144, 7168, 8193, 9216 and 13313,
+       taken 8 times, 7 times and so on: 4392986, which is 0x43081a */
     start();
-    PUT(0x10040102, 0x50000000, 0x50000001, 0x60000000, 0x70000000, 0x80000001,
-        0x90000000, 0xd0000001, 0xf022f01a);
+    PUT(0x10080402, 0x50000000, 0x50000001, 0x60000000, 0x70000000, 0x80000001,
+        0x90000000, 0xd0000001, 0xf043081a);
     accepts("an entry of each kind");
     exchanged(5, 6, "a step and a sequence exchanged");
     exchanged(5, 7, "a step and a check exchanged");
     exchanged(6, 7, "a sequence and a check exchanged");
 
-    /* 8186 * (13375 - 8192) is 42428038, below 2^28 */
+    /* 8186 * (13567 - 8192) is 43999750, below 2^28 */
     start();
     PUT(HEAD(MOST_F, 1, 1), STEP(0), SEQUENCE(0), ALTERNATIVE);
     fill(DO(0), FULL - 2);
@@ -543,25 +701,41 @@ static void issued_again(void)
     } rows[] = {
         {"one fact and nothing else", 0, 0, 2, {0x10000001, 0xf0000401}},
         {"no fact", 3, 0, 2, {0x10000000, 0xf0000400}},
-        {"64 facts", 0, 0, 2, {0x10000040, 0xf0000440}},
-        {"65 facts", 3, 0, 2, {0x10000041, 0xf0000441}},
+        {"256 facts", 0, 0, 2, {0x10000100, 0xf0000500}},
+        {"257 facts", 3, 0, 2, {0x10000101, 0xf0000501}},
+        {"511 facts", 3, 0, 2, {0x100001ff, 0xf00005ff}},
         {"<itself>, <>", 0, 0, 6,
-         {0x10040001, 0x60000000, 0x70000000, 0x90000000, 0x70000000,
-          0xf0152c05}},
+         {0x10080001, 0x60000000, 0x70000000, 0x90000000, 0x70000000,
+          0xf0292c05}},
         {"<set, endless>, <clear>", 0, 0, 15,
-         {0x10080101, 0x50000000, 0x30000000, 0x50000001, 0x40000000,
+         {0x10100401, 0x50000000, 0x30000000, 0x50000001, 0x40000000,
           0x60000000, 0x70000000, 0x80000000, 0x90000001, 0x70000000,
-          0x80000001, 0x60000001, 0x70000000, 0x90000001, 0xf0787627}},
+          0x80000001, 0x60000001, 0x70000000, 0x90000001, 0xf0e8a027}},
         {"<clear, need>", 0, 0, 10,
-         {0x10040101, 0x50000000, 0x40000000, 0x50000001, 0x20000000,
-          0x60000000, 0x70000000, 0x80000000, 0x80000001, 0xf026f110}},
+         {0x10080401, 0x50000000, 0x40000000, 0x50000001, 0x20000000,
+          0x60000000, 0x70000000, 0x80000000, 0x80000001, 0xf04b0c10}},
         {"a step sets and clears a fact", 13, 3, 8,
-         {0x10040081, 0x50000000, 0x30000000, 0x40000000, 0x60000000,
-          0x70000000, 0x80000000, 0xf01db387}},
+         {0x10080201, 0x50000000, 0x30000000, 0x40000000, 0x60000000,
+          0x70000000, 0x80000000, 0xf039be07}},
+        {"fact 256 of 256", 5, 2, 4,
+         {0x10000300, 0x50000000, 0x30000100, 0xf0004a00}},
+        {"fact 65 of 65", 5, 2, 4,
+         {0x10000241, 0x50000000, 0x30000041, 0xf0004704}},
+        {"fact 64 of 65", 0, 0, 4,
+         {0x10000241, 0x50000000, 0x30000040, 0xf0004703}},
+        {"a check of fact 200 of 200", 5, 3, 5,
+         {0x100800c8, 0x60000000, 0x70000000, 0xd00000c8, 0xf020c7e8}},
+        {"fact 191 set and cleared", 13, 3, 5,
+         {0x10000300, 0x50000000, 0x300000bf, 0x400000bf, 0xf000823d}},
+        {"fact 127 set, 191 cleared", 0, 0, 5,
+         {0x10000300, 0x50000000, 0x3000007f, 0x400000bf, 0xf00081bd}},
+        {"fact 191 set, 255 cleared", 0, 0, 5,
+         {0x10000300, 0x50000000, 0x300000bf, 0x400000ff, 0xf000827d}},
         /* 0x10000000 + 0x3ff */
         {"a head with every payload bit", 3, 0, 2, {0x1fffffff, 0xf00003ff}},
-        /* 0x8000001 + 0x400 */
-        {"a head with bit 27", 3, 0, 2, {0x18000001, 0xf8000401}},
+        /* 0x8000001 + 0x400: bit 27 is the highest of C */
+        {"256 sequences, and none is there", 7, 1, 2, {0x18000001, 0xf8000401}},
+        {"257 sequences", 3, 0, 2, {0x18080001, 0xf8080401}},
         /* 2 * 0x401 + 0x10003bff is 0x10004401 */
         {"a word of ones", 4, 1, 3, {0x10000001, 0xffffffff, 0xf0004401}},
         /* 4 * 0x401 + 6 * 0x10003bff is 0x600177fe, past 2^28 */
@@ -599,12 +773,79 @@ static void issued_again(void)
     refuses(3, 0, "8,191 words of ones");
     miss_sum(-1);
     refuses(2, FULL - 1, "8,191 words of ones, one too low");
-    /* the head counts 263169, a sequence 6144 and an alternative 7168. Taken
-       8191, 8190, and 8189 times and so on to once: 263169 * 8191 + 6144 * 8190
-       + 7168 * 8189 * 8190 / 2 is 0x387abc3fff */
+    /* the head counts 525313, a sequence 6144 and an alternative 7168. Taken
+       8191, 8190, and 8189 times and so on to once: 525313 * 8191 + 6144 * 8190
+       + 7168 * 8189 * 8190 / 2 is 0x38fab83fff */
     build_long(FULL);
-    hold("8,192 words, the sum word", *word_at(FULL - 1) == 0xfabc3fff);
+    hold("8,192 words, the sum word", *word_at(FULL - 1) == 0xfab83fff);
     accepts("8,192 words with this sum word");
+}
+
+/*
+ * Images as they were before request 8, with a head that held F in bits 0 to 6,
+ * A in bits 7 to 17 and C in bits 18 to 26: their sum words are right, and the
+ * head is read as any other.
+ */
+static void old_heads(void)
+{
+    static const struct {
+        const char *name;
+        uint64_t number, position;
+        size_t count;
+        uint32_t words[20];
+    } rows[] = {
+        {"one fact", 0, 0, 2, {0x10000001, 0xf0000401}},
+        {"64 facts", 0, 0, 2, {0x10000040, 0xf0000440}},
+        {"65 facts, which were refused", 0, 0, 2, {0x10000041, 0xf0000441}},
+        {"no fact", 3, 0, 2, {0x10000000, 0xf0000400}},
+        /* F = 387 */
+        {"L", 3, 0, 20,
+         {0x100c0183, 0x50000000, 0x30000000, 0x50000001, 0x20000000,
+          0x30000001, 0x50000002, 0x40000001, 0x60000000, 0x70000000,
+          0x80000000, 0x70000000, 0x60000001, 0x70000000, 0x90000000,
+          0x80000001, 0x60000002, 0x70000000, 0x90000002, 0xf0f20910}},
+        /* F = 1, A = 512, C = 0: a sequence before the steps are there */
+        {"<itself>, <>", 4, 1, 6,
+         {0x10040001, 0x60000000, 0x70000000, 0x90000000, 0x70000000,
+          0xf0152c05}},
+        /* F = 257 */
+        {"<set, endless>, <clear>", 3, 0, 15,
+         {0x10080101, 0x50000000, 0x30000000, 0x50000001, 0x40000000,
+          0x60000000, 0x70000000, 0x80000000, 0x90000001, 0x70000000,
+          0x80000001, 0x60000001, 0x70000000, 0x90000001, 0xf0787627}},
+        {"<clear, need>", 3, 0, 10,
+         {0x10040101, 0x50000000, 0x40000000, 0x50000001, 0x20000000,
+          0x60000000, 0x70000000, 0x80000000, 0x80000001, 0xf026f110}},
+        /* F = 129, A = 512, C = 0 */
+        {"a step sets and clears a fact", 13, 3, 8,
+         {0x10040081, 0x50000000, 0x30000000, 0x40000000, 0x60000000,
+          0x70000000, 0x80000000, 0xf01db387}}};
+    size_t i;
+    for (i = 0; i < COUNT(rows); i++) {
+        take(rows[i].words, rows[i].count);
+        if (rows[i].number == 0)
+            accepts(rows[i].name);
+        else
+            refuses(rows[i].number, rows[i].position, rows[i].name);
+    }
+    /* 10100203 is F = 3, A = 1 and C = 2: step 1, at 3, is not below A */
+    BUILD(SETUP);
+    *word_at(0) = 0x10100203;
+    sum_again();
+    hold("the old sum word of setup", *word_at(words - 1) == 0xf273d251);
+    refuses(5, 3, "setup with its old head");
+    BUILD(SKIP);
+    *word_at(0) = 0x10100203;
+    sum_again();
+    hold("the old sum word of skip", *word_at(words - 1) == 0xf288d473);
+    refuses(5, 3, "skip with its old head");
+    /* 10280081 is F = 129, A = 0 and C = 5: step 0 is not below A */
+    build(ten, TEN_SUM);
+    *word_at(0) = 0x10280081;
+    sum_again();
+    hold("the old sum word of ten sequences",
+         *word_at(words - 1) == 0xf74ba05b);
+    refuses(5, 1, "ten sequences with their old head");
 }
 
 /*
@@ -706,16 +947,28 @@ static void wrong_kind_of_sum(void)
 /* 3: "The first word breaks the rule for the head, position 0." */
 static void head(void)
 {
-    REFUSES(3, 0, "all bits of F", HEAD((1 << HEAD_FACTS_BITS) - 1, 0, 0));
-    REFUSES(3, 0, "A above the greatest; no step is there: 3 comes before 7",
+    uint32_t facts, sequences;
+    for (facts = 0; facts < 1 << HEAD_FACTS_BITS; facts++) {
+        BUILD(HEAD(facts, 0, 0));
+        if (facts >= 1 && facts <= MOST_F)
+            accepts("F from 1 to 256");
+        else
+            refuses(3, 0, "F is 0, or above 256");
+    }
+    for (sequences = 1; sequences < 1 << HEAD_SEQUENCES_BITS; sequences++) {
+        BUILD(HEAD(MOST_F, MOST_A, sequences));
+        if (sequences <= MOST_C)
+            refuses(7, 1, "C up to 256, and neither step nor sequence");
+        else
+            refuses(3, 0, "C above 256: 3 comes before 7");
+    }
+    REFUSES(7, 1, "all bits of A, which is 1,023: no A is out of range",
+            HEAD(1, (1 << HEAD_STEPS_BITS) - 1, 0));
+    REFUSES(3, 0, "1,024 steps are one sequence and no step, and no fact",
+            HEAD(0, MOST_A + 1, 0));
+    REFUSES(7, 1, "1,024 steps are one sequence and no step",
             HEAD(1, MOST_A + 1, 0));
-    REFUSES(3, 0, "all bits of A", HEAD(1, (1 << HEAD_STEPS_BITS) - 1, 0));
-    REFUSES(3, 0, "C above the greatest", HEAD(1, 0, MOST_C + 1));
-    REFUSES(3, 0, "all bits of C", HEAD(1, 0, (1 << HEAD_SEQUENCES_BITS) - 1));
-    REFUSES(3, 0, "F, A and C out of range", HEAD(0, MOST_A + 1, MOST_C + 1));
-    REFUSES(3, 0, "bit 27", HEAD(1, 0, 0) | HEAD_ZERO_BIT);
-    REFUSES(3, 0, "bit 27 beside the greatest counts: 3 comes before 7",
-            HEAD(MOST_F, MOST_A, MOST_C) | HEAD_ZERO_BIT);
+    REFUSES(3, 0, "F and C out of range", HEAD(0, MOST_A, MOST_C + 1));
     REFUSES(3, 0, "every payload bit", WORD(KIND_HEAD, PAYLOAD_MASK));
     REFUSES(3, 0, "F = 0: 3 comes before 4", HEAD(0, 0, 0), WORD(0, 0));
     REFUSES(3, 0, "F = 0, so fact 0 is not below F: 3 comes before 5",
@@ -982,6 +1235,12 @@ static void payload_of_check(void)
             SEQUENCE(0), ALTERNATIVE, CHECK(MOST_F));
     REFUSES(5, 3, "fact 64, whose low six bits are 0", HEAD(1, 0, 1),
             SEQUENCE(0), ALTERNATIVE, CHECK(64));
+    REFUSES(5, 3, "fact 192 of 192", HEAD(192, 0, 1), SEQUENCE(0), ALTERNATIVE,
+            CHECK(192));
+    ACCEPTS("fact 191 of 192", HEAD(192, 0, 1), SEQUENCE(0), ALTERNATIVE,
+            CHECK(191));
+    REFUSES(5, 3, "fact 512, whose low nine bits are 0", HEAD(MOST_F, 0, 1),
+            SEQUENCE(0), ALTERNATIVE, CHECK(512));
     REFUSES(5, 3, "fact 2^28 - 1", HEAD(MOST_F, 0, 1), SEQUENCE(0),
             ALTERNATIVE, CHECK(PAYLOAD_MASK));
     REFUSES(5, 5, "fact 1 with F = 1: that there is step 1 is no help",
@@ -1057,6 +1316,10 @@ static void payload_of_fact_and_alternative(void)
             NEEDS(MOST_F - 1), NEEDS(MOST_F));
     REFUSES(5, 2, "fact 128, whose low seven bits are 0", HEAD(1, 1, 0),
             STEP(0), SETS(128));
+    REFUSES(5, 2, "fact 512, whose low nine bits are 0", HEAD(MOST_F, 1, 0),
+            STEP(0), SETS(512));
+    REFUSES(5, 2, "fact 64 of 64", HEAD(64, 1, 0), STEP(0), NEEDS(64));
+    REFUSES(5, 2, "fact 129 of 129", HEAD(129, 1, 0), STEP(0), CLEARS(129));
     /* 0x30000001 is below 0x40000000 */
     REFUSES(5, 3, "fact 1 with F = 1, and not greater: 5 comes before 6",
             HEAD(1, 1, 0), STEP(0), CLEARS(0), SETS(1));
@@ -1096,6 +1359,12 @@ static void fact_order(void)
             CLEARS(0), SETS(63));
     REFUSES(6, 4, "greater than the first, not than the second", HEAD(2, 1, 0),
             STEP(0), NEEDS(0), SETS(1), SETS(0));
+    REFUSES(6, 3, "sets fact 64, then 63", HEAD(256, 1, 0), STEP(0), SETS(64),
+            SETS(63));
+    REFUSES(6, 3, "sets fact 255, then 0", HEAD(256, 1, 0), STEP(0), SETS(255),
+            SETS(0));
+    REFUSES(6, 3, "clears fact 128, then 64", HEAD(256, 1, 0), STEP(0),
+            CLEARS(128), CLEARS(64));
     REFUSES(6, 4, "needs, clears, sets", HEAD(1, 1, 0), STEP(0), NEEDS(0),
             CLEARS(0), SETS(0));
     REFUSES(6, 4, "the third equals the second", HEAD(1, 1, 0), STEP(0),
@@ -1131,12 +1400,17 @@ static void set_and_cleared(void)
     }
 }
 
-/* A step that sets one fact and clears one: 13 where it is the same fact. */
+/*
+ * A step that sets one fact and clears one: 13 where it is the same fact. Tried
+ * are those beside it, those with the same last six bits, and some others.
+ */
 static void set_and_cleared_pairs(void)
 {
     uint32_t set, cleared;
     for (set = 0; set < MOST_F; set++)
         for (cleared = 0; cleared < MOST_F; cleared++) {
+            if ((set ^ cleared) % 64 > 1 && (set + cleared) % 11 != 0)
+                continue;
             BUILD(HEAD(MOST_F, 1, 0), STEP(0), SETS(set), CLEARS(cleared));
             if (set == cleared)
                 refuses(13, 3, "the fact that is set is cleared");
@@ -1146,10 +1420,10 @@ static void set_and_cleared_pairs(void)
 }
 
 /*
- * Steps alone, in 8,192 words: 63 that need and set all facts, and one that
- * needs 60 of them, sets a fact and clears a fact.
+ * Steps alone, in 8,192 words: 15 that need and set all facts, and one that
+ * needs all, sets 236 of them and one more, and clears a fact.
  */
-enum { LAST_STEP = 63, LAST_NEEDS = 60 };
+enum { LAST_STEP = 15, LAST_SETS = 236 };
 
 static void build_steps(uint32_t set, uint32_t cleared)
 {
@@ -1162,17 +1436,20 @@ static void build_steps(uint32_t set, uint32_t cleared)
         put_facts(KIND_SETS, 0, MOST_F);
     }
     put(STEP(LAST_STEP));
-    put_facts(KIND_NEEDS, 0, LAST_NEEDS);
+    put_facts(KIND_NEEDS, 0, MOST_F);
+    put_facts(KIND_SETS, 0, LAST_SETS);
     PUT(SETS(set), CLEARS(cleared));
     put_sum();
 }
 
 static void longest_steps(void)
 {
-    build_steps(62, 63);
+    build_steps(254, 255);
     hold("8,192 words of steps are built", words == FULL);
     accepts("the last step clears what the steps before it set");
-    build_steps(63, 63);
+    build_steps(254, 0);
+    refuses(13, FULL - 2, "its first set is cleared right before the sum word");
+    build_steps(255, 255);
     refuses(13, FULL - 2, "a fact set and cleared right before the sum word");
     miss_sum(1);
     refuses(2, FULL - 1, "the same with a wrong sum: 2 comes before 13");
@@ -1226,11 +1503,15 @@ static void names(void)
     uint64_t answer = REFUSED(7, 8191);
     hold("refusal of an answer", dulimoven_refusal_of(answer) == 7);
     hold("position of an answer", dulimoven_position_of(answer) == 8191);
-    answer = ACCEPTED(64, 1024, 256);
+    answer = ACCEPTED(256, 1023, 256);
     hold("no refusal in an acceptance", dulimoven_refusal_of(answer) == 0);
-    hold("facts", dulimoven_facts(answer) == 64);
-    hold("steps", dulimoven_steps(answer) == 1024);
+    hold("facts", dulimoven_facts(answer) == 256);
+    hold("steps", dulimoven_steps(answer) == 1023);
     hold("sequences", dulimoven_sequences(answer) == 256);
+    /* 0x80201 is 1 + 1 * 2^9 + 1 * 2^19 */
+    hold("one of each", dulimoven_facts(0x80201) == 1 &&
+                            dulimoven_steps(0x80201) == 1 &&
+                            dulimoven_sequences(0x80201) == 1);
     hold("refusals 1 to 7",
          DULIMOVEN_LENGTH == 1 && DULIMOVEN_SUM_WORD == 2 &&
              DULIMOVEN_HEAD_WORD == 3 && DULIMOVEN_KIND == 4 &&
@@ -1254,11 +1535,13 @@ int main(void)
     most_sequences();
     most_of_all();
     all_facts();
+    clashes();
     wrong_sums();
     wrong_sums_of_l();
     exchanged_entries();
     exchanged_far();
     issued_again();
+    old_heads();
     each_rest();
     wrong_kind_of_sum();
     head();

@@ -1,14 +1,16 @@
 /*
  * Compares the library with the second engine over libraries made from a seed
- * (tests/second), of seventeen kinds.
+ * (tests/second), of seventeen kinds. To every two libraries of a kind there is
+ * one with another number of facts, up to 256.
  *
- * The first eight words of a card are compared with those of the second engine,
- * which works by the algorithms printed in source document 001. The chain call
- * is asked every question (of the largest libraries about some facts and some
- * sequences), and each link is held against the words of the library; plain
+ * The flags and the first seven columns of a card are compared with those of
+ * the second engine, which works by the algorithms printed in source document
+ * 001. The chain call is asked every question (of the largest libraries, and of
+ * those with many facts, about some facts and some sequences), and each link is
+ * held against the words of the library; plain
  * rounds say how many links are the fewest, what depth is the least and which
  * choice is the newest. The rounds are held against the second engine's columns
- * too, and of the facts asked about the last five words of a card against the
+ * too, and of the facts asked about the last five columns of a card against the
  * rounds. The check is compared with the second engine's over each library, and
  * over the same with some damage. A library with a pulse must get refusal 13
  * from all calls, at the clear word; with some damage beside it the check is
@@ -43,6 +45,7 @@
  *
  * Tried: the engine was broken on a copy, compiled without its proofs and
  * linked with this test. Each break was reported, first by the words after it.
+ * Columns were of one word then, so that word n is the n-th number of a card.
  *   row, a run of two entries is one of either (`x.run | y.run`): word 2 of a
  *     card, bits from F upward
  *   row, a touch counts though a later entry always touches
@@ -160,7 +163,7 @@
  *     five words of a card differ from the rounds
  *   row, a row in which only `unmentioned` has grown is the same: the same, and
  *     no other test reports it
- * Not reported is that 8 asks too few words (card/eight_words_suffice), since
+ * Not reported is that 8 asks too few words (card/thirteen_words_suffice), since
  * the card areas here have room; cards_test has it. Some breaks change no
  * answer: that kind 12 is an entry too (image), since no accepted library has
  * one; that a quick test knows no check, or nothing after one (rules), since
@@ -190,6 +193,21 @@
  * the libraries: all are reported, as what is wrong with a list. Those about
  * numbers out of range, empty areas and an area that has the list's length and
  * no more are not tried here.
+ * Breaks of the head, of blocks of 64 facts and of columns of four words, in
+ * the plain engine of bench/, which stood in the library's place: 35 of them,
+ * over a hundredth of the libraries. 257 or 511 facts or 257 sequences taken; a
+ * fact by its low six bits, or F let through; 13 by the fact's remainder, for
+ * facts below 64 alone, or by what a step before sets; the block's facts one
+ * too far; the block of a mask, of a check or of a question's fact ignored;
+ * block 1 written to word 0, words in the other order, the second block or the
+ * last left out, the count of one block or in seven bits, words past the facts
+ * not cleared, or all facts of a block though F ends in it; a list's card by
+ * one word, with bits from F upward or of the next block: all of these are
+ * reported here, and each by check_test, cards_test, chain_test or list_test
+ * too. Not reported here are that 1,023 steps are refused and that 13 is not
+ * for fact 255 (check_test), 8 by 13 or 48 times C or with wrap, and F of a
+ * list by its low nine bits or dropping all above 256 (cards_test, list_test,
+ * damage_test). A block too many changes no answer.
  * And breaks of the code that request 5 brought or moved, compiled without its
  * proofs: 26 of the list call and of all facts below a number, of which those
  * about refusals, about F = 0 and about bits that no library's cards have are
@@ -201,7 +219,7 @@
  * And the must-fail edits of the crates that changed the code of the three
  * calls when this was tried, 83 of them: all are reported but ten, one of which
  * is that of too few words. What shows in no answer and no area is not: bits
- * from F upward in the outcome table (row/bits_above); an order of visits that
+ * from F upward in the outcome table (column/bits_above); an order of visits that
  * is never asked for (order/one_number), and the test that would ask for it
  * (order/untested); clear words judged one by one where they could be read
  * together (column/apart_if_empty); small areas for one sequence more, which
@@ -227,16 +245,18 @@
 #include <string.h>
 #include <unistd.h>
 
-/* With the sanitizers, which are slow, one library in so many is tried. */
-#ifdef __SANITIZE_ADDRESS__
+/* With the sanitizers, which are slow, and as C++, where all is tried once more,
+ * one library in so many is tried. */
+#if defined(__SANITIZE_ADDRESS__) || defined(__cplusplus)
 enum { SHARE = 4 };
 #else
 enum { SHARE = 1 };
 #endif
 
 /*
- * How many libraries of a kind are tried, in the order of the kinds, and of how
- * many facts and of how many sequences one is asked about.
+ * How many libraries of a kind are tried, in the order of the kinds, beside
+ * those with another number of facts, and of how many facts and of how many
+ * sequences one is asked about.
  */
 static const struct trial {
     unsigned libraries, facts, sequences;
@@ -246,19 +266,22 @@ static const struct trial {
     {20000, 1, 1}, {40, 1, 16},   {40, 1, 8},    {40, 1, 8},    {12, 21, 16},
     {16000, 1, 1}, {200, 1, 16}};
 
+/* Of so many facts one is asked about where there are many. */
+enum { WIDE_APART = 31 };
+
 static const uint64_t first_seed = UINT64_C(0x2545f4914f6cdd1d);
 
 /*
- * What is counted of the libraries of a kind, or of all. `pulses` are the
- * libraries with a pulse, `pulses_damaged` the damaged ones of them that still
- * get refusal 13, `exchanges` those in which two entries changed places,
- * `endless` the sequences without a run, and `reached` the members of the lists
- * that say why.
+ * What is counted of the libraries of a kind, or of all. `wide` are those of
+ * more than 64 facts, `pulses` the libraries with a pulse, `pulses_damaged` the
+ * damaged ones of them that still get refusal 13, `exchanges` those in which
+ * two entries changed places, `endless` the sequences without a run, and
+ * `reached` the members of the lists that say why.
  */
 struct tally {
-    uint64_t libraries, sequences, card_words, checks, pulses, pulses_damaged,
-        exchanges, questions, chains, links, endless, reached, lists, members,
-        differences;
+    uint64_t libraries, wide, sequences, card_words, checks, pulses,
+        pulses_damaged, exchanges, questions, chains, links, endless, reached,
+        lists, members, differences;
 };
 
 static struct tally tally;
@@ -294,6 +317,7 @@ static void time_is_up(int number)
 static void begin_library(void)
 {
     tally.libraries++;
+    tally.wide += facts_of(image.words[0]) > WORD_FACTS;
     snprintf(library_name, sizeof library_name, "%s, library %" PRIu64,
              kind_name, tally.libraries);
     alarm(LIMIT_SECONDS);
@@ -315,15 +339,21 @@ static void differs(const char *what)
         printf("%s: %s\n", library_name, what);
 }
 
-/* `i` is the word's place in a card area, `other` what says otherwise. */
+/*
+ * `i` is the word's place in a card area, `other` what says otherwise. A card's
+ * numbers count from 1, the flags, and a column's words from 0.
+ */
 static void word_differs(size_t i, uint64_t word, uint64_t second,
                          const char *other)
 {
+    size_t place = i % CARD_WORDS;
+    size_t number = (place + COLUMN_WORDS - 1) / COLUMN_WORDS + 1;
     if (is_printed())
-        printf("%s, word %zu of sequence %zu's card: %" PRIx64
+        printf("%s, number %zu of sequence %zu's card, word %zu: %" PRIx64
                ", and %" PRIx64 " by %s\n",
-               library_name, i % DULIMOVEN_CARD_WORDS + 1,
-               i / DULIMOVEN_CARD_WORDS, word, second, other);
+               library_name, number, i / CARD_WORDS,
+               place == 0 ? 0 : (place - 1) % COLUMN_WORDS, word, second,
+               other);
 }
 
 static void chain_differs(uint32_t sequence, uint32_t question, uint32_t fact,
@@ -417,10 +447,11 @@ static uint64_t second[CARD_AREA];
 /* What each byte of a card area holds before the call. */
 enum { CARDS_BEFORE = 0xa5 };
 
-/* The last five words of a card have no fact from F upward. */
+/* The last five columns of a card have no fact from F upward. */
 static void try_width(size_t i)
 {
-    uint64_t all = ~UINT64_C(0) >> (64 - facts_of(image.words[0]));
+    struct column below = facts_below(facts_of(image.words[0]));
+    uint64_t all = below.word[(i % CARD_WORDS - 1) % COLUMN_WORDS];
     if ((cards[i] & ~all) != 0)
         word_differs(i, cards[i], cards[i] & all, "facts below F alone");
 }
@@ -439,7 +470,7 @@ static void try_cards(void)
     if (second_cards(image.words, image.length, second, CARD_AREA) != sequences)
         differs("the second engine answers another number");
     for (i = 0; i < CARD_AREA; i++)
-        if (i < last && i % DULIMOVEN_CARD_WORDS >= SECOND_WORDS)
+        if (i < last && i % CARD_WORDS >= SECOND_WORDS)
             try_width(i);
         else if (cards[i] != second[i])
             word_differs(i, cards[i], second[i], "the second engine");
@@ -535,8 +566,8 @@ static int rounds_agree(uint32_t c, uint32_t fact)
                 !has[JUDGE_STANDING_UNTOUCHED]);
 }
 
-/* Whether the last five words of a card are those of the judge's rounds. */
-static int last_words_agree(uint32_t c, uint32_t fact)
+/* Whether the last five columns of a card are those of the judge's rounds. */
+static int last_columns_agree(uint32_t c, uint32_t fact)
 {
     static const struct {
         int column;
@@ -584,8 +615,8 @@ static void ask_fact(const struct trial *trial, uint32_t fact)
         if (!rounds_agree(c, fact))
             differs("the second engine's columns differ from the rounds");
     for (c = 0; c < sequences; c++)
-        if (!last_words_agree(c, fact))
-            differs("the last five words of a card differ from the rounds");
+        if (!last_columns_agree(c, fact))
+            differs("the last five columns of a card differ from the rounds");
     call_name = "dulimoven_chain";
     for (c = 0; c < sequences; c += trial->sequences)
         for (question = 0; question <= DULIMOVEN_FIRST_UNTOUCHED; question++)
@@ -782,7 +813,8 @@ struct seeds {
     struct seed library, list, exchange, asked;
 };
 
-static void try_library(const struct trial *trial, struct seeds *seeds)
+static void try_library(const struct trial *trial, struct seeds *seeds,
+                        uint32_t first_fact)
 {
     uint32_t fact, n;
     begin_library();
@@ -794,20 +826,35 @@ static void try_library(const struct trial *trial, struct seeds *seeds)
     try_cards();
     judge_library(image.words, image.length);
     try_endless();
-    for (fact = 0; fact < facts_of(image.words[0]); fact += trial->facts)
+    for (fact = first_fact; fact < facts_of(image.words[0]);
+         fact += trial->facts)
         ask_fact(trial, fact);
     try_list(&seeds->list);
 }
 
+/*
+ * A library of a kind with another number of facts. Asked about are some of
+ * them, from a drawn one on, and the highest.
+ */
+static void try_wide(unsigned kind, struct seeds *seeds)
+{
+    struct trial trial = trials[kind];
+    make_wide_library(&seeds->library, kind, &image);
+    trial.facts = WIDE_APART;
+    try_library(&trial, seeds, draw(&seeds->asked, WIDE_APART));
+    ask_fact(&trial, facts_of(image.words[0]) - 1);
+}
+
 static void print_tally(const char *name, const struct tally *t)
 {
-    printf("%s: libraries %" PRIu64 ", sequences %" PRIu64
+    printf("%s: libraries %" PRIu64 ", of more than 64 facts %" PRIu64
+           ", sequences %" PRIu64
            ", card words %" PRIu64 ", checks %" PRIu64 ", pulses %" PRIu64
            ", refused with 13 after damage %" PRIu64 ", exchanges %" PRIu64
            ", questions %" PRIu64 ", chains %" PRIu64 ", links %" PRIu64
            ", without a run %" PRIu64 ", reached %" PRIu64 ", lists %" PRIu64
            ", members %" PRIu64 ", differences %" PRIu64 "\n",
-           name, t->libraries, t->sequences, t->card_words, t->checks,
+           name, t->libraries, t->wide, t->sequences, t->card_words, t->checks,
            t->pulses, t->pulses_damaged, t->exchanges, t->questions, t->chains,
            t->links, t->endless, t->reached, t->lists, t->members,
            t->differences);
@@ -823,12 +870,18 @@ static void try_kind(unsigned kind)
     struct seeds seeds = {
         {first_seed + kind}, {first_seed - 1 - kind}, {~first_seed - kind},
         {~first_seed + 1 + kind}};
+    struct seeds wide = {{first_seed + 1000 + kind},
+                         {first_seed - 1001 - kind},
+                         {~first_seed - 1000 - kind},
+                         {~first_seed + 1001 + kind}};
     unsigned n;
     memset(&tally, 0, sizeof tally);
     kind_name = seeded_name(kind);
     for (n = 0; n < trials[kind].libraries; n += SHARE) {
         make_library(&seeds.library, kind, &image);
-        try_library(&trials[kind], &seeds);
+        try_library(&trials[kind], &seeds, 0);
+        if (n / SHARE % 2 == 1)
+            try_wide(kind, &wide);
     }
     if (tally.chains == 0 || tally.chains == tally.questions)
         differs("no chain in any library, or no \"none\"");
@@ -842,6 +895,7 @@ static void try_kind(unsigned kind)
 static void add_tally(struct tally *total)
 {
     total->libraries += tally.libraries;
+    total->wide += tally.wide;
     total->sequences += tally.sequences;
     total->card_words += tally.card_words;
     total->checks += tally.checks;
@@ -863,7 +917,7 @@ enum { FEWEST_OF_A_SIZE = 100 };
 
 int main(void)
 {
-    struct tally total = {0, 0, 0, 0, 0, 0, 0, 0, 0, 0, 0, 0, 0, 0, 0};
+    struct tally total = {0, 0, 0, 0, 0, 0, 0, 0, 0, 0, 0, 0, 0, 0, 0, 0};
     unsigned kind;
     int size;
     signal(SIGALRM, time_is_up);
@@ -875,6 +929,10 @@ int main(void)
         total.pulses_damaged == DAMAGES * total.pulses) {
         total.differences++;
         printf("damage hides every pulse, or none\n");
+    }
+    if (total.wide < total.libraries / 5) {
+        total.differences++;
+        printf("libraries of more than 64 facts are rare\n");
     }
     if (total.members == 0) {
         total.differences++;

@@ -11,7 +11,9 @@
  * watches.
  *
  * In each example image all pairs of entries change places, and the sum word of
- * the rule before document 02's request 6 is tried: both get refusal 2.
+ * the rule before document 02's request 6 is tried: both get refusal 2. With
+ * the head from before request 8 it is judged as any other. Of the random
+ * libraries a third have up to 256 facts.
  *
  * The answers are held against each other: a refusal of the image is the same
  * from all calls that take one, the card and the chains of a sequence say the
@@ -25,6 +27,7 @@
  * list_test names it reported all but that of a member's low byte.
  */
 #define _DEFAULT_SOURCE 1
+#include "borders.h"
 #include "harness.h"
 #include "list_model.h"
 #include "listed.h"
@@ -56,7 +59,7 @@ static void holds(const char *what, int right)
  */
 enum {
     IMAGE_BYTES = 36864,
-    CARD_BYTES = 28672,
+    CARD_BYTES = 102400,
     CHAIN_BYTES = 4096,
     WHY_BYTES = 4096,
     LIST_BYTES = 4096,
@@ -349,7 +352,7 @@ static void agree(uint64_t sequence, uint64_t fact, uint32_t sequences)
     const uint64_t *card = found_cards + DULIMOVEN_CARD_WORDS * sequence;
     int run = dulimoven_has_run(card);
     int has[6];
-    int column[DULIMOVEN_CARD_WORDS];
+    int column[NUMBERS];
     int cleared, unmentioned;
     uint64_t question;
     int i;
@@ -364,8 +367,11 @@ static void agree(uint64_t sequence, uint64_t fact, uint32_t sequences)
               chain(sequence, question, fact, 2 * (size_t)count - 1) ==
                   REFUSED(12, 0));
     }
-    for (i = 1; i < DULIMOVEN_CARD_WORDS; i++)
+    for (i = 1; i < NUMBERS; i++) {
         column[i] = dulimoven_card_has(card, i, fact);
+        holds("the header finds a fact in another place",
+              column[i] == is_in((uint32_t)fact, column_of(card, i)));
+    }
     holds("may need", column[DULIMOVEN_MAY_NEED] == has[3]);
     holds("may set", column[DULIMOVEN_MAY_SET] == has[0]);
     holds("may clear", column[DULIMOVEN_MAY_CLEAR] == has[1]);
@@ -458,6 +464,22 @@ static void why_all(uint32_t sequences)
     why(UINT64_C(0x100000000), sequences, sequences);
 }
 
+/* The columns of a card have no fact from F upward, and the count is that of
+ * its own. */
+static void width(uint64_t sequence, uint32_t facts)
+{
+    const uint64_t *card = found_cards + DULIMOVEN_CARD_WORDS * sequence;
+    struct column changeable = union_of(column_of(card, DULIMOVEN_MAY_SET),
+                                        column_of(card, DULIMOVEN_MAY_CLEAR));
+    int column;
+    for (column = 1; column < NUMBERS; column++)
+        holds("a column has a fact from F upward",
+              is_within(column_of(card, column), facts_below(facts)));
+    holds("the count is another",
+          card[0] >> 8 == count_facts(changeable) &&
+              dulimoven_changeable(card) == card[0] >> 8);
+}
+
 /* The calls over the image under test. Answers what the check does. */
 static uint64_t all_calls(const char *name)
 {
@@ -487,9 +509,12 @@ static uint64_t all_calls(const char *name)
               cards(DULIMOVEN_CARD_WORDS * c - 1) == REFUSED(8, 0));
     holds("the cards", cards(DULIMOVEN_CARD_WORDS * c) == c);
     for (sequence = 0; sequence < c; sequence++) {
+        width(sequence, f);
         agree(sequence, 0, c);
         agree(sequence, f - 1, c);
         agree(sequence, f / 2, c);
+        if (f > 64)
+            agree(sequence, 63 + (sequence + f) % (f - 63), c);
         holds("question 6", chain(sequence, 6, 0, 2) == REFUSED(10, 0));
         holds("no such fact", chain(sequence, 5, f, 2) == REFUSED(11, 0));
         holds("a long fact", chain(sequence, 2, far, 2) == REFUSED(11, 0));
@@ -549,19 +574,21 @@ struct example {
 };
 
 static const struct example examples[] = {
-    {"l.image", library_l, L_SUM, ACCEPTED(3, 3, 3), 0xf0f20910, 0xf00c019a},
-    {"setup.image", setup, COUNT(setup), ACCEPTED(3, 4, 4), 0xf273d251,
-     0xf010022b},
-    {"poll.image", poll, COUNT(poll), ACCEPTED(3, 4, 4), 0xf2656c95,
-     0xf0100234},
-    {"skip.image", skip, COUNT(skip), ACCEPTED(3, 4, 4), 0xf288d473,
-     0xf0100229},
-    {"endless.image", ten, TEN_SUM, ACCEPTED(1, 1, TEN), 0xf74ba05b,
-     0xf02800ea},
-    {"pulse.image", pulse, COUNT(pulse), REFUSED(13, CLEAR), 0xf2779ad7,
-     0xf010022a},
-    {"refused.image", refused, COUNT(refused), REFUSED(5, 8), 0xf273d2a5,
-     0xf010022e}};
+    {"l.image", library_l, L_SUM, ACCEPTED(3, 3, 3), 0xf1d65e90, 0xf018061a},
+    {"setup.image", setup, COUNT(setup), ACCEPTED(3, 4, 4), 0xf4b4aa51,
+     0xf020082b},
+    {"poll.image", poll, COUNT(poll), ACCEPTED(3, 4, 4), 0xf4963e95,
+     0xf0200834},
+    {"skip.image", skip, COUNT(skip), ACCEPTED(3, 4, 4), 0xf4d9b273,
+     0xf0200829},
+    {"endless.image", ten, TEN_SUM, ACCEPTED(1, 1, TEN), 0xfe2be25b,
+     0xf050026a},
+    {"borders.image", borders, BORDERS_SUM, ACCEPTED(256, 2, BORDERS),
+     0xf4aa1b5d, 0xf0280919},
+    {"pulse.image", pulse, COUNT(pulse), REFUSED(13, CLEAR), 0xf4b872d7,
+     0xf020082a},
+    {"refused.image", refused, COUNT(refused), REFUSED(5, 8), 0xf4b4aaa5,
+     0xf020082e}};
 
 /*
  * "An accepted image in which two different entries change places then gets 2".
@@ -597,6 +624,36 @@ static void under_old_rule(const char *name, const uint32_t *given,
     put(old_sum);
     holds("the sum word of the rule before is taken",
           all_calls(name) == REFUSED(2, count));
+}
+
+/*
+ * An example with the head that it had before request 8, and the sum word that
+ * goes with it: it is judged as any other. L has 387 facts by such a head; in
+ * the others a step, the first or the second, is not below A.
+ */
+static void under_old_head(void)
+{
+    static const struct {
+        size_t example;
+        uint32_t head, sum;
+        uint64_t answer;
+    } old[] = {{0, 0x100c0183, 0xf0f20910, REFUSED(3, 0)},
+               {1, 0x10100203, 0xf273d251, REFUSED(5, 3)},
+               {2, 0x10100203, 0xf2656c95, REFUSED(5, 3)},
+               {3, 0x10100203, 0xf288d473, REFUSED(5, 3)},
+               {4, 0x10280081, 0xf74ba05b, REFUSED(5, 1)},
+               {6, 0x10100203, 0xf2779ad7, REFUSED(5, 3)},
+               {7, 0x10100203, 0xf273d2a5, REFUSED(5, 3)}};
+    size_t i;
+    for (i = 0; i < COUNT(old); i++) {
+        const struct example *e = &examples[old[i].example];
+        start();
+        put_all(e->words, e->count);
+        put(old[i].sum);
+        *word_at(0) = old[i].head;
+        holds("an old head is judged otherwise",
+              all_calls(e->name) == old[i].answer);
+    }
 }
 
 /* Images beside the examples that were issued again, with the old sum words. */
@@ -735,7 +792,7 @@ static void noise(void)
 /* A step with random fact words, which clears no fact that it sets. */
 static void random_step(uint32_t number, uint32_t facts)
 {
-    uint64_t sets = 0;
+    struct column sets = low_facts(0);
     uint32_t kind, fact;
     put(STEP(number));
     for (kind = KIND_NEEDS; kind <= KIND_CLEARS; kind++)
@@ -743,8 +800,8 @@ static void random_step(uint32_t number, uint32_t facts)
             if (below(facts < 4 ? 4 : facts) != 0)
                 continue;
             if (kind == KIND_SETS)
-                sets |= UINT64_C(1) << fact;
-            if (kind != KIND_CLEARS || (sets >> fact & 1) == 0)
+                sets = union_of(sets, one_fact(fact));
+            if (kind != KIND_CLEARS || !is_in(fact, sets))
                 put(WORD(kind, fact));
         }
 }
@@ -770,16 +827,17 @@ static void random_members(uint32_t *members, size_t count, uint32_t bound)
             below(2) == 0 ? bound : (uint32_t)random_bits() | bound;
 }
 
-/* A number of facts: those of a library, or any other. */
+/* A number of facts: those of a library, more than 64 or not, or any other. */
 static uint64_t random_facts(void)
 {
     uint32_t form = below(8);
-    return form < 6    ? below(MOST_F + 2)
+    return form < 3    ? below(66)
+           : form < 6  ? below(MOST_F + 2)
            : form == 6 ? UINT64_C(1) << below(64)
                        : random_bits();
 }
 
-/* Numbers of sequences that no area has room for; 13 times the last ones is a
+/* Numbers of sequences that no area has room for; 49 times the last ones is a
  * small number with wrap at 2^64. */
 static uint64_t far_sequences(void)
 {
@@ -914,7 +972,7 @@ static void libraries(void)
 {
     unsigned n;
     for (n = 0; n < 1000; n++) {
-        uint32_t f = 1 + below(n % 8 == 0 ? MOST_F : 4);
+        uint32_t f = 1 + below(n % 3 == 0 ? MOST_F : 4);
         uint32_t a = below(6);
         uint32_t c = below(7);
         uint32_t i, alternatives, entries;
@@ -956,7 +1014,9 @@ int main(void)
     nibbles("L", library_l, L_SUM);
     nibbles("poll.image", poll, COUNT(poll));
     nibbles("skip.image", skip, COUNT(skip));
+    nibbles("borders.image", borders, BORDERS_SUM);
     example_images();
+    under_old_head();
     old_images();
     noise();
     libraries();

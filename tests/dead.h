@@ -19,7 +19,7 @@
  *
  * The sum word: taken 44 times for the head, 43 times for the next word and so
  * on to once for the last, the payloads after the head's add up to 387, and the
- * kinds to 6782: 44 * 0x140101 + 387 + 1024 * 6782 = 0x3da25af.
+ * kinds to 6782: 44 * 0x280401 + 387 + 1024 * 6782 = 0x74aa9af.
  */
 static const uint32_t dead_places[] = {
     HEAD(1, 2, 5), STEP(0), SETS(0), STEP(1), CLEARS(0),
@@ -30,7 +30,7 @@ static const uint32_t dead_places[] = {
     SEQUENCE(2), ALTERNATIVE, CALL(0), CALL(1),
     SEQUENCE(3), ALTERNATIVE, CALL(1), CALL(1), DO(0), ALTERNATIVE,
     SEQUENCE(4), ALTERNATIVE, CALL(3), CALL(0), ALTERNATIVE, CALL(2), DO(0),
-    0xf3da25af};
+    0xf74aa9af};
 
 /*
  * Sequence 0 is <1, set>, <3>; 1 is <2, 2>, <0>; 2 is <3>, <1>; 3 is <set>, <>.
@@ -38,7 +38,7 @@ static const uint32_t dead_places[] = {
  * all have one: what was left early is read again.
  *
  * The sum word: so taken, 24 times for the head, the payloads add up to 188,
- * the kinds to 1957: 24 * 0x100081 + 188 + 1024 * 1957 = 0x19ea0d4.
+ * the kinds to 1957: 24 * 0x200201 + 188 + 1024 * 1957 = 0x31ec4d4.
  */
 static const uint32_t found_later[] = {
     HEAD(1, 1, 4), STEP(0), SETS(0),
@@ -46,7 +46,7 @@ static const uint32_t found_later[] = {
     SEQUENCE(1), ALTERNATIVE, CALL(2), CALL(2), ALTERNATIVE, CALL(0),
     SEQUENCE(2), ALTERNATIVE, CALL(3), ALTERNATIVE, CALL(1),
     SEQUENCE(3), ALTERNATIVE, DO(0), ALTERNATIVE,
-    0xf19ea0d4};
+    0xf31ec4d4};
 
 /* One of these two, with the sum word that the builder gives it. */
 static inline void build_dead(const uint32_t *given, size_t count)

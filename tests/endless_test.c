@@ -23,6 +23,7 @@
  * Below, <..> is an alternative with its entries, a number in it a sequence,
  * and "set" a step that sets fact 0.
  */
+#include "borders.h"
 #include "dead.h"
 #include "harness.h"
 #include "listed.h"
@@ -209,6 +210,25 @@ static void property(void)
                            lists[i].count) == lists[i].supports);
 }
 
+/* Facts above 63, of steps and of checks, give a run or none as others do. */
+static void many_facts(void)
+{
+    build_borders();
+    has_run("borders", 0);
+    has_run("borders", 1);
+    has_run("borders", 2);
+    has_run("borders", 3);
+    LISTED("borders", 4, 4);
+    refuses("borders", 5, REFUSED(9, 0));
+    BUILD(HEAD(256, 1, 3), STEP(0), NEEDS(64), SETS(255), CLEARS(191),
+          SEQUENCE(0), ALTERNATIVE, CHECK(255), CALL(1), CHECK(64),
+          SEQUENCE(1), ALTERNATIVE, DO(0), CALL(0),
+          SEQUENCE(2), ALTERNATIVE, CHECK(200), ALTERNATIVE, CALL(1));
+    LISTED("checks above 63", 0, 0, 1);
+    LISTED("checks above 63", 1, 0, 1);
+    has_run("checks above 63", 2);
+}
+
 /* Where the entry stands, and in which alternative. */
 static void places(void)
 {
@@ -286,8 +306,8 @@ static void put_row(uint32_t count)
  * 769 times, the opener of c 768 - 3c times, its alternative 767 - 3c and its
  * entry 766 - 3c times. So the payloads after the head's add up to 8388480 of
  * the openers and 8421120 of the entries, and the kinds to 2165505: 769 *
- * 0x4000001 + 16809600 + 1024 * 2165505 = 0xc892c8581, of which 28 bits are
- * 0x92c8581.
+ * 0x8000001 + 16809600 + 1024 * 2165505 = 0x188d2c8581, of which 28 bits are
+ * 0xd2c8581.
  */
 static void ring(void)
 {
@@ -295,8 +315,8 @@ static void ring(void)
     uint32_t c;
     put_row(MOST_C);
     put_sum();
-    hold("the ring's words", words == 770 && *word_at(0) == 0x14000001 &&
-                                 *word_at(769) == 0xf92c8581);
+    hold("the ring's words", words == 770 && *word_at(0) == 0x18000001 &&
+                                 *word_at(769) == 0xfd2c8581);
     for (c = 0; c < MOST_C; c++)
         listed("a ring of 256", c, row, all);
     endless("a ring of 256, 255 words", 7, 255, REFUSED(17, 0), NULL, 0);
@@ -306,8 +326,8 @@ static void ring(void)
 /*
  * A row of 256 that ends in a sequence without alternatives. The sum word: the
  * payloads after the head's add up to 16679040, the kinds to 2154248: 767 *
- * 0x4000001 + 16679040 + 1024 * 2154248 = 0xc807aa37f, of which 28 bits are
- * 0x7aa37f. With an empty alternative at its end all have a run, which comes
+ * 0x8000001 + 16679040 + 1024 * 2154248 = 0x187c7aa37f, of which 28 bits are
+ * 0xc7aa37f. With an empty alternative at its end all have a run, which comes
  * back from the last to the first.
  */
 static void long_row(void)
@@ -317,7 +337,7 @@ static void long_row(void)
     put(SEQUENCE(MOST_C - 1));
     put_sum();
     hold("the row's words",
-         words == 768 && *word_at(767) == 0xf07aa37f);
+         words == 768 && *word_at(767) == 0xfc7aa37f);
     LISTED("a row of 256", 254, 254, 255);
     LISTED("a row of 256", 255, 255);
     for (c = 0; c < MOST_C; c++)
@@ -485,6 +505,7 @@ int main(void)
     samples();
     ten_sequences();
     property();
+    many_facts();
     places();
     ring();
     long_row();

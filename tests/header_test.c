@@ -9,19 +9,26 @@
 
 #include <assert.h>
 
-/* 256 sequences at most, 2 words a link (document 01) and 13 words a card
-   (document 02, request 5): 256 * 13 is 3328 */
-static_assert(DULIMOVEN_MOST_SEQUENCES * DULIMOVEN_CARD_WORDS == 3328, "");
-static_assert(DULIMOVEN_MOST_CARD_WORDS == 3328, "");
+/* 256 facts, 1,023 steps and 256 sequences at most, 2 words a link (document
+   01) and 49 words a card (document 02, request 8): the flags, and twelve
+   columns of four words; 256 * 49 is 12544 */
+static_assert(DULIMOVEN_MOST_FACTS == 256 && DULIMOVEN_MOST_STEPS == 1023, "");
+static_assert(DULIMOVEN_COLUMNS == 12 && DULIMOVEN_COLUMN_WORDS == 4, "");
+static_assert(DULIMOVEN_CARD_WORDS == 49, "");
+static_assert(DULIMOVEN_MOST_SEQUENCES * DULIMOVEN_CARD_WORDS == 12544, "");
+static_assert(DULIMOVEN_MOST_CARD_WORDS == 12544, "");
+static_assert(64 * DULIMOVEN_COLUMN_WORDS == DULIMOVEN_MOST_FACTS, "");
 static_assert(DULIMOVEN_MOST_SEQUENCES * DULIMOVEN_LINK_WORDS == 512, "");
 static_assert(DULIMOVEN_MOST_CHAIN_WORDS == 512, "");
 
-/* "may set" of sequence 1: after the 13 words of sequence 0 the fourth word,
-   and "may end unmentioned" is the last word of its card */
-static_assert(DULIMOVEN_CARD_WORDS + DULIMOVEN_MAY_SET == 16, "");
-static_assert(DULIMOVEN_MAY_END_UNMENTIONED + 1 == DULIMOVEN_CARD_WORDS, "");
+/* "may end unmentioned" is the last column, and the count takes bits 8 to 16 of
+   the flags */
+static_assert(DULIMOVEN_MAY_END_UNMENTIONED == DULIMOVEN_COLUMNS, "");
+static_assert(DULIMOVEN_FLAG_COUNT_SHIFT == 8 &&
+                  DULIMOVEN_FLAG_COUNT_MASK == 0x1ff,
+              "");
 
-/* the words of request 5 follow "always stands", in its order */
+/* the columns of request 5 follow "always stands", in its order */
 static_assert(DULIMOVEN_MAY_FIRST_SET == 8 &&
                   DULIMOVEN_MAY_FIRST_UNTOUCHED == 9 &&
                   DULIMOVEN_MAY_LAST_UNTOUCHED == 10 &&
@@ -53,9 +60,9 @@ static_assert(DULIMOVEN_KIND_STEP_ENTRY == 8 &&
 /* the second word of the last link that there can be: 511 */
 static_assert(DULIMOVEN_MOST_CHAIN_WORDS - DULIMOVEN_LINK_WORDS + 1 == 511, "");
 
-/* format 4, which has another sum word, and one change since then, request 7's
-   call; a preprocessor can tell */
+/* format 5, which has another head and cards of 49 words, and no change since
+   then; a preprocessor can tell */
 static_assert(DULIMOVEN_VERSION / 1000 == DULIMOVEN_FORMAT, "");
-#if DULIMOVEN_FORMAT != 4 || DULIMOVEN_VERSION != 4001
-#error "the format is 4, the version 4001"
+#if DULIMOVEN_FORMAT != 5 || DULIMOVEN_VERSION != 5000
+#error "the format is 5, the version 5000"
 #endif

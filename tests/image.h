@@ -17,8 +17,8 @@ enum {
     LEAST_WORDS = 2,
     MOST_WORDS = 8192,
     LEAST_FACTS = 1,
-    MOST_FACTS = 64,
-    MOST_STEPS = 1024,
+    MOST_FACTS = 256,
+    MOST_STEPS = 1023,
     MOST_SEQUENCES = 256
 };
 
@@ -81,17 +81,16 @@ static inline uint32_t field_of(uint32_t word, unsigned from, unsigned bits)
 }
 
 /*
- * The head: bits 0 to 6 hold F, the number of facts, bits 7 to 17 hold A,
- * steps, bits 18 to 26 hold C, sequences. Bit 27 is zero.
+ * The head: bits 0 to 8 hold F, the number of facts, bits 9 to 18 hold A,
+ * steps, bits 19 to 27 hold C, sequences. No bit of the payload is left.
  */
 enum {
     HEAD_FACTS = 0,
-    HEAD_FACTS_BITS = 7,
+    HEAD_FACTS_BITS = 9,
     HEAD_STEPS = HEAD_FACTS + HEAD_FACTS_BITS,
-    HEAD_STEPS_BITS = 11,
+    HEAD_STEPS_BITS = 10,
     HEAD_SEQUENCES = HEAD_STEPS + HEAD_STEPS_BITS,
-    HEAD_SEQUENCES_BITS = 9,
-    HEAD_ZERO_BIT = 0x8000000
+    HEAD_SEQUENCES_BITS = 9
 };
 
 /* A head, as a constant too. */

@@ -6,11 +6,7 @@
 #ifndef DULIMOVEN_TESTS_LIST_MODEL_H
 #define DULIMOVEN_TESTS_LIST_MODEL_H
 
-#include "dulimoven.h"
-
-#include <stddef.h>
-#include <stdint.h>
-#include <string.h>
+#include "columns.h"
 
 /* The cards that the members name, and the list. */
 struct members {
@@ -19,58 +15,73 @@ struct members {
     size_t count;
 };
 
-/* Bit `bit` of a word of member `i`. */
-static inline int member_bit(const struct members *m, size_t i, int word,
-                             unsigned bit)
+/* The card of member `i`. */
+static inline const uint64_t *member_card(const struct members *m, size_t i)
 {
-    return (int)(m->cards[(size_t)m->list[i] * DULIMOVEN_CARD_WORDS +
-                          (size_t)word] >>
-                     bit &
+    return m->cards + (size_t)m->list[i] * CARD_WORDS;
+}
+
+/* Whether it has a fact in a column. */
+static inline int member_has(const struct members *m, size_t i, int column,
+                             uint32_t fact)
+{
+    return (int)(member_card(m, i)[place_of(column, fact)] >>
+                     fact % WORD_FACTS &
                  1);
 }
 
-/* "where all members have it": the members from `from` up to `to`. */
-static inline int members_have(const struct members *m, size_t from, size_t to,
-                               int word, unsigned bit)
+/* "a flag [..] where all members have it" */
+static inline int all_have_flag(const struct members *m, int bit)
 {
-    for (; from < to; from++)
-        if (!member_bit(m, from, word, bit))
+    size_t i;
+    for (i = 0; i < m->count; i++)
+        if (!(member_card(m, i)[0] >> bit & 1))
             return 0;
     return 1;
 }
 
-static inline int all_have(const struct members *m, int word, unsigned bit)
+/* "where all members have it": the members from `from` up to `to`. */
+static inline int members_have(const struct members *m, size_t from, size_t to,
+                               int column, uint32_t fact)
 {
-    return members_have(m, 0, m->count, word, bit);
+    for (; from < to; from++)
+        if (!member_has(m, from, column, fact))
+            return 0;
+    return 1;
+}
+
+static inline int all_have(const struct members *m, int column, uint32_t fact)
+{
+    return members_have(m, 0, m->count, column, fact);
 }
 
 /* "where one has it and every later member has that side's untouched bit" */
-static inline int one_has_last(const struct members *m, int word, int untouched,
-                               unsigned bit)
+static inline int one_has_last(const struct members *m, int column,
+                               int untouched, uint32_t fact)
 {
     size_t i;
     for (i = 0; i < m->count; i++)
-        if (member_bit(m, i, word, bit) &&
-            members_have(m, i + 1, m->count, untouched, bit))
+        if (member_has(m, i, column, fact) &&
+            members_have(m, i + 1, m->count, untouched, fact))
             return 1;
     return 0;
 }
 
 /* "(earlier on the first side)" */
-static inline int one_has_first(const struct members *m, int word,
-                                int untouched, unsigned bit)
+static inline int one_has_first(const struct members *m, int column,
+                                int untouched, uint32_t fact)
 {
     size_t i;
     for (i = 0; i < m->count; i++)
-        if (member_bit(m, i, word, bit) &&
-            members_have(m, 0, i, untouched, bit))
+        if (member_has(m, i, column, fact) &&
+            members_have(m, 0, i, untouched, fact))
             return 1;
     return 0;
 }
 
-/* What a fact comes to, word by word; the flags are not among them. */
-static inline void model_fact(const struct members *m, unsigned fact,
-                              int has[DULIMOVEN_CARD_WORDS])
+/* What a fact comes to, column by column. */
+static inline void model_fact(const struct members *m, uint32_t fact,
+                              int has[NUMBERS])
 {
     /* "another "some" bit" */
     has[2] = one_has_first(m, 2, 9, fact);
@@ -94,20 +105,21 @@ static inline void model_fact(const struct members *m, unsigned fact,
 static inline void model_card(uint64_t facts, const struct members *m,
                               uint64_t *card)
 {
-    int has[DULIMOVEN_CARD_WORDS];
-    unsigned fact;
-    int word;
-    memset(card, 0, DULIMOVEN_CARD_WORDS * sizeof card[0]);
-    if (!all_have(m, 0, 0))
+    int has[NUMBERS];
+    uint32_t fact;
+    int column;
+    memset(card, 0, CARD_WORDS * sizeof card[0]);
+    if (!all_have_flag(m, 0))
         return;
-    card[0] = 1 + 2 * (uint64_t)all_have(m, 0, 1);
+    card[0] = 1 + 2 * (uint64_t)all_have_flag(m, 1);
     /* "drops bits from F upward (none if F passes the column's width)" */
-    for (fact = 0; fact < 64 && fact < facts; fact++) {
+    for (fact = 0; fact < COLUMN_FACTS && fact < facts; fact++) {
         model_fact(m, fact, has);
         /* "the count from its own columns" */
         card[0] += has[3] || has[4] ? 0x100 : 0;
-        for (word = 1; word < DULIMOVEN_CARD_WORDS; word++)
-            card[word] |= (uint64_t)has[word] << fact;
+        for (column = 1; column < NUMBERS; column++)
+            card[place_of(column, fact)] |= (uint64_t)has[column]
+                                            << fact % WORD_FACTS;
     }
 }
 
@@ -123,7 +135,7 @@ static inline uint64_t model_list(uint64_t facts, uint64_t sequences,
     struct members m = {cards, list, list_len};
     size_t i;
     /* so many whole cards there are */
-    if (cards_len / 13 < sequences)
+    if (cards_len / CARD_WORDS < sequences)
         return (uint64_t)8 << 32;
     if (list_len > 256)
         return (uint64_t)14 << 32;

@@ -22,6 +22,7 @@
  * or 12 times C, with wrap or by 32 bits of C. And a card changed on a refusal,
  * a word beside it, the cards or the list changed, a position, another answer.
  */
+#include "borders.h"
 #include "harness.h"
 #include "samples.h"
 
@@ -34,7 +35,6 @@ enum {
     LIST_AREA = GUARD + MOST_LIST + 1 + GUARD,
     CARD_AREA = GUARD + CARD + GUARD
 };
-#define ONES UINT64_C(0xffffffffffffffff)
 
 /*
  * What the call is lent, with guard words on both sides. Cards and list are
@@ -101,10 +101,10 @@ static void same_words(const char *name, const char *of, const uint64_t *due,
 
 /*
  * Calls, and compares the answer, the card, and all that has to be as it was.
- * `due` has the words of the card, or is null where the call is to refuse.
+ * `due` has the numbers of the card, or is null where the call is to refuse.
  */
 static void call(const char *name, uint64_t facts, uint64_t sequences,
-                 uint64_t expected, const uint64_t *due)
+                 uint64_t expected, const struct column *due)
 {
     uint64_t answer;
     size_t i;
@@ -112,7 +112,7 @@ static void call(const char *name, uint64_t facts, uint64_t sequences,
         card[i] = UINT64_C(0xabad1dea00000000) + i;
     memcpy(card_due, card, sizeof card);
     if (due != NULL)
-        memcpy(card_due + GUARD, due, CARD * sizeof due[0]);
+        lay_out(due, card_due + GUARD);
     memcpy(cards_before, cards, sizeof cards);
     memcpy(list_before, list, sizeof list);
     answer = dulimoven_list(facts, sequences, cards + GUARD, cards_len,
@@ -131,10 +131,28 @@ static void call(const char *name, uint64_t facts, uint64_t sequences,
     }
 }
 
-#define GIVES(name, facts, sequences, ...)               \
-    do {                                                 \
-        static const uint64_t due[CARD] = {__VA_ARGS__}; \
-        call(name, facts, sequences, 0, due);            \
+/* The same of a card on which no fact is above 63. */
+static void gives(const char *name, uint64_t facts, uint64_t sequences,
+                  const uint64_t *due)
+{
+    struct column wide[NUMBERS];
+    int i;
+    for (i = 0; i < NUMBERS; i++)
+        wide[i] = low_facts(due[i]);
+    call(name, facts, sequences, 0, wide);
+}
+
+#define GIVES(name, facts, sequences, ...)                  \
+    do {                                                    \
+        static const uint64_t due[NUMBERS] = {__VA_ARGS__}; \
+        gives(name, facts, sequences, due);                 \
+    } while (0)
+
+/* The same by columns. */
+#define GIVES_WIDE(name, facts, sequences, ...)            \
+    do {                                                   \
+        const struct column due[NUMBERS] = {__VA_ARGS__};  \
+        call(name, facts, sequences, 0, due);              \
     } while (0)
 
 #define BLANK 0, 0, 0, 0, 0, 0, 0, 0, 0, 0, 0, 0, 0
@@ -145,9 +163,9 @@ static void refuses(const char *name, uint64_t sequences, uint64_t number)
 }
 
 /*
- * Over L's cards, which document 02 prints, in an area of their 39 words and in
- * one of 45. Sequence 0 is <set 0>, <>; 1 is <0, need 0 and set 1>; 2 has no
- * run.
+ * Over L's cards, which document 02 prints, in an area of their 147 words and
+ * in one of 153. Sequence 0 is <set 0>, <>; 1 is <0, need 0 and set 1>; 2 has
+ * no run.
  */
 #define CARD_0 0x103, 0, 0, 1, 0, 0, 0, 0, 1, 7, 7, 0, 7
 #define CARD_1 0x201, 0, 1, 3, 0, 2, 0, 3, 3, 4, 5, 0, 4
@@ -155,13 +173,17 @@ enum { L_CARDS = L_SEQUENCES * CARD };
 
 static void lend_l(void)
 {
-    lend_cards(cards_of_l[0], L_SEQUENCES);
+    uint64_t given[L_SEQUENCES][CARD];
+    int i;
+    for (i = 0; i < L_SEQUENCES; i++)
+        lay_out_low(cards_of_l[i], given[i]);
+    lend_cards(given[0], L_SEQUENCES);
 }
 
 static void lists_of_l(size_t length)
 {
     lend_l();
-    hold("three cards have 39 words", L_CARDS == 39);
+    hold("three cards have 147 words", L_CARDS == 147);
     cards_len = length;
     no_member();
     GIVES("L, none", 3, 3, 3, 0, 0, 0, 0, 0, 0, 0, 0, 7, 7, 0, 7);
@@ -194,15 +216,16 @@ static void lists_of_l(size_t length)
  */
 static void other_facts(void)
 {
-    static const uint64_t wide[] = {64, 65, UINT64_C(0x100000000), ONES};
+    static const uint64_t wide[] = {
+        63,  64,  65,  127, 128, 129, 191,
+        192, 193, 255, 256, 257, UINT64_C(0x100000000),
+        UINT64_C(0x100000040), ONES};
+    const struct column none = low_facts(0);
     size_t i;
     lend_l();
     no_member();
     GIVES("F = 2, none", 2, 3, 3, 0, 0, 0, 0, 0, 0, 0, 0, 3, 3, 0, 3);
     GIVES("F = 0, none", 0, 3, 3, 0, 0, 0, 0, 0, 0, 0, 0, 0, 0, 0, 0);
-    /* bit 63 is dropped, and no other */
-    GIVES("F = 63, none", 63, 3, 3, 0, 0, 0, 0, 0, 0, 0, 0, ONES >> 1,
-          ONES >> 1, 0, ONES >> 1);
     LIST(0, 1);
     GIVES("F = 2, 0 1", 2, 3, 0x201, 0, 1, 3, 0, 2, 0, 3, 3, 0, 1, 0, 0);
     /* fact 1, which is set, is dropped: fact 0 alone can change */
@@ -211,24 +234,38 @@ static void other_facts(void)
     LIST(0, 2);
     GIVES("F = 0, 0 2", 0, 3, BLANK);
     for (i = 0; i < COUNT(wide); i++) {
+        /* no bit is dropped from 256 on */
+        struct column all =
+            facts_below(wide[i] > 256 ? 256 : (uint32_t)wide[i]);
         no_member();
-        GIVES("F from 64 on, none", wide[i], 3, 3, 0, 0, 0, 0, 0, 0, 0, 0, ONES,
-              ONES, 0, ONES);
+        GIVES_WIDE("many facts, none", wide[i], 3, low_facts(3), none, none,
+                   none, none, none, none, none, none, all, all, none, all);
         LIST(0, 1);
-        GIVES("F from 64 on, 0 1", wide[i], 3, 0x201,
-              UINT64_C(0xfffffffffffffff8), 1, 3, 0,
-              UINT64_C(0xfffffffffffffffa), UINT64_C(0xfffffffffffffff8),
-              UINT64_C(0xfffffffffffffffb), 3, 4, 5, 0, 4);
+        GIVES_WIDE("many facts, 0 1", wide[i], 3, low_facts(0x201),
+                   without(all, low_facts(7)), low_facts(1), low_facts(3), none,
+                   without(all, low_facts(5)), without(all, low_facts(7)),
+                   without(all, low_facts(4)), low_facts(3), low_facts(4),
+                   low_facts(5), none, low_facts(4));
     }
+
+    /* the same by the words of a column: 1ffffffffffffffff, and all ones */
+    no_member();
+    GIVES_WIDE("F = 65, none", 65, 3, FLAGS(3), COLUMN_0, COLUMN_0, COLUMN_0,
+               COLUMN_0, COLUMN_0, COLUMN_0, COLUMN_0, COLUMN_0,
+               COLUMN(ONES, 1, 0, 0), COLUMN(ONES, 1, 0, 0), COLUMN_0,
+               COLUMN(ONES, 1, 0, 0));
+    GIVES_WIDE("F = 256, none", 256, 3, FLAGS(3), COLUMN_0, COLUMN_0, COLUMN_0,
+               COLUMN_0, COLUMN_0, COLUMN_0, COLUMN_0, COLUMN_0, COLUMN_U,
+               COLUMN_U, COLUMN_0, COLUMN_U);
 }
 
 /*
- * Refusals. "8 asks 13 x C", a product of whole numbers: 13 times
- * 1418980313362273202 is 2^64 + 10, which with wrap would be 10.
+ * Refusals. "8 asks 49 x C", a product of whole numbers: 49 times
+ * 376464164769582687 is 2^64 + 47, which with wrap would be 47.
  */
 static void refusals(void)
 {
-    static const uint64_t wraps = UINT64_C(1418980313362273202);
+    static const uint64_t wraps = UINT64_C(376464164769582687);
     uint32_t members[MOST_LIST + 1] = {0};
     size_t length;
     lend_l();
@@ -238,20 +275,20 @@ static void refusals(void)
         refuses("8: an area that is too short", 3, 8);
     }
     cards_len = L_CARDS;
-    refuses("8: C = 4 with 39 words", 4, 8);
-    hold("2^64 + 10", wraps * CARD == 10 && wraps > ONES / CARD);
-    refuses("8: 13 times C with wrap is 10", wraps, 8);
-    /* 13 times these is 0 or less than 39 with wrap at 2^32 or 2^64 */
+    refuses("8: C = 4 with 147 words", 4, 8);
+    hold("2^64 + 47", wraps * CARD == 47 && wraps > ONES / CARD);
+    refuses("8: 49 times C with wrap is 47", wraps, 8);
+    /* 49 times these is 0 or less than 147 with wrap at 2^32 or 2^64 */
     refuses("8: C = 2^32", UINT64_C(0x100000000), 8);
     refuses("8: C = 2^63", UINT64_C(0x8000000000000000), 8);
     refuses("8: the greatest C", ONES, 8);
 
     lend_many(0, MOST_LIST + 1);
-    cards_len = 38;
-    refuses("8 before 14: 38 words, a list of 257", 3, 8);
+    cards_len = 146;
+    refuses("8 before 14: 146 words, a list of 257", 3, 8);
     LIST(3);
-    cards_len = 38;
-    refuses("8 before 15: 38 words, member 3", 3, 8);
+    cards_len = 146;
+    refuses("8 before 15: 146 words, member 3", 3, 8);
     cards_len = L_CARDS;
 
     lend_many(0, MOST_LIST + 1);
@@ -301,9 +338,11 @@ static void refusals(void)
 /* C = 0, with an empty area and null pointers. */
 static void null_pointers(void)
 {
-    static const uint64_t none[CARD] = {3, 0, 0, 0, 0, 0, 0, 0, 0, 7, 7, 0, 7};
-    uint64_t found[CARD] = {0};
+    static const uint64_t numbers[NUMBERS] = {3, 0, 0, 0, 0, 0, 0,
+                                              0, 0, 7, 7, 0, 7};
+    uint64_t none[CARD], found[CARD] = {0};
     uint32_t member = 0;
+    lay_out_low(numbers, none);
     hold("C = 0 and null pointers, none",
          dulimoven_list(3, 0, NULL, 0, NULL, 0, found) == 0 &&
              memcmp(found, none, sizeof none) == 0);
@@ -323,17 +362,17 @@ static void many_sequences(void)
 {
     enum { MANY = 300 };
     static uint64_t many[CARD * MANY];
-    static const uint64_t due[2][CARD] = {{CARD_0}, {CARD_1}};
+    static const uint64_t due[2][NUMBERS] = {{CARD_0}, {CARD_1}};
     static const uint32_t numbers[2] = {43, 299};
     uint64_t found[CARD];
     int i;
     for (i = 0; i < 2; i++)
-        memcpy(many + CARD * numbers[i], due[i], sizeof due[i]);
+        lay_out_low(due[i], many + CARD * numbers[i]);
     for (i = 0; i < 2; i++)
         hold("members of 300 sequences",
              dulimoven_list(3, MANY, many, COUNT(many), numbers + i, 1,
                             found) == 0 &&
-                 memcmp(found, due[i], sizeof found) == 0);
+                 memcmp(found, many + CARD * numbers[i], sizeof found) == 0);
     hold("8: a word less",
          dulimoven_list(3, MANY, many, COUNT(many) - 1, numbers, 1, found) ==
              REFUSED(8, 0));
@@ -346,19 +385,19 @@ static void many_sequences(void)
  * A library with checks and clears: step 0 sets 0, 1 clears 0, 2 needs 0 and
  * clears 1, 3 needs 1. The sum word: taken 37 times for the head and so on to
  * once for the last word, the payloads after the head's add up to 629, the
- * kinds to 3975: 37 * 0x1c0203 + 629 + 1024 * 3975 = 0x44a68e4.
+ * kinds to 3975: 37 * 0x380803 + 629 + 1024 * 3975 = 0x85746e4.
  */
 enum { CLEARS_WORDS = 38, CLEARS_SEQUENCES = 7 };
 static const uint32_t clears_words[CLEARS_WORDS] = {
-    0x101c0203, 0x50000000, 0x30000000, 0x50000001, 0x40000000, 0x50000002,
+    0x10380803, 0x50000000, 0x30000000, 0x50000001, 0x40000000, 0x50000002,
     0x20000000, 0x40000001, 0x50000003, 0x20000001, 0x60000000, 0x70000000,
     0x80000000, 0x60000001, 0x70000000, 0x80000001, 0x70000000, 0x60000002,
     0x70000000, 0xd0000000, 0x60000003, 0x70000000, 0x80000002, 0x60000004,
     0x70000000, 0xd0000001, 0x70000000, 0x80000003, 0x60000005, 0x70000000,
     0x90000005, 0x60000006, 0x70000000, 0x80000000, 0x80000001, 0x70000000,
-    0xd0000002, 0xf44a68e4};
+    0xd0000002, 0xf85746e4};
 
-static const uint64_t clears_cards[CLEARS_SEQUENCES][CARD] = {
+static const uint64_t clears_cards[CLEARS_SEQUENCES][NUMBERS] = {
     /* <set 0> */
     {0x101, 0, 0, 1, 0, 1, 0, 1, 1, 6, 6, 0, 6},
     /* <clear 0>, <> */
@@ -388,11 +427,12 @@ static void lend_clears(void)
          dulimoven_cards(area + GUARD, words, cards + GUARD, MOST_CARDS) ==
              CLEARS_SEQUENCES);
     for (i = 0; i < CLEARS_SEQUENCES; i++) {
+        uint64_t due[CARD];
         char name[64];
+        lay_out_low(clears_cards[i], due);
         snprintf(name, sizeof name, "sequence %u", (unsigned)i);
         ran++;
-        same_words(name, "its card", clears_cards[i], cards + GUARD + CARD * i,
-                   CARD, 0);
+        same_words(name, "its card", due, cards + GUARD + CARD * i, CARD, 0);
     }
     cards_len = MOST_CARDS;
 }
@@ -406,7 +446,7 @@ static void lists_of_clears(void)
     lend_clears();
     for (c = 0; c < CLEARS_SEQUENCES; c++) {
         LIST(c);
-        call("a list of one", 3, CLEARS_SEQUENCES, 0, clears_cards[c]);
+        gives("a list of one", 3, CLEARS_SEQUENCES, clears_cards[c]);
     }
     LIST(0, 1);
     GIVES("0 1", 3, 7, AS_0_1);
@@ -445,6 +485,56 @@ static void lists_of_clears(void)
     GIVES("1 255 times, then 5", 3, 7, BLANK);
 }
 
+/*
+ * Over the cards of the library of borders.h. Sequence 0 sets A, which is 0,
+ * 63, 64 and 255; 1 does so and then needs 64 and 255 and clears 63; 2 does the
+ * second or nothing; 3 checks 255 or is sequence 0; 4 has no run.
+ */
+static void lists_at_borders(void)
+{
+    uint32_t c;
+    build_borders();
+    lend_cards(NULL, 0);
+    hold("the cards of the borders",
+         dulimoven_cards(area + GUARD, words, cards + GUARD, MOST_CARDS) ==
+             BORDERS);
+    cards_len = BORDERS * CARD;
+    for (c = 0; c < BORDERS; c++) {
+        LIST(c);
+        call("borders, one", 256, BORDERS, 0, borders_cards[c]);
+    }
+    /* the sets come before the needs; then 63 may be cleared */
+    LIST(0, 2);
+    GIVES_WIDE("borders, 0 2", 256, 5, FLAGS(0x401), COLUMN_0, COLUMN_0,
+               COLUMN_A, COLUMN_F_63, COLUMN_A_63, COLUMN_0, COLUMN_A_63,
+               COLUMN_A, COLUMN_N, COLUMN_N, COLUMN_F_63, COLUMN_N);
+    /* 64 and 255 may be needed first; the sets are last */
+    LIST(2, 0);
+    GIVES_WIDE("borders, 2 0", 256, 5, FLAGS(0x401), COLUMN_0, COLUMN_P,
+               COLUMN_A, COLUMN_0, COLUMN_A, COLUMN_0, COLUMN_A, COLUMN_A,
+               COLUMN_N, COLUMN_N, COLUMN_0, COLUMN_N);
+    LIST(1, 0);
+    call("borders, 1 0", 256, BORDERS, 0, borders_cards[0]);
+    LIST(0, 1);
+    call("borders, 0 1", 256, BORDERS, 0, borders_cards[1]);
+    LIST(2, 2);
+    call("borders, 2 2", 256, BORDERS, 0, borders_cards[2]);
+    LIST(3, 3);
+    call("borders, 3 3", 256, BORDERS, 0, borders_cards[3]);
+    LIST(0, 4);
+    call("borders, 0 4", 256, BORDERS, 0, borders_cards[4]);
+    /* facts from F upward are dropped: 255, then 64 too, then all but 0 */
+    LIST(0);
+    GIVES_WIDE("borders, 0, F = 255", 255, 5, FLAGS(0x301), COLUMN_0, COLUMN_0,
+               COLUMN(HIGH | 1, 1, 0, 0), COLUMN_0, COLUMN(HIGH | 1, 1, 0, 0),
+               COLUMN_0, COLUMN(HIGH | 1, 1, 0, 0), COLUMN(HIGH | 1, 1, 0, 0),
+               COLUMN_N, COLUMN_N, COLUMN_0, COLUMN_N);
+    GIVES("borders, 0, F = 64", 64, 5, 0x201, 0, 0, HIGH | 1, 0, HIGH | 1, 0,
+          HIGH | 1, HIGH | 1, ONES >> 1 ^ 1, ONES >> 1 ^ 1, 0, ONES >> 1 ^ 1);
+    GIVES("borders, 0, F = 63", 63, 5, 0x101, 0, 0, 1, 0, 1, 0, 1, 1,
+          ONES >> 1 ^ 1, ONES >> 1 ^ 1, 0, ONES >> 1 ^ 1);
+}
+
 /* One card that no library has, and the list of it. */
 static void lend_one(const uint64_t *one)
 {
@@ -452,19 +542,58 @@ static void lend_one(const uint64_t *one)
     LIST(0);
 }
 
+/* A word in all places of the columns that a list's card is not made of. */
+static void put_always(uint64_t *one, uint64_t word)
+{
+    static const int always[] = {1, 5, 6, 7};
+    size_t i, j;
+    for (i = 0; i < COUNT(always); i++)
+        for (j = 0; j < COLUMN_WORDS; j++)
+            one[place_of(always[i], 0) + j] = word;
+}
+
+/* A fact in all columns of L's card of sequence 0: it is dropped where F is not
+ * above it. */
+static void one_more_fact(uint32_t fact)
+{
+    struct column top = one_fact(fact), none = low_facts(0);
+    struct column set = union_of(low_facts(1), top);
+    struct column left = union_of(low_facts(7), top);
+    struct column rest = facts_from(3, fact);
+    struct column below = facts_below(fact), always;
+    uint64_t one[CARD];
+    int column;
+    lay_out_low(cards_of_l[0], one);
+    for (column = 1; column < NUMBERS; column++)
+        one[place_of(column, fact)] |= UINT64_C(1) << fact % 64;
+    lend_one(one);
+    GIVES("one fact more, F = 3", 3, 1, CARD_0);
+    /* of the facts from 3 up to it no rival outcome holds */
+    always = without(below, low_facts(7));
+    GIVES_WIDE("one fact more, F is its number", fact, 1, low_facts(0x103),
+               always, none, low_facts(1), none, always, always, always,
+               low_facts(1), low_facts(7), low_facts(7), none, low_facts(7));
+    GIVES_WIDE("one fact more, F is one above it", (uint64_t)fact + 1, 1,
+               low_facts(0x203), rest, top, set, top, rest, rest, rest, set,
+               left, left, top, left);
+}
+
 static void no_library(void)
 {
+    static const uint32_t more[] = {62, 63, 64, 127, 128, 191, 192, 254, 255};
+    static const uint32_t most[] = {64, 65, 200, 256};
+    const struct column none = low_facts(0);
     uint64_t one[CARD];
-    int i;
+    size_t i;
 
     /* "reads the two flag bits, the three "may" columns and these five" */
-    memcpy(one, cards_of_l[1], sizeof one);
+    lay_out_low(cards_of_l[1], one);
     one[0] |= ~UINT64_C(3);
-    one[1] = one[5] = one[6] = one[7] = ONES;
+    put_always(one, ONES);
     lend_one(one);
     GIVES("the count and the \"always\" columns full", 3, 1, CARD_1);
     one[0] = 1;
-    one[1] = one[5] = one[6] = one[7] = 0;
+    put_always(one, 0);
     lend_one(one);
     GIVES("the count and the \"always\" columns empty", 3, 1, CARD_1);
 
@@ -487,32 +616,25 @@ static void no_library(void)
     one[0] = ONES;
     lend_one(one);
     GIVES("ones", 3, 1, 0x303, 0, 7, 7, 7, 0, 0, 0, 7, 7, 7, 7, 7);
-    GIVES("ones, F = 64", 64, 1, 0x4003, 0, ONES, ONES, ONES, 0, 0, 0, ONES,
-          ONES, ONES, ONES, ONES);
+    for (i = 0; i < COUNT(most); i++) {
+        struct column all = facts_below(most[i]);
+        GIVES_WIDE("ones, many facts", most[i], 1,
+                   low_facts(3 + 0x100 * (uint64_t)most[i]), none, all, all,
+                   all, none, none, none, all, all, all, all, all);
+    }
     GIVES("ones, F = 0", 0, 1, 3, 0, 0, 0, 0, 0, 0, 0, 0, 0, 0, 0, 0);
-
-    /* the highest bit */
-    memcpy(one, cards_of_l[0], sizeof one);
-    for (i = 1; i < CARD; i++)
-        one[i] |= UINT64_C(0x8000000000000000);
-    lend_one(one);
-    GIVES("bit 63, F = 3", 3, 1, CARD_0);
-    GIVES("bit 63, F = 64", 64, 1, 0x203, UINT64_C(0x7ffffffffffffff8),
-          UINT64_C(0x8000000000000000), UINT64_C(0x8000000000000001),
-          UINT64_C(0x8000000000000000), UINT64_C(0x7ffffffffffffff8),
-          UINT64_C(0x7ffffffffffffff8), UINT64_C(0x7ffffffffffffff8),
-          UINT64_C(0x8000000000000001), UINT64_C(0x8000000000000007),
-          UINT64_C(0x8000000000000007), UINT64_C(0x8000000000000000),
-          UINT64_C(0x8000000000000007));
+    for (i = 0; i < COUNT(more); i++)
+        one_more_fact(more[i]);
 }
 
 /*
  * Which column lets a bit pass: two cards with a run and one outcome each. The
  * first has the outcome of a side, the second the untouched bit of some side,
- * and then the other way round. Fact 0 alone, F = 1.
+ * and then the other way round. One fact alone, and F is above it.
  */
-static void sides(void)
+static void sides(uint32_t fact)
 {
+    uint64_t bit = UINT64_C(1) << fact % 64;
     static const struct {
         int outcome, rest, first;
     } rules[] = {{2, 9, 1}, {8, 9, 1}, {3, 10, 0}, {4, 10, 0}, {11, 12, 0}};
@@ -528,33 +650,40 @@ static void sides(void)
                 if (rest == 11)
                     continue;
                 given[0][0] = given[1][0] = 1;
-                given[later][outcome] = 1;
-                given[1 - later][rest] = 1;
+                given[later][place_of(outcome, fact)] = bit;
+                given[1 - later][place_of(rest, fact)] = bit;
                 /* the last member passes by itself on the last side, the first
                    one on the first side; the other where the rest is its own */
                 passes = later != rules[i].first || rest == rules[i].rest;
                 lend_cards(given[0], 2);
                 LIST(0, 1);
-                snprintf(name, sizeof name, "word %d %s word %d", outcome,
+                snprintf(name, sizeof name, "column %d %s column %d", outcome,
                          later ? "after" : "before", rest);
-                hold(name, dulimoven_list(1, 2, cards + GUARD, cards_len,
-                                          list + GUARD, list_len, found) == 0 &&
-                               found[outcome] == (uint64_t)passes &&
-                               found[rest] == 0);
+                hold(name,
+                     dulimoven_list((uint64_t)fact + 1, 2, cards + GUARD,
+                                    cards_len, list + GUARD, list_len,
+                                    found) == 0 &&
+                         is_same(column_of(found, outcome),
+                                 passes ? one_fact(fact) : low_facts(0)) &&
+                         is_none(column_of(found, rest)));
             }
 }
 
 int main(void)
 {
-    lists_of_l(39);
-    lists_of_l(45);
+    static const uint32_t facts[] = {0, 63, 64, 127, 128, 191, 192, 255};
+    size_t i;
+    lists_of_l(147);
+    lists_of_l(153);
     other_facts();
     refusals();
     null_pointers();
     many_sequences();
     lists_of_clears();
+    lists_at_borders();
     no_library();
-    sides();
+    for (i = 0; i < COUNT(facts); i++)
+        sides(facts[i]);
     printf("list_test: %u checks, %u failed\n", ran, failed);
     return failed == 0 ? 0 : 1;
 }

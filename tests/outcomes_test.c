@@ -26,6 +26,7 @@
  * that were not reported are all in "it leaves it standing", which is the one
  * outcome without a column.
  */
+#include "columns.h"
 #include "harness.h"
 #include "listed.h"
 #include "samples.h"
@@ -54,7 +55,7 @@ enum { QUESTIONS = 6 };
 
 /* The library under test, and what its sequences are expected to come to. */
 static const char *library;
-static uint64_t due[MOST_C][OUTCOMES];
+static struct column due[MOST_C][OUTCOMES];
 static size_t dues;
 static unsigned libraries;
 
@@ -89,58 +90,75 @@ static void begin(const char *name)
         PUT(__VA_ARGS__);  \
     } while (0)
 
-/* A fact, and all facts below `f`. */
+/* A fact, and all facts below `f`, in a library of up to 64 facts. */
 #define FACT(f) (UINT64_C(1) << (f))
 #define FACTS(f) (~UINT64_C(0) >> (64 - (f)))
 
-static uint64_t all_facts(void)
+static struct column all_facts(void)
 {
-    return FACTS(facts_of(*word_at(0)));
+    return facts_below(facts_of(*word_at(0)));
 }
 
 /*
  * What the next sequence comes to: no run; runs with these outcomes, none of
  * them empty; runs and an empty one. An outcome is said by the facts that it is
- * possible for, bit f for fact f.
+ * possible for: as a number, bit f for fact f, where there are up to 64, and as
+ * a column in a library with more (WIDE_..).
  */
 #define LAST(set, cleared, untouched) set, cleared, untouched
 #define FIRST(needed, set, untouched) needed, set, untouched
 #define STANDS(standing, cleared, unnamed) standing, cleared, unnamed
 
-static void comes_to(const uint64_t *outcomes)
+/* Which runs there are, and what can come of them on the sides. */
+static void comes_to(int run, int empty, const struct column *sides)
 {
-    if (dues < MOST_C)
-        memcpy(due[dues++], outcomes, sizeof due[0]);
+    struct column *next = due[dues];
+    if (dues == MOST_C)
+        return;
+    next[RUN] = run ? all_facts() : low_facts(0);
+    next[EMPTY_RUN] = empty ? all_facts() : low_facts(0);
+    memcpy(next + LAST_SET, sides, (OUTCOMES - LAST_SET) * sizeof *sides);
+    dues++;
 }
 
-#define COMES_TO(...)                                      \
-    do {                                                   \
-        const uint64_t outcomes[OUTCOMES] = {__VA_ARGS__}; \
-        comes_to(outcomes);                                \
+static void low_comes_to(int run, int empty, const uint64_t *sides)
+{
+    struct column wide[OUTCOMES - LAST_SET];
+    int i;
+    for (i = 0; i < OUTCOMES - LAST_SET; i++)
+        wide[i] = low_facts(sides[i]);
+    comes_to(run, empty, wide);
+}
+
+#define COMES_TO(run, empty, ...)                                  \
+    do {                                                           \
+        const uint64_t sides[OUTCOMES - LAST_SET] = {__VA_ARGS__}; \
+        low_comes_to(run, empty, sides);                           \
     } while (0)
 
-#define RUNS(...) COMES_TO(all_facts(), 0, __VA_ARGS__)
-#define RUNS_AND_EMPTY(...) COMES_TO(all_facts(), all_facts(), __VA_ARGS__)
+#define WIDE_COMES_TO(run, empty, ...)                                  \
+    do {                                                                \
+        const struct column sides[OUTCOMES - LAST_SET] = {__VA_ARGS__}; \
+        comes_to(run, empty, sides);                                    \
+    } while (0)
+
+#define RUNS(...) COMES_TO(1, 0, __VA_ARGS__)
+#define RUNS_AND_EMPTY(...) COMES_TO(1, 1, __VA_ARGS__)
+#define WIDE_RUNS(...) WIDE_COMES_TO(1, 0, __VA_ARGS__)
+#define WIDE_RUNS_AND_EMPTY(...) WIDE_COMES_TO(1, 1, __VA_ARGS__)
 
 static void no_run(void)
 {
     COMES_TO(0, 0, LAST(0, 0, 0), FIRST(0, 0, 0), STANDS(0, 0, 0));
 }
 
-static uint64_t ones(uint64_t column)
-{
-    uint64_t count = 0;
-    for (; column != 0; column >>= 1)
-        count += column & 1;
-    return count;
-}
-
 /*
  * The card of a sequence with the outcomes `o`. Document 01, "The card", and
  * document 02, requests 4 and 5:
  *
- * "1. Flags: bit 0, a run exists; bit 1, an empty run exists; bits 8 to 14, the
- * number of facts that are in "may set" or in "may clear"."
+ * "1. Flags: bit 0, a run exists; bit 1, an empty run exists;" and "bits 8 to
+ * 16", by request 8, "the number of facts that are in "may set" or in "may
+ * clear"."
  * "2. Always needed: a run exists, and every run first touches the fact by a
  * need." So no run first sets it, and none leaves it untouched on that side.
  * "3. May need: some run does."
@@ -157,28 +175,38 @@ static uint64_t ones(uint64_t column)
  * Item 4's rule clears it; some run has no such item."
  * Without a run all words are 0: `o` has no fact in any word then.
  */
-static void card_of(const uint64_t *o, uint64_t *card)
+static void card_of(const struct column *o, uint64_t *card)
 {
-    card[0] = (uint64_t)(o[RUN] != 0) | (uint64_t)(o[EMPTY_RUN] != 0) << 1 |
-              ones(o[LAST_SET] | o[LAST_CLEARED]) << 8;
-    card[1] = o[RUN] & ~o[FIRST_SET] & ~o[FIRST_UNTOUCHED];
-    card[2] = o[FIRST_NEEDED];
-    card[3] = o[LAST_SET];
-    card[4] = o[LAST_CLEARED];
-    card[5] = o[RUN] & ~o[LAST_CLEARED] & ~o[LAST_UNTOUCHED];
-    card[6] = o[RUN] & ~o[LAST_SET] & ~o[LAST_UNTOUCHED];
-    card[7] = o[RUN] & ~o[CLEARED] & ~o[UNNAMED];
-    card[8] = o[FIRST_SET];
-    card[9] = o[FIRST_UNTOUCHED];
-    card[10] = o[LAST_UNTOUCHED];
-    card[11] = o[CLEARED];
-    card[12] = o[UNNAMED];
+    struct column changeable = union_of(o[LAST_SET], o[LAST_CLEARED]);
+    struct column numbers[NUMBERS];
+    numbers[0] = low_facts((uint64_t)!is_none(o[RUN]) |
+                           (uint64_t)!is_none(o[EMPTY_RUN]) << 1 |
+                           count_facts(changeable) << 8);
+    numbers[1] = without(without(o[RUN], o[FIRST_SET]), o[FIRST_UNTOUCHED]);
+    numbers[2] = o[FIRST_NEEDED];
+    numbers[3] = o[LAST_SET];
+    numbers[4] = o[LAST_CLEARED];
+    numbers[5] = without(without(o[RUN], o[LAST_CLEARED]), o[LAST_UNTOUCHED]);
+    numbers[6] = without(without(o[RUN], o[LAST_SET]), o[LAST_UNTOUCHED]);
+    numbers[7] = without(without(o[RUN], o[CLEARED]), o[UNNAMED]);
+    numbers[8] = o[FIRST_SET];
+    numbers[9] = o[FIRST_UNTOUCHED];
+    numbers[10] = o[LAST_UNTOUCHED];
+    numbers[11] = o[CLEARED];
+    numbers[12] = o[UNNAMED];
+    lay_out(numbers, card);
 }
 
-/* Whether a word has no fact but those of another. */
-static int within(uint64_t word, uint64_t other)
+/* Whether the three outcomes of a side are those of the runs. */
+static int sum_up(const struct column *o, int one, int other, int third)
 {
-    return (word & ~other) == 0;
+    return is_same(union_of(union_of(o[one], o[other]), o[third]), o[RUN]);
+}
+
+/* Whether each fact of an outcome is in one of two others. */
+static int is_one_of(struct column x, struct column one, struct column other)
+{
+    return is_within(x, union_of(one, other));
 }
 
 /*
@@ -188,13 +216,14 @@ static int within(uint64_t word, uint64_t other)
  * which a fact stands needs or sets it, so that it does not leave it on the
  * first side.
  */
-static int named_right(const uint64_t *o)
+static int named_right(const struct column *o)
 {
-    return (o[STANDING] | o[CLEARED] | o[UNNAMED]) == o[RUN] &&
-           within(o[LAST_SET], o[STANDING]) &&
-           within(o[CLEARED], o[LAST_CLEARED]) &&
-           within(o[UNNAMED], o[LAST_UNTOUCHED] & o[FIRST_UNTOUCHED]) &&
-           within(o[STANDING], o[FIRST_NEEDED] | o[FIRST_SET]);
+    return sum_up(o, STANDING, CLEARED, UNNAMED) &&
+           is_within(o[LAST_SET], o[STANDING]) &&
+           is_within(o[CLEARED], o[LAST_CLEARED]) &&
+           is_within(o[UNNAMED], o[LAST_UNTOUCHED]) &&
+           is_within(o[UNNAMED], o[FIRST_UNTOUCHED]) &&
+           is_one_of(o[STANDING], o[FIRST_NEEDED], o[FIRST_SET]);
 }
 
 /*
@@ -203,15 +232,15 @@ static int named_right(const uint64_t *o)
  * side, and on the first side needs it or leaves it. So none has a fact from F
  * up.
  */
-static int possible(const uint64_t *o)
+static int possible(const struct column *o)
 {
-    return (o[RUN] == 0 || o[RUN] == all_facts()) &&
-           (o[EMPTY_RUN] == 0 || o[EMPTY_RUN] == o[RUN]) &&
-           (o[LAST_SET] | o[LAST_CLEARED] | o[LAST_UNTOUCHED]) == o[RUN] &&
-           (o[FIRST_NEEDED] | o[FIRST_SET] | o[FIRST_UNTOUCHED]) == o[RUN] &&
-           within(o[EMPTY_RUN], o[LAST_UNTOUCHED]) &&
-           within(o[EMPTY_RUN], o[FIRST_NEEDED] | o[FIRST_UNTOUCHED]) &&
-           within(o[EMPTY_RUN], o[STANDING] | o[UNNAMED]) && named_right(o);
+    return (is_none(o[RUN]) || is_same(o[RUN], all_facts())) &&
+           (is_none(o[EMPTY_RUN]) || is_same(o[EMPTY_RUN], o[RUN])) &&
+           sum_up(o, LAST_SET, LAST_CLEARED, LAST_UNTOUCHED) &&
+           sum_up(o, FIRST_NEEDED, FIRST_SET, FIRST_UNTOUCHED) &&
+           is_within(o[EMPTY_RUN], o[LAST_UNTOUCHED]) &&
+           is_one_of(o[EMPTY_RUN], o[FIRST_NEEDED], o[FIRST_UNTOUCHED]) &&
+           is_one_of(o[EMPTY_RUN], o[STANDING], o[UNNAMED]) && named_right(o);
 }
 
 /* The card area, with guard words on both sides. */
@@ -231,8 +260,9 @@ static void compare_card(size_t c)
 {
     const uint64_t *found = card_area + GUARD + DULIMOVEN_CARD_WORDS * c;
     uint64_t card[DULIMOVEN_CARD_WORDS];
-    uint64_t columns = 0;
+    struct column columns = low_facts(0);
     size_t i;
+    int column;
     card_of(due[c], card);
     for (i = 0; i < DULIMOVEN_CARD_WORDS; i++) {
         ran++;
@@ -241,11 +271,11 @@ static void compare_card(size_t c)
         differs();
         printf("sequence %u, word %u of the card: expected %" PRIx64
                ", found %" PRIx64 "\n",
-               (unsigned)c, (unsigned)i + 1, card[i], found[i]);
+               (unsigned)c, (unsigned)i, card[i], found[i]);
     }
-    for (i = 1; i < DULIMOVEN_CARD_WORDS; i++)
-        columns |= found[i];
-    holds("a card has a fact from F up", (columns & ~all_facts()) == 0);
+    for (column = 1; column < NUMBERS; column++)
+        columns = union_of(columns, column_of(found, column));
+    holds("a card has a fact from F up", is_within(columns, all_facts()));
 }
 
 /* Compares the cards of all sequences, in an area of just their words. */
@@ -274,7 +304,7 @@ static void compare_cards(void)
 static void ask(size_t c, uint64_t question, uint64_t fact)
 {
     uint32_t chain[DULIMOVEN_MOST_CHAIN_WORDS];
-    int some = (due[c][LAST_SET + question] & FACT(fact)) != 0;
+    int some = is_in((uint32_t)fact, due[c][LAST_SET + question]);
     uint64_t answer = dulimoven_chain(area + GUARD, words, c, question, fact,
                                       chain, DULIMOVEN_LINK_WORDS * dues);
     ran++;
@@ -289,12 +319,13 @@ static void ask(size_t c, uint64_t question, uint64_t fact)
 
 /*
  * All six questions about each fact, asked of each sequence. Where that were
- * tens of thousands they are asked of the first, the last and one in 37.
+ * tens of thousands, and there are more than eight sequences, they are asked of
+ * the first, the last and one in 37.
  */
 static void ask_all(void)
 {
     uint32_t facts = facts_of(*word_at(0));
-    size_t apart = dues * facts <= 512 ? 1 : 37;
+    size_t apart = dues * facts <= 512 || dues <= 8 ? 1 : 37;
     size_t c;
     uint64_t question;
     uint64_t fact;
@@ -332,7 +363,7 @@ static void ask_why_all(void)
 {
     uint32_t c;
     for (c = 0; c < dues; c++)
-        runs[c] = due[c][RUN] != 0;
+        runs[c] = !is_none(due[c][RUN]);
     for (c = 0; c < dues; c++)
         ask_why(c);
 }
@@ -382,6 +413,7 @@ static void judge(void)
 #include "outcomes/past.h"
 #include "outcomes/steps.h"
 #include "outcomes/untouched.h"
+#include "outcomes/wide.h"
 
 int main(void)
 {
@@ -392,6 +424,9 @@ int main(void)
     calls();
     facts();
     checks();
+    wide();
+    wide_blocks();
+    wide_rings();
     calls_in_a_row();
     neighbours();
     rings();

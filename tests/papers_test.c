@@ -48,10 +48,11 @@ static void domain(uint32_t facts, uint32_t all_actions, uint32_t all_compounds)
     actions = compounds = 0;
 }
 
+/* No paper's example has a fact above 63. */
 static void facts(uint32_t kind, uint64_t column)
 {
     uint32_t f;
-    for (f = 0; f < MOST_FACTS; f++)
+    for (f = 0; f < WORD_FACTS; f++)
         if (column & FACT(f))
             image_put(&image, kind, f);
 }
@@ -102,7 +103,8 @@ static void fill(const char *name)
     }
 }
 
-/* A card as it is to be, with the words in the order of documents 01 and 02. */
+/* A card as it is to be, with the numbers in the order of documents 01 and
+ * 02. */
 struct card {
     uint64_t flags, always_needed, may_need, may_set, may_clear, always_set,
         always_cleared, always_stands, may_first_set, may_first_untouched,
@@ -115,48 +117,54 @@ static uint64_t flags(uint64_t changeable)
     return DULIMOVEN_FLAG_RUN | changeable << DULIMOVEN_FLAG_COUNT_SHIFT;
 }
 
-static void word_is(const char *name, const char *engine, int column,
-                    uint64_t word, uint64_t expected)
+/* The flags, or a column: its first word, and no fact in the other three. */
+static void number_is(const char *name, const char *engine,
+                      const uint64_t *card, int part, uint64_t expected)
 {
+    const uint64_t *word = part == DULIMOVEN_FLAGS
+                               ? card
+                               : dulimoven_column(card, part);
     ran++;
-    if (word == expected)
+    if (word[0] == expected &&
+        (part == DULIMOVEN_FLAGS || (word[1] | word[2] | word[3]) == 0))
         return;
     failed++;
-    printf("%s, %s, word %d: %" PRIx64 ", and not %" PRIx64 "\n", name, engine,
-           column, word, expected);
+    printf("%s, %s, number %d: %" PRIx64 ", and not %" PRIx64
+           ", or a fact above 63\n",
+           name, engine, part + 1, word[0], expected);
 }
 
 static void engine_card_is(const char *name, const char *engine,
                            const uint64_t *card, const struct card *expected)
 {
-    word_is(name, engine, 1, card[DULIMOVEN_FLAGS], expected->flags);
-    word_is(name, engine, 2, card[DULIMOVEN_ALWAYS_NEEDED],
-            expected->always_needed);
-    word_is(name, engine, 3, card[DULIMOVEN_MAY_NEED], expected->may_need);
-    word_is(name, engine, 4, card[DULIMOVEN_MAY_SET], expected->may_set);
-    word_is(name, engine, 5, card[DULIMOVEN_MAY_CLEAR], expected->may_clear);
-    word_is(name, engine, 6, card[DULIMOVEN_ALWAYS_SET], expected->always_set);
-    word_is(name, engine, 7, card[DULIMOVEN_ALWAYS_CLEARED],
-            expected->always_cleared);
-    word_is(name, engine, 8, card[DULIMOVEN_ALWAYS_STANDS],
-            expected->always_stands);
+    number_is(name, engine, card, DULIMOVEN_FLAGS, expected->flags);
+    number_is(name, engine, card, DULIMOVEN_ALWAYS_NEEDED,
+              expected->always_needed);
+    number_is(name, engine, card, DULIMOVEN_MAY_NEED, expected->may_need);
+    number_is(name, engine, card, DULIMOVEN_MAY_SET, expected->may_set);
+    number_is(name, engine, card, DULIMOVEN_MAY_CLEAR, expected->may_clear);
+    number_is(name, engine, card, DULIMOVEN_ALWAYS_SET, expected->always_set);
+    number_is(name, engine, card, DULIMOVEN_ALWAYS_CLEARED,
+              expected->always_cleared);
+    number_is(name, engine, card, DULIMOVEN_ALWAYS_STANDS,
+              expected->always_stands);
 }
 
-/* The words that the second engine does not have. */
-static void last_words_are(const char *name, const uint64_t *card,
-                           const struct card *expected)
+/* The columns that the second engine does not have. */
+static void last_columns_are(const char *name, const uint64_t *card,
+                             const struct card *expected)
 {
     const char *engine = "the card call";
-    word_is(name, engine, 9, card[DULIMOVEN_MAY_FIRST_SET],
-            expected->may_first_set);
-    word_is(name, engine, 10, card[DULIMOVEN_MAY_FIRST_UNTOUCHED],
-            expected->may_first_untouched);
-    word_is(name, engine, 11, card[DULIMOVEN_MAY_LAST_UNTOUCHED],
-            expected->may_last_untouched);
-    word_is(name, engine, 12, card[DULIMOVEN_MAY_END_CLEARED],
-            expected->may_end_cleared);
-    word_is(name, engine, 13, card[DULIMOVEN_MAY_END_UNMENTIONED],
-            expected->may_end_unmentioned);
+    number_is(name, engine, card, DULIMOVEN_MAY_FIRST_SET,
+              expected->may_first_set);
+    number_is(name, engine, card, DULIMOVEN_MAY_FIRST_UNTOUCHED,
+              expected->may_first_untouched);
+    number_is(name, engine, card, DULIMOVEN_MAY_LAST_UNTOUCHED,
+              expected->may_last_untouched);
+    number_is(name, engine, card, DULIMOVEN_MAY_END_CLEARED,
+              expected->may_end_cleared);
+    number_is(name, engine, card, DULIMOVEN_MAY_END_UNMENTIONED,
+              expected->may_end_unmentioned);
 }
 
 /* The card of compound task number c, counted from 1. */
@@ -165,7 +173,7 @@ static void card_is(const char *name, uint32_t c, struct card expected)
     size_t at = (size_t)DULIMOVEN_CARD_WORDS * (c - 1);
     engine_card_is(name, "the card call", cards + at, &expected);
     engine_card_is(name, "the second engine", second + at, &expected);
-    last_words_are(name, cards + at, &expected);
+    last_columns_are(name, cards + at, &expected);
 }
 
 /*

@@ -5,6 +5,7 @@
  * C++17. A change of the format is made in the words' names, and what this
  * program then writes replaces the files of examples/.
  */
+#include "borders.h"
 #include "harness.h"
 #include "samples.h"
 #include "setup.h"
@@ -211,19 +212,60 @@ static void twelve_image(void)
 }
 
 /*
- * As many sequences as there can be, each with an alternative that sets fact 63
- * of 64, one that clears it, one that needs it, and an empty one.
+ * As many sequences as the printing program has room for, of one step that
+ * needs fact 255, sets 0 to 199 and 254 and clears 253: each column has one of
+ * the facts 252 to 255, so that it prints 64 digits.
  */
+enum { PRINTED = 160 };
+
 static void full_image(void)
+{
+    uint32_t c, f;
+    start();
+    PUT(HEAD(256, 1, PRINTED), STEP(0), NEEDS(255));
+    for (f = 0; f < 200; f++)
+        put(SETS(f));
+    PUT(SETS(254), CLEARS(253));
+    for (c = 0; c < PRINTED; c++)
+        PUT(SEQUENCE(c), ALTERNATIVE, DO(0));
+    put_sum();
+    write_image("full");
+}
+
+/* Sequences without an alternative: as many as it has room for, one more, and
+ * as many as there can be. */
+static void blank_image(const char *name, uint32_t sequences)
 {
     uint32_t c;
     start();
-    PUT(HEAD(64, 3, 256), STEP(0), SETS(63), STEP(1), CLEARS(63), STEP(2),
-        NEEDS(63));
-    for (c = 0; c < 256; c++)
-        PUT(SEQUENCE(c), TAKES(DO(0)), TAKES(DO(1)), TAKES(DO(2)), ALTERNATIVE);
+    put(HEAD(1, 0, sequences));
+    for (c = 0; c < sequences; c++)
+        put(SEQUENCE(c));
     put_sum();
-    write_image("full");
+    write_image(name);
+}
+
+static void blank_images(void)
+{
+    blank_image("blank", PRINTED);
+    blank_image("more", PRINTED + 1);
+    blank_image("most", MOST_C);
+}
+
+/*
+ * 200 facts, of which sequence c is a check of fact 64 * c + 5; the last one is
+ * of fact 197. So a column has one bit, in its first word, its second and so
+ * on, and what follows it is zeros.
+ */
+static void digits_image(void)
+{
+    uint32_t c;
+    start();
+    put(HEAD(200, 0, 4));
+    for (c = 0; c < 4; c++)
+        PUT(SEQUENCE(c), TAKES(CHECK(64 * c + 5)));
+    put_sum();
+    write_image("digits");
 }
 
 int main(int count, char **arguments)
@@ -235,6 +277,8 @@ int main(int count, char **arguments)
     folder = arguments[1];
     build(library_l, L_SUM);
     write_image("l");
+    build_borders();
+    write_image("borders");
     write_setup();
     write_poll();
     write_calls();
@@ -244,5 +288,7 @@ int main(int count, char **arguments)
     letters_image();
     twelve_image();
     full_image();
+    blank_images();
+    digits_image();
     return failed == 0 ? 0 : 1;
 }

@@ -19,9 +19,9 @@
 #include <pthread.h>
 #include <stdlib.h>
 
-/* What is measured: a call, for a chain with its question, for a list with its
- * length and the sequences that there are, for why there is no run with the
- * sequence. */
+/* What is measured: a call, for a chain with its question and its fact, for a
+ * list with its length and the sequences that there are, for why there is no
+ * run with the sequence. */
 enum call {
     CHECK_CALL,
     CARDS_CALL,
@@ -32,6 +32,7 @@ enum call {
 };
 static enum call measured;
 static uint64_t question;
+static uint64_t fact;
 static uint64_t sequences;
 static size_t members;
 static uint64_t asked;
@@ -46,8 +47,16 @@ static const struct {
                   {"dulimoven_endless", DULIMOVEN_STACK_ENDLESS}};
 static size_t most_taken[CALLS];
 
+/* The library clears words by memset. With AddressSanitizer that is its own,
+ * and takes some 2 KiB of the stack, which are no part of a call's number. */
+#ifdef __SANITIZE_ADDRESS__
+enum { MEMSET_TAKES = 4096 };
+#else
+enum { MEMSET_TAKES = 0 };
+#endif
+
 /* Calls on the image under test, a list on the cards that were filled last. A
- * chain is asked about sequence and fact 0. */
+ * chain is asked about sequence 0. */
 static void make_call(void)
 {
     static uint64_t cards[DULIMOVEN_MOST_CARD_WORDS];
@@ -66,7 +75,7 @@ static void make_call(void)
     else if (measured == ENDLESS_CALL)
         dulimoven_endless(image, words, asked, why, COUNT(why));
     else
-        dulimoven_chain(image, words, 0, question, 0, chain, COUNT(chain));
+        dulimoven_chain(image, words, 0, question, fact, chain, COUNT(chain));
 }
 
 /*
@@ -121,7 +130,8 @@ static void measure_calls(void)
     measure_in_thread();
     measured = CHAIN_CALL;
     for (question = 0; question <= DULIMOVEN_FIRST_UNTOUCHED; question++)
-        measure_in_thread();
+        for (fact = 0; fact < MOST_F; fact += MOST_F - 1)
+            measure_in_thread();
     measured = LIST_CALL;
     sequences = MOST_C;
     for (members = 0; members <= 1; members++)
@@ -246,7 +256,7 @@ int main(void)
            they are hide it */
         hold(calls[call].name,
              (most_taken[call] > FRAME || call == LIST_CALL) &&
-                 most_taken[call] <= calls[call].allowed);
+                 most_taken[call] <= calls[call].allowed + MEMSET_TAKES);
     }
     free(stack);
     printf("stack_test: %u checks, %u failed\n", ran, failed);

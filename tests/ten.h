@@ -6,7 +6,7 @@
  *
  * The sum word: taken 44 times for the head, 43 times for the next word and so
  * on to once for the last, the payloads after the head's add up to 1583, and
- * the kinds to 6881: 44 * 0x280081 + 1583 + 1024 * 6881 = 0x74ba05b.
+ * the kinds to 6881: 44 * 0x500201 + 1583 + 1024 * 6881 = 0xe2be25b.
  */
 #ifndef DULIMOVEN_TESTS_TEN_H
 #define DULIMOVEN_TESTS_TEN_H
@@ -15,14 +15,14 @@
 
 enum { TEN = 10, TEN_SUM = 44 };
 static const uint32_t ten[] = {
-    0x10280081, 0x50000000, 0x30000000, 0x60000000, 0x70000000, 0x90000003,
+    0x10500201, 0x50000000, 0x30000000, 0x60000000, 0x70000000, 0x90000003,
     0x80000000, 0x70000000, 0x80000000, 0x90000001, 0x60000001, 0x70000000,
     0x90000000, 0x60000002, 0x70000000, 0x90000002, 0x70000000, 0x60000003,
     0x60000004, 0x70000000, 0x90000002, 0x90000004, 0x60000005, 0x70000000,
     0x90000006, 0x90000005, 0x60000006, 0x70000000, 0x90000007, 0x70000000,
     0xd0000000, 0x60000007, 0x70000000, 0x90000007, 0x60000008, 0x70000000,
     0x90000009, 0x90000001, 0x60000009, 0x70000000, 0x90000003, 0x70000000,
-    0x90000007, 0x80000000, 0xf74ba05b};
+    0x90000007, 0x80000000, 0xfe2be25b};
 
 /* The same words by name, without the sum word. */
 #define TEN_WORDS                                                             \

@@ -14,11 +14,11 @@
 
 /* The libraries: L, a ring of sequences, each of which calls the next or does a
  * step, and the same ring without the steps, so that none has a run. */
-enum { LIBRARIES = 3, RING = 100, RING_WORDS = 5 + 5 * RING + 1, BEGINS = 16 };
+enum { LIBRARIES = 3, RING = 100, RING_WORDS = 7 + 5 * RING + 1, BEGINS = 16 };
 static struct library {
     uint32_t image[RING_WORDS];
     size_t words;
-    uint64_t sequences;
+    uint64_t facts, sequences;
 } libraries[LIBRARIES];
 
 /* What a thread lends to the calls: from word `begin` of each array on. */
@@ -54,7 +54,7 @@ static uint64_t lists(const struct library *library, struct lent *lent)
             for (j = 0; j < lengths[i]; j++)
                 list[j] = (uint32_t)((first + j) % library->sequences);
             fold = folded(fold,
-                          dulimoven_list(1, library->sequences,
+                          dulimoven_list(library->facts, library->sequences,
                                          lent->cards + lent->begin,
                                          library->sequences *
                                              DULIMOVEN_CARD_WORDS,
@@ -103,8 +103,10 @@ static uint64_t answers(const uint32_t *image, const struct library *library,
     fold = folded(fold, reasons(image, library, lent));
     for (sequence = 0; sequence < library->sequences; sequence++)
         for (question = 0; question <= DULIMOVEN_FIRST_UNTOUCHED; question++) {
+            /* the first fact and the last by turns */
             answer = dulimoven_chain(image, library->words, sequence, question,
-                                     0, chain, chain_words);
+                                     sequence % 2 * (library->facts - 1), chain,
+                                     chain_words);
             fold = folded(fold, answer);
             for (i = 0; i < answer * DULIMOVEN_LINK_WORDS && i < chain_words;
                  i++)
@@ -150,19 +152,23 @@ static void take(struct library *library)
          !dulimoven_is_refusal(accepted) && words <= RING_WORDS);
     memcpy(library->image, area + GUARD, words * sizeof area[0]);
     library->words = words;
+    library->facts = dulimoven_facts(accepted);
     library->sequences = dulimoven_sequences(accepted);
 }
 
-/* Sequence c is <sequence c + 1> or <step c % 2>; step 0 sets, 1 clears. Where
- * there is no way out, it is the first of these alone. */
+/* Sequence c is <sequence c + 1> or <step c % 2>; of 200 facts step 0 sets 0
+ * and 199, 1 clears 0 and sets 130. Where there is no way out, it is the first
+ * of these alone. */
 static void build_ring(int way_out)
 {
     uint32_t c;
     start();
-    put(HEAD(1, 2, RING));
+    put(HEAD(200, 2, RING));
     put(STEP(0));
     put(SETS(0));
+    put(SETS(199));
     put(STEP(1));
+    put(SETS(130));
     put(CLEARS(0));
     for (c = 0; c < RING; c++) {
         put(SEQUENCE(c));

@@ -1,6 +1,6 @@
 /*
  * Long libraries: as many sequences as there can be, 256, which call one
- * another, 8,192 words, 1,024 steps.
+ * another, 8,192 words, 1,023 steps.
  */
 enum { TOP = MOST_C - 1, HALF = MOST_C / 2 };
 
@@ -225,7 +225,7 @@ static void endless_many(void)
     judge();
 }
 
-/* 8,192 words, and 1,024 steps. */
+/* 8,192 words, and 1,023 steps. */
 static void full_images(void)
 {
     uint32_t a;
@@ -255,15 +255,15 @@ static void full_images(void)
     RUNS(LAST(0, 1, 2), FIRST(3, 0, 0), STANDS(3, 0, 0));
     judge();
 
-    begin("1,023 steps that clear, and the last one sets");
+    begin("1,022 steps that clear, and the last one sets");
     put(HEAD(1, MOST_A, 2));
     for (a = 0; a < MOST_A; a++)
         PUT(STEP(a), a < MOST_A - 1 ? CLEARS(0) : SETS(0));
     PUT(SEQUENCE(0), ALTERNATIVE, DO(MOST_A - 1));
-    /* <1023>: set */
+    /* <1022>: set */
     RUNS(LAST(1, 0, 0), FIRST(0, 1, 0), STANDS(1, 0, 0));
     PUT(SEQUENCE(1), ALTERNATIVE, DO(MOST_A - 2), ALTERNATIVE, CALL(0));
-    /* <1022>: cleared, and <1023> */
+    /* <1021>: cleared, and <1022> */
     RUNS(LAST(1, 1, 0), FIRST(0, 1, 1), STANDS(1, 1, 0));
     judge();
 }

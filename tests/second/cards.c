@@ -68,7 +68,8 @@ static void put_fact(uint64_t *area, const struct domain *d, int column,
     uint32_t c;
     for (c = 0; c < d->compounds; c++)
         if (has(s, c))
-            area[DULIMOVEN_CARD_WORDS * c + column] |= UINT64_C(1) << f;
+            area[CARD_WORDS * c + place_of(column, f)] |= UINT64_C(1)
+                                                          << f % WORD_FACTS;
 }
 
 /*
@@ -99,8 +100,9 @@ static void put_columns(uint64_t *area, const struct domain *d, uint32_t f,
 
 static void put_flags(uint64_t *card, int run, int empty_run)
 {
-    uint64_t changeable = card[DULIMOVEN_MAY_SET] | card[DULIMOVEN_MAY_CLEAR];
-    uint64_t count = (uint64_t)__builtin_popcountll(changeable);
+    struct column set = column_of(card, DULIMOVEN_MAY_SET);
+    struct column cleared = column_of(card, DULIMOVEN_MAY_CLEAR);
+    uint64_t count = count_facts(union_of(set, cleared));
     card[DULIMOVEN_FLAGS] = (run ? DULIMOVEN_FLAG_RUN : 0) |
                             (empty_run ? DULIMOVEN_FLAG_EMPTY_RUN : 0) |
                             count << DULIMOVEN_FLAG_COUNT_SHIFT;
@@ -117,7 +119,7 @@ static void write_cards(const uint32_t *image, size_t length, uint64_t *area)
     uint32_t c, f;
     read_domain(image, length, &d);
     for (c = 0; c < d.compounds; c++)
-        memset(area + DULIMOVEN_CARD_WORDS * c, 0, SECOND_WORDS * sizeof *area);
+        memset(area + CARD_WORDS * c, 0, SECOND_WORDS * sizeof *area);
     find_terminating(&d, &terminating);
     remove_endless(&d, &terminating);
     find_empty(&d, &empty);
@@ -130,8 +132,7 @@ static void write_cards(const uint32_t *image, size_t length, uint64_t *area)
         put_columns(area, &d, f, &p, &e, &s);
     }
     for (c = 0; c < d.compounds; c++)
-        put_flags(area + DULIMOVEN_CARD_WORDS * c, has(&terminating, c),
-                  has(&empty, c));
+        put_flags(area + CARD_WORDS * c, has(&terminating, c), has(&empty, c));
 }
 
 uint64_t second_cards(const uint32_t *image, size_t image_len, uint64_t *area,
@@ -140,7 +141,7 @@ uint64_t second_cards(const uint32_t *image, size_t image_len, uint64_t *area,
     uint64_t answer = second_check(image, image_len);
     if (dulimoven_is_refusal(answer))
         return answer;
-    if (area_len < (size_t)DULIMOVEN_CARD_WORDS * sequences_of(image[0]))
+    if (area_len < (size_t)CARD_WORDS * sequences_of(image[0]))
         return (uint64_t)DULIMOVEN_CARD_AREA << 32;
     write_cards(image, image_len, area);
     return sequences_of(image[0]);

@@ -12,14 +12,14 @@ static uint64_t refusal(uint64_t number, size_t position)
 }
 
 /*
- * How far the words between head and sum word are read. `sets` has the facts
- * that the words since the last step's opener set, bit f for fact f.
+ * How far the words between head and sum word are read. `set_by` has of each
+ * fact how many steps were opened when a word last set it, 0 where none did.
  */
 struct reading {
     uint32_t facts, steps, sequences;
     uint32_t opened_steps, opened_sequences;
     uint32_t before;
-    uint64_t sets;
+    uint32_t set_by[MOST_FACTS];
 };
 
 /* Rule 4: whether a word of this kind may stand here. */
@@ -77,7 +77,8 @@ static int ascends(const struct reading *r, uint32_t word)
  */
 static int clears_what_is_set(const struct reading *r, uint32_t word)
 {
-    return kind_of(word) == KIND_CLEARS && (r->sets >> payload_of(word) & 1u);
+    return kind_of(word) == KIND_CLEARS &&
+           r->set_by[payload_of(word)] == r->opened_steps;
 }
 
 /* The first of 4, 5, 6 and 13 that applies to a word, or 0. */
@@ -101,10 +102,9 @@ static void read_word(struct reading *r, uint32_t word)
     switch (kind_of(word)) {
     case KIND_STEP:
         r->opened_steps++;
-        r->sets = 0;
         break;
     case KIND_SETS:
-        r->sets |= UINT64_C(1) << payload_of(word);
+        r->set_by[payload_of(word)] = r->opened_steps;
         break;
     case KIND_SEQUENCE:
         r->opened_sequences++;
@@ -128,12 +128,11 @@ static int sum_right(const uint32_t *image, size_t length)
     return image[length - 1] == word_of(KIND_SUM, payload_of(b));
 }
 
+/* Every number of steps that a head can hold is right. */
 static int head_right(uint32_t head)
 {
-    return head == head_word(facts_of(head), steps_of(head),
-                             sequences_of(head)) &&
-           facts_of(head) >= LEAST_FACTS && facts_of(head) <= MOST_FACTS &&
-           steps_of(head) <= MOST_STEPS &&
+    return kind_of(head) == KIND_HEAD && facts_of(head) >= LEAST_FACTS &&
+           facts_of(head) <= MOST_FACTS &&
            sequences_of(head) <= MOST_SEQUENCES;
 }
 
@@ -142,7 +141,7 @@ static uint64_t read_words(const uint32_t *image, size_t length)
 {
     uint32_t head = image[0];
     struct reading r = {facts_of(head), steps_of(head), sequences_of(head),
-                        0, 0, head, 0};
+                        0, 0, head, {0}};
     uint64_t number;
     size_t i;
     for (i = 1; i + 1 < length; i++) {

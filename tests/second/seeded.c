@@ -68,7 +68,7 @@ static const struct kind kinds[SEEDED_KINDS] = {
      {1, 0}, {3, 0}, {500, 0}, {16, 0}, {0, 4}, {1, 30}, ANY},
     {"one fact", {1, 0}, {1, 5}, {1, 4}, {12, 0},
      {0, 0}, {2, 0}, {3, 0}, {8, 0}, {0, 8}, {24, 0}, ANY},
-    {"most facts", {MOST_FACTS, 0}, {1, 5}, {1, 4}, {12, 0},
+    {"64 facts", {64, 0}, {1, 5}, {1, 4}, {12, 0},
      {0, 0}, {2, 0}, {3, 0}, {8, 0}, {0, 16}, {24, 0}, ANY},
     {"ties", {1, 2}, {1, 4}, {1, 3}, {30, 20},
      {1, 0}, {2, 0}, {3, 0}, {8, 0}, {0, 8}, {24, 0}, ANY},
@@ -78,7 +78,7 @@ static const struct kind kinds[SEEDED_KINDS] = {
      {1, 0}, {1, 0}, {4, 0}, {1, 0}, {0, 0}, {63, 0}, NEXT},
     {"very deep, calling the one before", {2, 0}, {12, 0}, {205, 51}, {0, 0},
      {1, 0}, {1, 0}, {4, 0}, {1, 0}, {0, 0}, {63, 0}, BEFORE},
-    {"large, most facts", {MOST_FACTS, 0}, {64, 64}, {MOST_SEQUENCES, 0},
+    {"large, 64 facts", {64, 0}, {64, 64}, {MOST_SEQUENCES, 0},
      {1, 0}, {0, 0}, {4, 0}, {10, 0}, {4, 0}, {0, 8}, {20, 0}, ANY},
     {"checks", {1, 2}, {0, 4}, {1, 5}, {4, 20},
      {0, 1}, {1, 2}, {1, 3}, {8, 0}, {16, 32}, {16, 32}, ANY},
@@ -130,15 +130,15 @@ static void put_facts(struct seed *seed, const struct shape *s, uint32_t a,
                       struct image *image)
 {
     uint32_t of = s->touching == 0 && a == 0 ? 48 : s->touching;
-    uint64_t sets = 0;
+    unsigned char sets[MOST_FACTS] = {0};
     uint32_t kind, f;
     for (kind = KIND_NEEDS; kind <= KIND_CLEARS; kind++)
         for (f = 0; f < s->facts; f++) {
             if (!chance(seed, of) || image->length >= FACTS_END)
                 continue;
             if (kind == KIND_SETS)
-                sets |= UINT64_C(1) << f;
-            if (kind != KIND_CLEARS || !(sets >> f & 1u))
+                sets[f] = 1;
+            if (kind != KIND_CLEARS || !sets[f])
                 image_put(image, kind, f);
         }
 }
@@ -222,18 +222,42 @@ static void put_sequence(struct seed *seed, const struct shape *s, uint32_t c,
         put_alternative(seed, s, c, image);
 }
 
+/* Writes a library of a shape. */
+static void make_shape(struct seed *seed, const struct shape *s,
+                       struct image *image)
+{
+    uint32_t a, c;
+    image_begin(image, s->facts, s->steps, s->sequences);
+    for (a = 0; a < s->steps; a++) {
+        image_put(image, KIND_STEP, a);
+        put_facts(seed, s, a, image);
+    }
+    for (c = 0; c < s->sequences; c++)
+        put_sequence(seed, s, c, image);
+    image_end(image);
+}
+
 void make_library(struct seed *seed, unsigned kind, struct image *image)
 {
     struct shape s = draw_shape(seed, &kinds[kind]);
-    uint32_t a, c;
-    image_begin(image, s.facts, s.steps, s.sequences);
-    for (a = 0; a < s.steps; a++) {
-        image_put(image, KIND_STEP, a);
-        put_facts(seed, &s, a, image);
-    }
-    for (c = 0; c < s.sequences; c++)
-        put_sequence(seed, &s, c, image);
-    image_end(image);
+    make_shape(seed, &s, image);
+}
+
+/* A number of facts: any, or half of the times one beside a multiple of 64. */
+static uint32_t draw_facts(struct seed *seed)
+{
+    struct range any = {LEAST_FACTS, MOST_FACTS - LEAST_FACTS};
+    uint32_t border = 64 + 64 * draw(seed, 4), beside = draw(seed, 3);
+    if (chance(seed, 32))
+        return draw_from(seed, any);
+    return border == MOST_FACTS ? border - beside : border + 1 - beside;
+}
+
+void make_wide_library(struct seed *seed, unsigned kind, struct image *image)
+{
+    struct shape s = draw_shape(seed, &kinds[kind]);
+    s.facts = draw_facts(seed);
+    make_shape(seed, &s, image);
 }
 
 /* The position of the set word before which there are `before`, or 0. */

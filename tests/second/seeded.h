@@ -12,9 +12,9 @@
  * Small and large libraries; such as call themselves, each other, the next
  * sequence or the one before; endless and deep ones; with many empty
  * alternatives, or with alternatives of hundreds of entries; with one fact and
- * with as many as there can be; with steps that need and set, or need and
- * clear, the same fact; with many checks; with many sequences that have no run
- * and reach each other. No step clears a fact that it sets.
+ * with 64 of them; with steps that need and set, or need and clear, the same
+ * fact; with many checks; with many sequences that have no run and reach each
+ * other. No step clears a fact that it sets.
  */
 enum { SEEDED_KINDS = 17 };
 
@@ -30,6 +30,12 @@ uint32_t draw(struct seed *seed, uint32_t below);
 
 /* Writes a library of a kind. */
 void make_library(struct seed *seed, unsigned kind, struct image *image);
+
+/*
+ * The same with another number of facts, up to as many as there can be, and
+ * often one beside a multiple of 64.
+ */
+void make_wide_library(struct seed *seed, unsigned kind, struct image *image);
 
 /*
  * Writes a library with a pulse: a copy in which a step also clears a fact that

@@ -27,8 +27,9 @@ use Rattle.library.proofs.Accepted.{counted}
 use Rattle.runs.specs.Possible.{possible, hasRun}
 use Rattle.runs.proofs.Columns.{noRun-iff}
 use Rattle.runs.proofs.Outcome.{present≢untouched}
-use Rattle.cards.specs.Area.{partWord}
-use Rattle.cards.specs.Layout.{CardColumn, always-stands, place, cardWords}
+use Rattle.cards.specs.Area.{partWord, partNumber}
+use Rattle.cards.specs.Layout.{CardColumn, always-stands, place, columnWords, cardWords, laid}
+use Rattle.column.specs.Words.{words, number}
 use Rattle.cards.specs.Card.{card, cards}
 use Rattle.cards.specs.Composed.{listCard}
 use Rattle.cards.specs.Meaning.{Always, needed, set, cleared, columnOf}
@@ -40,7 +41,7 @@ use Rattle.endings.specs.Reached.{endlessList}
 use Rattle.endings.proofs.Listed.{listed-is}
 use Rattle.chains.specs.Answer.{shown}
 use Rattle.chains.specs.Call.{answered, chained}
-use Rattle.agreement.specs.Samples.{L, selfCall, clearThenNeed, tenSequences, blank, card1}
+use Rattle.agreement.specs.Samples.{L, selfCall, clearThenNeed, tenSequences, blank, card1, few, joined, cardsL}
 use Rattle.dulimoven.specs.Returned.{Returned, returned}
 use Rattle.dulimoven.specs.ChainCall.{Asked, Answers, Links, ChainReturn}
 use Rattle.dulimoven.specs.ChainCall as chain
@@ -54,7 +55,7 @@ use Rattle.agreement.specs.Wrong.{RefusesAllEndless, UnwrittenReasons, A
 use Rattle.agreement.specs.Wrong.{blankCards, flaglessCards, lazyCards, fixedChain, unwritten, fixedLinks, noImage}
 use Rattle.dulimoven.proofs.ChainCall.{chain-only}
 use Rattle.dulimoven.proofs.Demands.{only-engine, columns, runs}
-use Rattle.dulimoven.proofs.Added.{lists-met, list-words}
+use Rattle.dulimoven.proofs.Added.{lists-met, list-numbers}
 use Rattle.dulimoven.proofs.Swapped.{engines-notice}
 use Rattle.agreement.proofs.Fixed.{cards-fixed, area-fixed, links-told, gets-chain, chain-shown}
 
@@ -66,12 +67,12 @@ zeros n = replicate n 0
 -- one step, which sets the fact; sequence 0 has the alternatives <step 0> and <sequence 1>, sequence 1 the alternative <step 0>
 abbrev detour : List ℕ
 detour =
-    0x10080081 ∷ 0x50000000 ∷ 0x30000000 ∷ 0x60000000 ∷ 0x70000000 ∷ 0x80000000 ∷ 0x70000000 ∷ 0x90000001 ∷ 0x60000001 ∷ 0x70000000
-    ∷ 0x80000000 ∷ 0xf05d6592 ∷ []
+    0x10100201 ∷ 0x50000000 ∷ 0x30000000 ∷ 0x60000000 ∷ 0x70000000 ∷ 0x80000000 ∷ 0x70000000 ∷ 0x90000001 ∷ 0x60000001 ∷ 0x70000000
+    ∷ 0x80000000 ∷ 0xf0b57612 ∷ []
 
 -- one alternative with one step that sets the fact
 abbrev oneSet : List ℕ
-oneSet = 0x10040081 ∷ 0x50000000 ∷ 0x30000000 ∷ 0x60000000 ∷ 0x70000000 ∷ 0x80000000 ∷ 0xf0194f06 ∷ []
+oneSet = 0x10080201 ∷ 0x50000000 ∷ 0x30000000 ∷ 0x60000000 ∷ 0x70000000 ∷ 0x80000000 ∷ 0xf0315806 ∷ []
 
 accepted-L : checked L ≡ Checked.Accepted (record { facts = 3; steps = 3; sequences = 3 })
 unfolding checked scan total runningSums opened lastOf setsOf inColumn bit
@@ -93,28 +94,27 @@ accepted-oneSet : checked oneSet ≡ Checked.Accepted (record { facts = 1; steps
 unfolding checked scan total runningSums opened lastOf setsOf inColumn bit
 accepted-oneSet = refl
 
-cards-L : engine .cards L (zeros 39)
-    ≡ returned 3
-    (0x103 ∷ 0 ∷ 0 ∷ 1 ∷ 0 ∷ 0 ∷ 0 ∷ 0 ∷ 1 ∷ 7 ∷ 7 ∷ 0 ∷ 7 ∷ 0x201 ∷ 0 ∷ 1 ∷ 3 ∷ 0 ∷ 2 ∷ 0 ∷ 3 ∷ 3 ∷ 4 ∷ 5 ∷ 0 ∷ 4 ∷ blank)
-unfolding checked scan total runningSums opened lastOf setsOf inColumn bit libraryOf has possible cards card
+cards-L : engine .cards L (zeros 147)
+    ≡ returned 3 (joined cardsL)
+unfolding checked scan total runningSums opened lastOf setsOf inColumn bit libraryOf has possible cards card laid words
 cards-L = refl
 
-cards-clearThenNeed : engine .cards clearThenNeed (zeros 13) ≡ returned 1 (0x101 ∷ 1 ∷ 1 ∷ 0 ∷ 1 ∷ 0 ∷ 1 ∷ 1 ∷ 0 ∷ 0 ∷ 0 ∷ 0 ∷ 0 ∷ [])
-unfolding checked scan total runningSums opened lastOf setsOf inColumn bit libraryOf has possible cards card
+cards-clearThenNeed : engine .cards clearThenNeed (zeros 49) ≡ returned 1 (few (0x101 ∷ 1 ∷ 1 ∷ 0 ∷ 1 ∷ 0 ∷ 1 ∷ 1 ∷ 0 ∷ 0 ∷ 0 ∷ 0 ∷ 0 ∷ []))
+unfolding checked scan total runningSums opened lastOf setsOf inColumn bit libraryOf has possible cards card laid words
 cards-clearThenNeed = refl
 
-cards-oneSet : engine .cards oneSet (zeros 13) ≡ returned 1 (0x101 ∷ 0 ∷ 0 ∷ 1 ∷ 0 ∷ 1 ∷ 0 ∷ 1 ∷ 1 ∷ 0 ∷ 0 ∷ 0 ∷ 0 ∷ [])
-unfolding checked scan total runningSums opened lastOf setsOf inColumn bit libraryOf has possible cards card
+cards-oneSet : engine .cards oneSet (zeros 49) ≡ returned 1 (few (0x101 ∷ 0 ∷ 0 ∷ 1 ∷ 0 ∷ 1 ∷ 0 ∷ 1 ∷ 1 ∷ 0 ∷ 0 ∷ 0 ∷ 0 ∷ []))
+unfolding checked scan total runningSums opened lastOf setsOf inColumn bit libraryOf has possible cards card laid words
 cards-oneSet = refl
 
 -- the empty list without a sequence
-no-list : engine .list 3 0 [] [] [] ≡ returned 0 (3 ∷ 0 ∷ 0 ∷ 0 ∷ 0 ∷ 0 ∷ 0 ∷ 0 ∷ 0 ∷ 7 ∷ 7 ∷ 0 ∷ 7 ∷ [])
-unfolding listCard some
+no-list : engine .list 3 0 [] [] [] ≡ returned 0 (few (3 ∷ 0 ∷ 0 ∷ 0 ∷ 0 ∷ 0 ∷ 0 ∷ 0 ∷ 0 ∷ 7 ∷ 7 ∷ 0 ∷ 7 ∷ []))
+unfolding listCard some laid words
 no-list = refl
 
 -- sequences 1 and 0 of L
-list-L : listOver engine L (zeros 39) (1 ∷ 0 ∷ []) [] ≡ returned 0 card1
-unfolding checked scan total runningSums opened lastOf setsOf inColumn bit libraryOf has possible cards card listCard some
+list-L : listOver engine L (zeros 147) (1 ∷ 0 ∷ []) [] ≡ returned 0 card1
+unfolding checked scan total runningSums opened lastOf setsOf inColumn bit libraryOf has possible cards card laid words listCard some
 list-L = refl
 
 -- sequence 2 of L calls itself, and nothing else
@@ -143,19 +143,19 @@ chain-detour : chained detour 0 0 0 (length (zeros 4)) ≡ answered (shown (touc
 unfolding chained checked scan total runningSums opened lastOf setsOf inColumn bit libraryOf has possible
 chain-detour = refl
 
-ready-L : Ready L (zeros 39)
+ready-L : Ready L (zeros 147)
 ready-L =
-    let size : length (zeros 39) ≡ 39 = refl in
+    let size : length (zeros 147) ≡ 147 = refl in
     record { head = _; accepted = accepted-L; room = omega (arith, counted L _ accepted-L .sequences) }
 
-ready-clearThenNeed : Ready clearThenNeed (zeros 13)
+ready-clearThenNeed : Ready clearThenNeed (zeros 49)
 ready-clearThenNeed =
-    let size : length (zeros 13) ≡ 13 = refl in
+    let size : length (zeros 49) ≡ 49 = refl in
     record { head = _; accepted = accepted-clearThenNeed; room = omega (arith, counted clearThenNeed _ accepted-clearThenNeed .sequences) }
 
-ready-oneSet : Ready oneSet (zeros 13)
+ready-oneSet : Ready oneSet (zeros 49)
 ready-oneSet =
-    let size : length (zeros 13) ≡ 13 = refl in
+    let size : length (zeros 49) ≡ 49 = refl in
     record { head = _; accepted = accepted-oneSet; room = omega (arith, counted oneSet _ accepted-oneSet .sequences) }
 
 -- the questions of the samples that get a chain
@@ -176,7 +176,7 @@ gets-detour = gets-chain detour 0 0 0 (zeros 4) (touchLink 0 0 0 ∷ []) chain-d
 -- "refusing all images"
 pub refuses-all : (e : Engine) → RefusesAll e → ¬ Demand1 e
 refuses-all e wrong d =
-    let right : e .check L ≡ 786819 = d .check L ∙ ap checkedAnswer accepted-L in
+    let right : e .check L ≡ 1574403 = d .check L ∙ ap checkedAnswer accepted-L in
     let high = wrong L in
     omega arith
 
@@ -186,15 +186,15 @@ entries-L = record { one-before = omega arith; other-before = omega arith; one-e
 
 pub order-unnoticed : (e : Engine) → OrderUnnoticed e → ¬ Demand1 e
 order-unnoticed e wrong d =
-    let right : e .check L ≡ 786819 = d .check L ∙ ap checkedAnswer accepted-L in
+    let right : e .check L ≡ 1574403 = d .check L ∙ ap checkedAnswer accepted-L in
     let noticed : e .check (swapped L 14 15) ≡ 2 * 2 ^ 32 + 19 = engines-notice e d .swap L _ 14 15 accepted-L entries-L in
     let same = wrong L 14 15 entries-L in
     omega arith
 
 pub refuses-all-cards : (e : Engine) → RefusesAllCards e → ¬ Demand1 e
 refuses-all-cards e wrong d =
-    let right : e .cards L (zeros 39) .number ≡ 3 = ap (λ (r : Returned). r .number) (only-engine e d .cards L (zeros 39) ∙ cards-L) in
-    let high = wrong L (zeros 39) in
+    let right : e .cards L (zeros 147) .number ≡ 3 = ap (λ (r : Returned). r .number) (only-engine e d .cards L (zeros 147) ∙ cards-L) in
+    let high = wrong L (zeros 147) in
     omega arith
 
 pub refuses-all-lists : (e : Engine) → RefusesAllLists e → ¬ Demand1 e
@@ -293,28 +293,29 @@ longer-chain e wrong d =
 pub one-card : (e : Engine) → OneCard e → ¬ Demand2 e
 one-card e wrong d =
     let size = counted L _ accepted-L .sequences in
-    let first = cards-fixed e d L (zeros 39) ready-L 0 0 (omega arith) (omega arith) in
-    let third = cards-fixed e d L (zeros 39) ready-L 2 0 (omega arith) (omega arith) in
-    let same = wrong L (zeros 39) ready-L 0 2 0 (omega arith) (omega arith) (omega arith) in
-    let one : partWord (engine .cards L (zeros 39) .area) 0 0 ≡ 0x103 = ap (λ (r : Returned). partWord (r .area) 0 0) cards-L in
-    let none : partWord (engine .cards L (zeros 39) .area) 2 0 ≡ 0 = ap (λ (r : Returned). partWord (r .area) 2 0) cards-L in
+    let first = cards-fixed e d L (zeros 147) ready-L 0 0 (omega arith) (omega arith) in
+    let third = cards-fixed e d L (zeros 147) ready-L 2 0 (omega arith) (omega arith) in
+    let same = wrong L (zeros 147) ready-L 0 2 0 (omega arith) (omega arith) (omega arith) in
+    let one : partNumber (engine .cards L (zeros 147) .area) 0 0 ≡ 0x103 = ap (λ (r : Returned). partNumber (r .area) 0 0) cards-L in
+    let none : partNumber (engine .cards L (zeros 147) .area) 2 0 ≡ 0 = ap (λ (r : Returned). partNumber (r .area) 2 0) cards-L in
     omega arith
 
 -- "an untouched area"
 pub untouched : (e : Engine) → Untouched e → ¬ Demand2 e
 untouched e wrong d =
-    let fixed = area-fixed e d L (zeros 39) ready-L in
-    let same = wrong L (zeros 39) ready-L in
+    let fixed = area-fixed e d L (zeros 147) ready-L in
+    let same = wrong L (zeros 147) ready-L in
     let word : _≡_ {A = ℕ} 0 0x103 = ap (λ (a : List ℕ). getD a 0 0) (sym same ∙ fixed ∙ ap (λ (r : Returned). r .area) cards-L) in
     omega arith
 
 -- a blank "always stands" column: sequence 1 of L always leaves facts 0 and 1 standing
 pub blank-stands : (e : Engine) → BlankColumn always-stands e → ¬ Demand2 e
+unfolding number
 blank-stands e wrong d =
     let size = counted L _ accepted-L .sequences in
-    let fixed = cards-fixed e d L (zeros 39) ready-L 1 7 (omega arith) (omega arith) in
-    let blank = wrong L (zeros 39) ready-L 1 (omega arith) in
-    let three : partWord (engine .cards L (zeros 39) .area) 1 7 ≡ 3 = ap (λ (r : Returned). partWord (r .area) 1 7) cards-L in
+    let fixed = cards-fixed e d L (zeros 147) ready-L 1 7 (omega arith) (omega arith) in
+    let blank = wrong L (zeros 147) ready-L 1 (omega arith) in
+    let three : partNumber (engine .cards L (zeros 147) .area) 1 7 ≡ 3 = ap (λ (r : Returned). partNumber (r .area) 1 7) cards-L in
     omega arith
 
 -- "an invented .. fact count"
@@ -322,7 +323,7 @@ pub invented-count : (e : Engine) → InventedCount e → ¬ Demand2 e
 invented-count e wrong d = wrong .invented (d .card (wrong .image) (wrong .area) (wrong .ready) (wrong .sequence) (wrong .low) .flags .count)
 
 -- sequence 1 of L, and then sequence 0
-asked-L : Listed L (zeros 39) (1 ∷ 0 ∷ [])
+asked-L : Listed L (zeros 147) (1 ∷ 0 ∷ [])
 asked-L =
     let size = counted L _ accepted-L .sequences in
     record { ready = ready-L; short = omega arith; below = (omega arith, (omega arith, tt)) }
@@ -380,14 +381,14 @@ alone-explained e wrong x =
 pub sixteen-explained : (e : Engine) → AlwaysSixteen e → Demand2 e → ¬ Explains e
 sixteen-explained e wrong d x =
     let low : 2 < count (libraryOf L) = omega (arith, counted L _ accepted-L .sequences) in
-    let (w, run) = d .card L (zeros 39) ready-L 2 low .flags .run .0 (x .told L [] (zeros 39) ready-L 2 low .0 (wrong L 2 [])) in
+    let (w, run) = d .card L (zeros 147) ready-L 2 low .flags .run .0 (x .told L [] (zeros 147) ready-L 2 low .0 (wrong L 2 [])) in
     unended-L .none w run
 
 -- "refusing all .." lists
 pub refuses-listed : (e : Engine) → RefusesAllLists e → ¬ Lists e
 refuses-listed e wrong lists =
-    let right = lists .number L (zeros 39) (1 ∷ 0 ∷ []) [] asked-L in
-    let high = wrong (libraryOf L .facts) (count (libraryOf L)) (e .cards L (zeros 39) .area) (1 ∷ 0 ∷ []) [] in
+    let right = lists .number L (zeros 147) (1 ∷ 0 ∷ []) [] asked-L in
+    let high = wrong (libraryOf L .facts) (count (libraryOf L)) (e .cards L (zeros 147) .area) (1 ∷ 0 ∷ []) [] in
     omega arith
 
 -- the last member's card for the list's
@@ -395,12 +396,12 @@ pub last-member : (e : Engine) → LastMember e → Demand2 e → ¬ Lists e
 last-member e wrong d lists =
     let size = counted L _ accepted-L .sequences in
     let fixed =
-    list-words e d lists L (zeros 39) (1 ∷ 0 ∷ []) [] asked-L 0 (omega arith)
-    ∙ sym (list-words engine columns lists-met L (zeros 39) (1 ∷ 0 ∷ []) [] asked-L 0 (omega arith)) in
-    let right : getD (listOver engine L (zeros 39) (1 ∷ 0 ∷ []) [] .area) 0 0 ≡ 0x201 = ap (λ (r : Returned). getD (r .area) 0 0) list-L in
-    let same = wrong L (zeros 39) [] 1 0 asked-L 0 (omega arith) in
-    let first = cards-fixed e d L (zeros 39) ready-L 0 0 (omega arith) (omega arith) in
-    let one : partWord (engine .cards L (zeros 39) .area) 0 0 ≡ 0x103 = ap (λ (r : Returned). partWord (r .area) 0 0) cards-L in
+    list-numbers e d lists L (zeros 147) (1 ∷ 0 ∷ []) [] asked-L 0 (omega arith)
+    ∙ sym (list-numbers engine columns lists-met L (zeros 147) (1 ∷ 0 ∷ []) [] asked-L 0 (omega arith)) in
+    let right : partNumber (listOver engine L (zeros 147) (1 ∷ 0 ∷ []) [] .area) 0 0 ≡ 0x201 = ap (λ (r : Returned). partNumber (r .area) 0 0) list-L in
+    let same = wrong L (zeros 147) [] 1 0 asked-L 0 (omega arith) in
+    let first = cards-fixed e d L (zeros 147) ready-L 0 0 (omega arith) (omega arith) in
+    let one : partNumber (engine .cards L (zeros 147) .area) 0 0 ≡ 0x103 = ap (λ (r : Returned). partNumber (r .area) 0 0) cards-L in
     omega arith
 
 -- ---- demand 3
@@ -408,28 +409,29 @@ last-member e wrong d lists =
 -- an "always" column that is blank on a card has no fact of the right one
 module _ (a : Always) (e : Engine) (wrong : BlankColumn (columnOf a) e) (d : Demand3 e) where
   blank-right : (image area : List ℕ) → Ready image area → (c : ℕ) → c < count (libraryOf image) → (f : ℕ) → f < libraryOf image .facts
-      → bit (partWord (engine .cards image area .area) c (place (columnOf a))) f ≡ 0
+      → bit (partNumber (engine .cards image area .area) c (place (columnOf a))) f ≡ 0
   blank-right image area ready c l f low =
-      let lacks : bit (partWord (e .cards image area .area) c (place (columnOf a))) f ≡ 0 =
+      let lacks : bit (partNumber (e .cards image area .area) c (place (columnOf a))) f ≡ 0 =
       ap (λ (n : ℕ). bit n f) (wrong image area ready c l) ∙ bit-none f in
       runs .shown image area ready c l .missing a (f, low) .1 (d .shown image area ready c l .missing a (f, low) .0 lacks)
 
 -- "blank "always" columns"
 pub blank-column : (a : Always) (e : Engine) → BlankColumn (columnOf a) e → ¬ Demand3 e
+unfolding number
 blank-column needed e wrong d =
     let size = counted clearThenNeed _ accepted-clearThenNeed in
-    let zero-bit = blank-right needed e wrong d clearThenNeed (zeros 13) ready-clearThenNeed 0 (omega (arith, size .sequences)) 0 (omega (arith, size .facts)) in
-    let one-bit = ap (λ (r : Returned). bit (partWord (r .area) 0 1) 0) cards-clearThenNeed ∙ bit-zero 1 in
+    let zero-bit = blank-right needed e wrong d clearThenNeed (zeros 49) ready-clearThenNeed 0 (omega (arith, size .sequences)) 0 (omega (arith, size .facts)) in
+    let one-bit = ap (λ (r : Returned). bit (partNumber (r .area) 0 1) 0) cards-clearThenNeed ∙ bit-zero 1 in
     omega arith
 blank-column set e wrong d =
     let size = counted oneSet _ accepted-oneSet in
-    let zero-bit = blank-right set e wrong d oneSet (zeros 13) ready-oneSet 0 (omega (arith, size .sequences)) 0 (omega (arith, size .facts)) in
-    let one-bit = ap (λ (r : Returned). bit (partWord (r .area) 0 5) 0) cards-oneSet ∙ bit-zero 1 in
+    let zero-bit = blank-right set e wrong d oneSet (zeros 49) ready-oneSet 0 (omega (arith, size .sequences)) 0 (omega (arith, size .facts)) in
+    let one-bit = ap (λ (r : Returned). bit (partNumber (r .area) 0 5) 0) cards-oneSet ∙ bit-zero 1 in
     omega arith
 blank-column cleared e wrong d =
     let size = counted clearThenNeed _ accepted-clearThenNeed in
-    let zero-bit = blank-right cleared e wrong d clearThenNeed (zeros 13) ready-clearThenNeed 0 (omega (arith, size .sequences)) 0 (omega (arith, size .facts)) in
-    let one-bit = ap (λ (r : Returned). bit (partWord (r .area) 0 6) 0) cards-clearThenNeed ∙ bit-zero 1 in
+    let zero-bit = blank-right cleared e wrong d clearThenNeed (zeros 49) ready-clearThenNeed 0 (omega (arith, size .sequences)) 0 (omega (arith, size .facts)) in
+    let one-bit = ap (λ (r : Returned). bit (partNumber (r .area) 0 6) 0) cards-clearThenNeed ∙ bit-zero 1 in
     omega arith
 
 -- the question of the sample with the endless sequence
@@ -501,35 +503,47 @@ blank-word zero i = refl
 blank-word (suc n) zero = refl
 blank-word (suc n) (suc i) = blank-word n i
 
+blank-column-of : (m i n : ℕ) → number (list.take m (drop i (zeros n))) ≡ 0
+unfolding number
+blank-column-of zero i n = refl
+blank-column-of (suc m) zero zero = refl
+blank-column-of (suc m) zero (suc n) = omega (arith, blank-column-of m zero n)
+blank-column-of (suc m) (suc i) zero = refl
+blank-column-of (suc m) (suc i) (suc n) = blank-column-of (suc m) i n
+
+blank-number : (n c k : ℕ) → partNumber (zeros n) c k ≡ 0
+blank-number n c zero = blank-word n (cardWords * c + 0)
+blank-number n c (suc k) = blank-column-of columnWords (cardWords * c + 1 + columnWords * k) n
+
 pub blank-goes : (k : CardColumn) → BlankColumn k blankCards
-blank-goes k image area ready c l = blank-word (length area) (cardWords * c + place k)
+blank-goes k image area ready c l = blank-number (length area) c (place k)
 
 pub one-card-goes : OneCard blankCards
-one-card-goes image area ready c d k l m u = blank-word (length area) (cardWords * c + k) ∙ sym (blank-word (length area) (cardWords * d + k))
+one-card-goes image area ready c d k l m u = blank-number (length area) c k ∙ sym (blank-number (length area) d k)
 
 pub untouched-goes : Untouched lazyCards
 untouched-goes image area ready = refl
 
--- a card's word where the flags of sequence 0 are 0
+-- a card's number where the flags of sequence 0 are 0
 abbrev flagless : Returned → ℕ → ℕ
-flagless r k = partWord (list.set (r .area) 0 0) 0 k
+flagless r k = partNumber (list.set (r .area) 0 0) 0 k
 
 abbrev counts : Returned → ℕ
 counts r = countBelow (libraryOf L .facts) (λ (f : ℕ). inColumn (flagless r 3) f || inColumn (flagless r 4) f)
 
 -- sequence 0 of L may set one fact
-one-changes : counts (engine .cards L (zeros 39)) ≡ 1
-unfolding countBelow inColumn libraryOf has
+one-changes : counts (engine .cards L (zeros 147)) ≡ 1
+unfolding countBelow inColumn libraryOf has number bit
 one-changes = ap counts cards-L
 
-no-flags : flagless (engine .cards L (zeros 39)) 0 ≡ 0
+no-flags : flagless (engine .cards L (zeros 147)) 0 ≡ 0
 no-flags = ap (λ (r : Returned). flagless r 0) cards-L
 
 pub invented-count-goes : InventedCount flaglessCards
 invented-count-goes =
     record {
       image = L;
-      area = zeros 39;
+      area = zeros 147;
       ready = ready-L;
       sequence = 0;
       low = omega (arith, counted L _ accepted-L .sequences);

@@ -1,7 +1,7 @@
 -- The starred samples of document 01, as the requests of document 02 have them, and a row for what a request adds: one table of calls, with
 -- the answers that the papers give, and one fact, that each answer follows from the definitions (`starred-hold`). Where the paper says of a
 -- sample that a run executes, or that none does, the states are those of `standing`.
-use Prim.Native.Nat.{ℕ, _+_, _*_, _/_, _%_, _^_}
+use Prim.Native.Nat.{ℕ, zero, suc, _+_, _*_, _/_, _%_, _^_}
 use Prim.Native.Char.{code}
 use Prim.Native.String.{String}
 use Prim.Native.String as string
@@ -17,11 +17,11 @@ use Rattle.card_text.specs.Print.{printed}
 use Rattle.dulimoven.specs.Returned.{returned}
 use Rattle.dulimoven.specs.Engine.{engine}
 
--- "Library L, 20 words in hexadecimal, F = A = C = 3"
+-- "Library L, 20 words in hexadecimal, F = A = C = 3", with the head of document 02, request 8
 abbrev pub L : List ℕ
 L =
-    0x100c0183 ∷ 0x50000000 ∷ 0x30000000 ∷ 0x50000001 ∷ 0x20000000 ∷ 0x30000001 ∷ 0x50000002 ∷ 0x40000001 ∷ 0x60000000 ∷ 0x70000000
-    ∷ 0x80000000 ∷ 0x70000000 ∷ 0x60000001 ∷ 0x70000000 ∷ 0x90000000 ∷ 0x80000001 ∷ 0x60000002 ∷ 0x70000000 ∷ 0x90000002 ∷ 0xf0f20910
+    0x10180603 ∷ 0x50000000 ∷ 0x30000000 ∷ 0x50000001 ∷ 0x20000000 ∷ 0x30000001 ∷ 0x50000002 ∷ 0x40000001 ∷ 0x60000000 ∷ 0x70000000
+    ∷ 0x80000000 ∷ 0x70000000 ∷ 0x60000001 ∷ 0x70000000 ∷ 0x90000000 ∷ 0x80000001 ∷ 0x60000002 ∷ 0x70000000 ∷ 0x90000002 ∷ 0xf1d65e90
     ∷ []
 
 -- one fact and nothing else
@@ -30,57 +30,66 @@ bare = 0x10000001 ∷ 0xf0000401 ∷ []
 
 -- one sequence with the alternatives <itself> and <>
 abbrev pub selfCall : List ℕ
-selfCall = 0x10040001 ∷ 0x60000000 ∷ 0x70000000 ∷ 0x90000000 ∷ 0x70000000 ∷ 0xf0152c05 ∷ []
+selfCall = 0x10080001 ∷ 0x60000000 ∷ 0x70000000 ∷ 0x90000000 ∷ 0x70000000 ∷ 0xf0292c05 ∷ []
 
 -- sequence 0 with the alternatives <set f, sequence 1> and <clear f>; sequence 1 is endless, its one alternative is <itself>
 abbrev pub endlessFirst : List ℕ
 endlessFirst =
-    0x10080101 ∷ 0x50000000 ∷ 0x30000000 ∷ 0x50000001 ∷ 0x40000000 ∷ 0x60000000 ∷ 0x70000000 ∷ 0x80000000 ∷ 0x90000001 ∷ 0x70000000
-    ∷ 0x80000001 ∷ 0x60000001 ∷ 0x70000000 ∷ 0x90000001 ∷ 0xf0787627 ∷ []
+    0x10100401 ∷ 0x50000000 ∷ 0x30000000 ∷ 0x50000001 ∷ 0x40000000 ∷ 0x60000000 ∷ 0x70000000 ∷ 0x80000000 ∷ 0x90000001 ∷ 0x70000000
+    ∷ 0x80000001 ∷ 0x60000001 ∷ 0x70000000 ∷ 0x90000001 ∷ 0xf0e8a027 ∷ []
 
 -- one alternative <clear f, need f>
 abbrev pub clearThenNeed : List ℕ
 clearThenNeed =
-    0x10040101 ∷ 0x50000000 ∷ 0x40000000 ∷ 0x50000001 ∷ 0x20000000 ∷ 0x60000000 ∷ 0x70000000 ∷ 0x80000000 ∷ 0x80000001 ∷ 0xf026f110 ∷ []
+    0x10080401 ∷ 0x50000000 ∷ 0x40000000 ∷ 0x50000001 ∷ 0x20000000 ∷ 0x60000000 ∷ 0x70000000 ∷ 0x80000000 ∷ 0x80000001 ∷ 0xf04b0c10 ∷ []
 
 -- one alternative with one step that sets and clears f
 abbrev pub pulse : List ℕ
-pulse = 0x10040081 ∷ 0x50000000 ∷ 0x30000000 ∷ 0x40000000 ∷ 0x60000000 ∷ 0x70000000 ∷ 0x80000000 ∷ 0xf01db387 ∷ []
+pulse = 0x10080201 ∷ 0x50000000 ∷ 0x30000000 ∷ 0x40000000 ∷ 0x60000000 ∷ 0x70000000 ∷ 0x80000000 ∷ 0xf039be07 ∷ []
 
 -- steps 0 to 3 set fact 0, clear it, need it and do neither. Sequence 0 is <set, set>, <other, set>, <sequence 1>, <need>; sequence 1 is <set>
 abbrev pub fewestFirst : List ℕ
 fewestFirst =
-    0x10080201 ∷ 0x50000000 ∷ 0x30000000 ∷ 0x50000001 ∷ 0x40000000 ∷ 0x50000002 ∷ 0x20000000 ∷ 0x50000003 ∷ 0x60000000 ∷ 0x70000000
+    0x10100801 ∷ 0x50000000 ∷ 0x30000000 ∷ 0x50000001 ∷ 0x40000000 ∷ 0x50000002 ∷ 0x20000000 ∷ 0x50000003 ∷ 0x60000000 ∷ 0x70000000
     ∷ 0x80000000 ∷ 0x80000000 ∷ 0x70000000 ∷ 0x80000003 ∷ 0x80000000 ∷ 0x70000000 ∷ 0x90000001 ∷ 0x70000000 ∷ 0x80000002 ∷ 0x60000001
-    ∷ 0x70000000 ∷ 0x80000000 ∷ 0xf0c4d0a4 ∷ []
+    ∷ 0x70000000 ∷ 0x80000000 ∷ 0xf17554a4 ∷ []
 
 -- the same steps. Sequence 0 is <1, 1>, <1, other, 1, 1>; sequence 1 is <set>, <>, <set>
 abbrev pub lowestOfCalls : List ℕ
 lowestOfCalls =
-    0x10080201 ∷ 0x50000000 ∷ 0x30000000 ∷ 0x50000001 ∷ 0x40000000 ∷ 0x50000002 ∷ 0x20000000 ∷ 0x50000003 ∷ 0x60000000 ∷ 0x70000000
+    0x10100801 ∷ 0x50000000 ∷ 0x30000000 ∷ 0x50000001 ∷ 0x40000000 ∷ 0x50000002 ∷ 0x20000000 ∷ 0x50000003 ∷ 0x60000000 ∷ 0x70000000
     ∷ 0x90000001 ∷ 0x90000001 ∷ 0x70000000 ∷ 0x90000001 ∷ 0x80000003 ∷ 0x90000001 ∷ 0x90000001 ∷ 0x60000001 ∷ 0x70000000 ∷ 0x80000000
-    ∷ 0x70000000 ∷ 0x70000000 ∷ 0x80000000 ∷ 0xf0cfc2d2 ∷ []
+    ∷ 0x70000000 ∷ 0x70000000 ∷ 0x80000000 ∷ 0xf1884cd2 ∷ []
 
 -- one fact, one step, which needs and clears it. Sequence 0 is <check 0>, sequence 1 is <sequence 0, step 0>
 abbrev pub skips : List ℕ
 skips =
-    0x10080081 ∷ 0x50000000 ∷ 0x20000000 ∷ 0x40000000 ∷ 0x60000000 ∷ 0x70000000 ∷ 0xd0000000 ∷ 0x60000001 ∷ 0x70000000 ∷ 0x90000000
-    ∷ 0x80000000 ∷ 0xf05d318f ∷ []
+    0x10100201 ∷ 0x50000000 ∷ 0x20000000 ∷ 0x40000000 ∷ 0x60000000 ∷ 0x70000000 ∷ 0xd0000000 ∷ 0x60000001 ∷ 0x70000000 ∷ 0x90000000
+    ∷ 0x80000000 ∷ 0xf0b5420f ∷ []
 
 -- two facts, two steps, one sequence, whose one alternative has an entry of each kind: <step 1, itself, check 1>
 abbrev pub everyKind : List ℕ
 everyKind =
-    0x10040102 ∷ 0x50000000 ∷ 0x50000001 ∷ 0x60000000 ∷ 0x70000000 ∷ 0x80000001 ∷ 0x90000000 ∷ 0xd0000001 ∷ 0xf022f01a ∷ []
+    0x10080402 ∷ 0x50000000 ∷ 0x50000001 ∷ 0x60000000 ∷ 0x70000000 ∷ 0x80000001 ∷ 0x90000000 ∷ 0xd0000001 ∷ 0xf043081a ∷ []
 
 -- one fact, one step, which sets it. Sequences 0 to 9: <3, set>, <set, 1>; <0>; <itself>, <>; none; <2, itself>; <6, itself>; <7>, <check 0>;
 -- <itself>; <9, 1>; <3>, <7, set>
 abbrev pub tenSequences : List ℕ
 tenSequences =
-    0x10280081 ∷ 0x50000000 ∷ 0x30000000 ∷ 0x60000000 ∷ 0x70000000 ∷ 0x90000003 ∷ 0x80000000 ∷ 0x70000000 ∷ 0x80000000 ∷ 0x90000001
+    0x10500201 ∷ 0x50000000 ∷ 0x30000000 ∷ 0x60000000 ∷ 0x70000000 ∷ 0x90000003 ∷ 0x80000000 ∷ 0x70000000 ∷ 0x80000000 ∷ 0x90000001
     ∷ 0x60000001 ∷ 0x70000000 ∷ 0x90000000 ∷ 0x60000002 ∷ 0x70000000 ∷ 0x90000002 ∷ 0x70000000 ∷ 0x60000003 ∷ 0x60000004 ∷ 0x70000000
     ∷ 0x90000002 ∷ 0x90000004 ∷ 0x60000005 ∷ 0x70000000 ∷ 0x90000006 ∷ 0x90000005 ∷ 0x60000006 ∷ 0x70000000 ∷ 0x90000007 ∷ 0x70000000
     ∷ 0xd0000000 ∷ 0x60000007 ∷ 0x70000000 ∷ 0x90000007 ∷ 0x60000008 ∷ 0x70000000 ∷ 0x90000009 ∷ 0x90000001 ∷ 0x60000009 ∷ 0x70000000
-    ∷ 0x90000003 ∷ 0x70000000 ∷ 0x90000007 ∷ 0x80000000 ∷ 0xf74ba05b ∷ []
+    ∷ 0x90000003 ∷ 0x70000000 ∷ 0x90000007 ∷ 0x80000000 ∷ 0xfe2be25b ∷ []
+
+-- 65 facts, one step, which sets the last of them, fact 64, and one sequence, <step 0>
+abbrev pub wide : List ℕ
+wide = 0x10080241 ∷ 0x50000000 ∷ 0x30000040 ∷ 0x60000000 ∷ 0x70000000 ∷ 0x80000000 ∷ 0xf0315a86 ∷ []
+
+-- the openers of n sequences from sequence c on
+abbrev pub openers : ℕ → ℕ → List ℕ
+openers c zero = []
+openers c (suc n) = (0x60000000 + c) ∷ openers (suc c) n
 
 -- ---- the table
 
@@ -132,28 +141,46 @@ spare = 7 ∷ 7 ∷ 7 ∷ 7 ∷ 7 ∷ []
 abbrev pub spareCard : List ℕ
 spareCard = replicate cardWords 5
 
+-- "Each column takes four words, facts 0 to 63 first" (document 02, request 8): where there are no more than 64 facts, each column has its first word
+-- and three zeros
+abbrev pub spread : List ℕ → List ℕ
+spread [] = []
+spread (column ∷ columns) = column ∷ 0 ∷ 0 ∷ 0 ∷ spread columns
+
+-- the words of a card of no more than 64 facts: the flags, and its columns
+abbrev pub few : List ℕ → List ℕ
+few [] = []
+few (flags ∷ columns) = flags ∷ spread columns
+
 -- the cards of L's sequences with a run
 abbrev pub card0 : List ℕ
-card0 = 0x103 ∷ 0 ∷ 0 ∷ 1 ∷ 0 ∷ 0 ∷ 0 ∷ 0 ∷ 1 ∷ 7 ∷ 7 ∷ 0 ∷ 7 ∷ []
+card0 = few (0x103 ∷ 0 ∷ 0 ∷ 1 ∷ 0 ∷ 0 ∷ 0 ∷ 0 ∷ 1 ∷ 7 ∷ 7 ∷ 0 ∷ 7 ∷ [])
 
 abbrev pub card1 : List ℕ
-card1 = 0x201 ∷ 0 ∷ 1 ∷ 3 ∷ 0 ∷ 2 ∷ 0 ∷ 3 ∷ 3 ∷ 4 ∷ 5 ∷ 0 ∷ 4 ∷ []
+card1 = few (0x201 ∷ 0 ∷ 1 ∷ 3 ∷ 0 ∷ 2 ∷ 0 ∷ 3 ∷ 3 ∷ 4 ∷ 5 ∷ 0 ∷ 4 ∷ [])
 
 -- the card of a sequence without a run
 abbrev pub blank : List ℕ
-blank = 0 ∷ 0 ∷ 0 ∷ 0 ∷ 0 ∷ 0 ∷ 0 ∷ 0 ∷ 0 ∷ 0 ∷ 0 ∷ 0 ∷ 0 ∷ []
+blank = few (0 ∷ 0 ∷ 0 ∷ 0 ∷ 0 ∷ 0 ∷ 0 ∷ 0 ∷ 0 ∷ 0 ∷ 0 ∷ 0 ∷ 0 ∷ [])
 
 abbrev pub cardsL : List (List ℕ)
 cardsL = card0 ∷ card1 ∷ blank ∷ []
 
 -- those of `skips`
 abbrev pub cardsSkips : List (List ℕ)
-cardsSkips = (3 ∷ 1 ∷ 1 ∷ 0 ∷ 0 ∷ 0 ∷ 0 ∷ 1 ∷ 0 ∷ 0 ∷ 1 ∷ 0 ∷ 0 ∷ []) ∷ (0x101 ∷ 1 ∷ 1 ∷ 0 ∷ 1 ∷ 0 ∷ 1 ∷ 0 ∷ 0 ∷ 0 ∷ 0 ∷ 1 ∷ 0 ∷ []) ∷ []
+cardsSkips = (few (3 ∷ 1 ∷ 1 ∷ 0 ∷ 0 ∷ 0 ∷ 0 ∷ 1 ∷ 0 ∷ 0 ∷ 1 ∷ 0 ∷ 0 ∷ [])) ∷ (few (0x101 ∷ 1 ∷ 1 ∷ 0 ∷ 1 ∷ 0 ∷ 1 ∷ 0 ∷ 0 ∷ 0 ∷ 0 ∷ 1 ∷ 0 ∷ [])) ∷ []
+
+-- the card of `wide`: fact 64 is bit 0 of the second word of a column, and facts 0 to 63 are the first word
+abbrev pub cardWide : List ℕ
+cardWide =
+    let low : ℕ = 0xffffffffffffffff in
+    0x101 ∷ 0 ∷ 0 ∷ 0 ∷ 0 ∷ 0 ∷ 0 ∷ 0 ∷ 0 ∷ 0 ∷ 1 ∷ 0 ∷ 0 ∷ 0 ∷ 0 ∷ 0 ∷ 0 ∷ 0 ∷ 1 ∷ 0 ∷ 0 ∷ 0 ∷ 0 ∷ 0 ∷ 0 ∷ 0 ∷ 1 ∷ 0 ∷ 0 ∷ 0 ∷ 1 ∷ 0 ∷ 0 ∷ low ∷ 0 ∷ 0 ∷ 0 ∷ low ∷ 0 ∷ 0 ∷ 0
+    ∷ 0 ∷ 0 ∷ 0 ∷ 0 ∷ low ∷ 0 ∷ 0 ∷ 0 ∷ []
 
 -- "N × 2^32 + P for refusal N at position P, otherwise the head's payload from the check, C from the cards, the number of links from the
--- chain, 0 there for "none""; F in bits 0 to 6, A in bits 7 to 17, C in bits 18 to 26
+-- chain, 0 there for "none""; F in bits 0 to 8, A in bits 9 to 18, C in bits 19 to 27
 abbrev pub Holds : Sample → Type 0
-Holds (accepts image f a c) = engine .check image ≡ f + a * 2 ^ 7 + c * 2 ^ 18
+Holds (accepts image f a c) = engine .check image ≡ f + a * 2 ^ 9 + c * 2 ^ 19
 Holds (refuses image n p) = engine .check image ≡ n * 2 ^ 32 + p
 Holds (fills image lines) = engine .cards image (replicate (cardWords * length lines) 0) ≡ returned (length lines) (joined lines)
 Holds (prints image text) = printed (bytesOf image) ≡ codes text
@@ -196,16 +223,16 @@ starred =
     ∷ refuses (0x10000000 ∷ 0xf0000400 ∷ []) 3 0
     -- "Alternatives <itself> and <>: flags 3; question 2 names alternative 1." The empty run leaves the fact untouched on both sides, and has
     -- no item
-    ∷ fills selfCall ((3 ∷ 0 ∷ 0 ∷ 0 ∷ 0 ∷ 0 ∷ 0 ∷ 0 ∷ 0 ∷ 1 ∷ 1 ∷ 0 ∷ 1 ∷ []) ∷ [])
+    ∷ fills selfCall ((few (3 ∷ 0 ∷ 0 ∷ 0 ∷ 0 ∷ 0 ∷ 0 ∷ 0 ∷ 0 ∷ 1 ∷ 1 ∷ 0 ∷ 1 ∷ [])) ∷ [])
     ∷ chains selfCall 0 2 0 spare 1 (0xa0000100 ∷ 0xc0000000 ∷ 7 ∷ 7 ∷ 7 ∷ [])
     -- "Alternatives <set f, L's kind of endless sequence> and <clear f>: always cleared." It may clear f, so one fact is changeable.
     -- On the first side a clear is no touch; the last item that mentions f clears it
-    ∷ fills endlessFirst ((0x101 ∷ 0 ∷ 0 ∷ 0 ∷ 1 ∷ 0 ∷ 1 ∷ 0 ∷ 0 ∷ 1 ∷ 0 ∷ 1 ∷ 0 ∷ []) ∷ blank ∷ [])
+    ∷ fills endlessFirst ((few (0x101 ∷ 0 ∷ 0 ∷ 0 ∷ 1 ∷ 0 ∷ 1 ∷ 0 ∷ 0 ∷ 1 ∷ 0 ∷ 1 ∷ 0 ∷ [])) ∷ blank ∷ [])
     -- the step that clears f takes it away
     ∷ executes endlessFirst 0 (step 1 ∷ []) (0 ∷ []) []
     -- "Alternative <clear f, need f>: always needed, though no run executes." It may need f, and always clears it. The last item that mentions f
     -- needs it, so it always stands. That no run executes from any state is `never-executes` (proofs/Samples)
-    ∷ fills clearThenNeed ((0x101 ∷ 1 ∷ 1 ∷ 0 ∷ 1 ∷ 0 ∷ 1 ∷ 1 ∷ 0 ∷ 0 ∷ 0 ∷ 0 ∷ 0 ∷ []) ∷ [])
+    ∷ fills clearThenNeed ((few (0x101 ∷ 1 ∷ 1 ∷ 0 ∷ 1 ∷ 0 ∷ 1 ∷ 1 ∷ 0 ∷ 0 ∷ 0 ∷ 0 ∷ 0 ∷ [])) ∷ [])
     ∷ fails clearThenNeed 0 (step 0 ∷ step 1 ∷ []) (0 ∷ [])
     -- "One step sets and clears f": document 02, request 1, "The sample with that step becomes a refused one", "at the clear word"
     ∷ refuses pulse 13 3
@@ -229,25 +256,25 @@ starred =
     ∷ executes skips 0 (check 0 ∷ []) (0 ∷ []) (0 ∷ [])
     ∷ fails skips 0 (check 0 ∷ []) []
     -- "its payload is below F under 5": F = 2, the check names fact 2; and a check right after a sequence's opener, where no entry stands
-    ∷ refuses (0x10040002 ∷ 0x60000000 ∷ 0x70000000 ∷ 0xd0000002 ∷ 0xf010c40a ∷ []) 5 3
-    ∷ refuses (0x10040002 ∷ 0x60000000 ∷ 0xd0000000 ∷ 0xf00c7006 ∷ []) 4 2
+    ∷ refuses (0x10080002 ∷ 0x60000000 ∷ 0x70000000 ∷ 0xd0000002 ∷ 0xf020c40a ∷ []) 5 3
+    ∷ refuses (0x10080002 ∷ 0x60000000 ∷ 0xd0000000 ∷ 0xf0187006 ∷ []) 4 2
     -- document 02, request 5, over L's cards: "The empty list has just the empty run."
-    ∷ composes 3 3 cardsL [] (3 ∷ 0 ∷ 0 ∷ 0 ∷ 0 ∷ 0 ∷ 0 ∷ 0 ∷ 0 ∷ 7 ∷ 7 ∷ 0 ∷ 7 ∷ [])
+    ∷ composes 3 3 cardsL [] (few (3 ∷ 0 ∷ 0 ∷ 0 ∷ 0 ∷ 0 ∷ 0 ∷ 0 ∷ 0 ∷ 7 ∷ 7 ∷ 0 ∷ 7 ∷ []))
     -- sequence 0 can be empty, and what it may set sequence 1 may set: with it before or after sequence 1 the card is that of sequence 1
     ∷ composes 3 3 cardsL (0 ∷ 1 ∷ []) card1
     ∷ composes 3 3 cardsL (1 ∷ 0 ∷ []) card1
     -- "blank unless every member has a run"
     ∷ composes 3 3 cardsL (0 ∷ 2 ∷ []) blank
     -- "drops bits from F upward": of two facts, and of none, where the flags are still those of the rule
-    ∷ composes 2 3 cardsL (0 ∷ 1 ∷ []) (0x201 ∷ 0 ∷ 1 ∷ 3 ∷ 0 ∷ 2 ∷ 0 ∷ 3 ∷ 3 ∷ 0 ∷ 1 ∷ 0 ∷ 0 ∷ [])
-    ∷ composes 0 3 cardsL (0 ∷ 1 ∷ []) (1 ∷ 0 ∷ 0 ∷ 0 ∷ 0 ∷ 0 ∷ 0 ∷ 0 ∷ 0 ∷ 0 ∷ 0 ∷ 0 ∷ 0 ∷ [])
+    ∷ composes 2 3 cardsL (0 ∷ 1 ∷ []) (few (0x201 ∷ 0 ∷ 1 ∷ 3 ∷ 0 ∷ 2 ∷ 0 ∷ 3 ∷ 3 ∷ 0 ∷ 1 ∷ 0 ∷ 0 ∷ []))
+    ∷ composes 0 3 cardsL (0 ∷ 1 ∷ []) (few (1 ∷ 0 ∷ 0 ∷ 0 ∷ 0 ∷ 0 ∷ 0 ∷ 0 ∷ 0 ∷ 0 ∷ 0 ∷ 0 ∷ 0 ∷ []))
     -- the order counts: <check 0> and then the step that needs and clears fact 0 is the card of sequence 1 of `skips`; with the check last the
     -- last item that mentions the fact does not clear it, though it was cleared
-    ∷ composes 1 2 cardsSkips (0 ∷ 1 ∷ []) (0x101 ∷ 1 ∷ 1 ∷ 0 ∷ 1 ∷ 0 ∷ 1 ∷ 0 ∷ 0 ∷ 0 ∷ 0 ∷ 1 ∷ 0 ∷ [])
-    ∷ composes 1 2 cardsSkips (1 ∷ 0 ∷ []) (0x101 ∷ 1 ∷ 1 ∷ 0 ∷ 1 ∷ 0 ∷ 1 ∷ 1 ∷ 0 ∷ 0 ∷ 0 ∷ 0 ∷ 0 ∷ [])
+    ∷ composes 1 2 cardsSkips (0 ∷ 1 ∷ []) (few (0x101 ∷ 1 ∷ 1 ∷ 0 ∷ 1 ∷ 0 ∷ 1 ∷ 0 ∷ 0 ∷ 0 ∷ 0 ∷ 1 ∷ 0 ∷ []))
+    ∷ composes 1 2 cardsSkips (1 ∷ 0 ∷ []) (few (0x101 ∷ 1 ∷ 1 ∷ 0 ∷ 1 ∷ 0 ∷ 1 ∷ 1 ∷ 0 ∷ 0 ∷ 0 ∷ 0 ∷ 0 ∷ []))
     -- an area that no library fills: a run, and nothing that it may do; "an "always" bit, below F only, where no rival outcome holds"
-    ∷ composes 3 1 ((1 ∷ 0 ∷ 0 ∷ 0 ∷ 0 ∷ 0 ∷ 0 ∷ 0 ∷ 0 ∷ 0 ∷ 0 ∷ 0 ∷ 0 ∷ []) ∷ []) (0 ∷ [])
-    (1 ∷ 7 ∷ 0 ∷ 0 ∷ 0 ∷ 7 ∷ 7 ∷ 7 ∷ 0 ∷ 0 ∷ 0 ∷ 0 ∷ 0 ∷ [])
+    ∷ composes 3 1 ((few (1 ∷ 0 ∷ 0 ∷ 0 ∷ 0 ∷ 0 ∷ 0 ∷ 0 ∷ 0 ∷ 0 ∷ 0 ∷ 0 ∷ 0 ∷ [])) ∷ []) (0 ∷ [])
+    (few (1 ∷ 7 ∷ 0 ∷ 0 ∷ 0 ∷ 7 ∷ 7 ∷ 7 ∷ 0 ∷ 0 ∷ 0 ∷ 0 ∷ 0 ∷ []))
     -- "of the earlier ones only 8; 14 for a list of more than 256, after 8; then 15 for a member not below C": two cards are too few for C = 3,
     -- also where the list is too long; a list of 257; one of 256 is answered; sequence 3
     ∷ declines 3 3 (card0 ∷ card1 ∷ []) (0 ∷ []) 8
@@ -289,4 +316,30 @@ starred =
     ∷ explains tenSequences 5 spare 1 (5 ∷ 7 ∷ 7 ∷ 7 ∷ 7 ∷ [])
     -- 8 is <9, 1>: 1 counts too, though 9 stands before it
     ∷ explains tenSequences 8 (replicate 7 9) 6 (0 ∷ 1 ∷ 3 ∷ 7 ∷ 8 ∷ 9 ∷ 9 ∷ [])
+    -- document 02, request 8: "F in bits 0 to 8 (1 to 256)". L as request 6 had it: its head says F = 387
+    ∷ refuses (set (set L 0 0x100c0183) 19 0xf0f20910) 3 0
+    -- "C in bits 19 to 27 (0 to 256)"
+    ∷ refuses (0x18080001 ∷ 0xf8080401 ∷ []) 3 0
+    -- a fact is below F: 256 of 256, and 65 of 65, at its word; 64 of 65 is one
+    ∷ refuses (0x10000300 ∷ 0x50000000 ∷ 0x30000100 ∷ 0xf0004a00 ∷ []) 5 2
+    ∷ refuses (0x10000241 ∷ 0x50000000 ∷ 0x30000041 ∷ 0xf0004704 ∷ []) 5 2
+    ∷ accepts (0x10000241 ∷ 0x50000000 ∷ 0x30000040 ∷ 0xf0004703 ∷ []) 65 1 0
+    -- 13 is about one fact, 191, and not about two that agree in their last six bits, 127 and 191
+    ∷ refuses (0x10000300 ∷ 0x50000000 ∷ 0x300000bf ∷ 0x400000bf ∷ 0xf000823d ∷ []) 13 3
+    ∷ accepts (0x10000300 ∷ 0x50000000 ∷ 0x3000007f ∷ 0x400000bf ∷ 0xf00081bd ∷ []) 256 1 0
+    -- "Each column takes four words, facts 0 to 63 first": fact 64 is set on every run, the others are left alone
+    ∷ fills wide (cardWide ∷ [])
+    -- "A column prints as one hexadecimal number."
+    ∷ prints wide "0 101 0 0 10000000000000000 0 10000000000000000 0 10000000000000000 10000000000000000 ffffffffffffffff ffffffffffffffff 0 ffffffffffffffff\n"
+    -- fact 64 is not fact 0; "The fact asked about is not below F"
+    ∷ chains wide 0 0 64 spare 1 (0xa0000000 ∷ 0xb0000000 ∷ 7 ∷ 7 ∷ 7 ∷ [])
+    ∷ chains wide 0 0 0 spare 0 spare
+    ∷ chains wide 0 2 64 spare 0 spare
+    ∷ chains wide 0 2 0 spare 1 (0xa0000000 ∷ 0xc0000000 ∷ 7 ∷ 7 ∷ 7 ∷ [])
+    ∷ chains wide 0 0 65 spare (11 * 2 ^ 32) spare
+    -- "8 asks 49 × C", and the list's card has as many words: with fact 64, and without it, where no fact is changeable
+    ∷ composes 65 1 (cardWide ∷ []) (0 ∷ 0 ∷ []) cardWide
+    ∷ composes 64 1 (cardWide ∷ []) (0 ∷ []) (few (1 ∷ 0 ∷ 0 ∷ 0 ∷ 0 ∷ 0 ∷ 0 ∷ 0 ∷ 0 ∷ 0xffffffffffffffff ∷ 0xffffffffffffffff ∷ 0 ∷ 0xffffffffffffffff ∷ []))
+    -- "The printing program's area has 7,840 words, so more than 160 sequences print `refused 8 at 0`": 161 of them, without an alternative
+    ∷ prints (0x15080001 ∷ (openers 0 161 ++ (0xf3e3bd82 ∷ []))) "refused 8 at 0\n"
     ∷ []

@@ -15,8 +15,8 @@ use Rattle.general.specs.Scan.{listBelow}
 use Rattle.library.specs.Library.{libraryOf}
 use Rattle.swap.specs.Swapped.{swapped, DifferentEntries}
 use Rattle.column.specs.Sets.{inColumn, countBelow}
-use Rattle.cards.specs.Layout.{CardColumn, may-set, may-clear, place, cardWords}
-use Rattle.cards.specs.Area.{partWord}
+use Rattle.cards.specs.Layout.{CardColumn, may-set, may-clear, place, cardNumbers, cardWords}
+use Rattle.cards.specs.Area.{partWord, partNumber}
 use Rattle.cards.specs.Meaning.{Always}
 use Rattle.chains.specs.Link.{Link, Chain, chainWords}
 use Rattle.dulimoven.specs.Returned.{Returned, returned}
@@ -35,13 +35,13 @@ pub record Gets (image : List ℕ) (c q f : ℕ) (area : List ℕ) (ls : Chain) 
 -- "blank "always" columns": one of them is blank on every card
 abbrev pub BlankColumn : CardColumn → Engine → Type 0
 BlankColumn k e =
-    (image area : List ℕ) → Ready image area → (c : ℕ) → c < count (libraryOf image) → partWord (e .cards image area .area) c (place k) ≡ 0
+    (image area : List ℕ) → Ready image area → (c : ℕ) → c < count (libraryOf image) → partNumber (e .cards image area .area) c (place k) ≡ 0
 
 -- "one card for every sequence"
 abbrev pub OneCard : Engine → Type 0
 OneCard e =
-    (image area : List ℕ) → Ready image area → (c d k : ℕ) → c < count (libraryOf image) → d < count (libraryOf image) → k < cardWords
-    → partWord (e .cards image area .area) c k ≡ partWord (e .cards image area .area) d k
+    (image area : List ℕ) → Ready image area → (c d k : ℕ) → c < count (libraryOf image) → d < count (libraryOf image) → k < cardNumbers
+    → partNumber (e .cards image area .area) c k ≡ partNumber (e .cards image area .area) d k
 
 -- "or an untouched area"
 abbrev pub Untouched : Engine → Type 0
@@ -102,9 +102,9 @@ pub record InventedCount (e : Engine) : Type 0 where
   pub ready : Ready image area
   pub sequence : ℕ
   pub low : sequence < count (libraryOf image)
-  pub invented : partWord (e .cards image area .area) sequence 0 / 2 ^ 8
+  pub invented : partNumber (e .cards image area .area) sequence 0 / 2 ^ 8
       ≢ countBelow (libraryOf image .facts)
-      (λ (f : ℕ). inColumn (partWord (e .cards image area .area) sequence (place may-set)) f || inColumn (partWord (e .cards image area .area) sequence (place may-clear)) f)
+      (λ (f : ℕ). inColumn (partNumber (e .cards image area .area) sequence (place may-set)) f || inColumn (partNumber (e .cards image area .area) sequence (place may-clear)) f)
 
 -- "refusing all images"
 abbrev pub RefusesAll : Engine → Type 0

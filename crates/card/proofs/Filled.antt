@@ -2,7 +2,7 @@
 -- Assumes nothing.
 use Prim.Native.Nat.{ℕ, _*_, _≤_, _<_}
 use native.Mathlib.Omega.{arith}
-use mathlib.Core.Path.{_≡_, refl, sym, ap, ap₂, _∙_}
+use mathlib.Core.Path.{_≡_, refl, sym, ap, _∙_}
 use mathlib.Core.Bool.{Bool, true, false, cond}
 use mathlib.Core.List.{List, _++_}
 use lib.ListN.{length, drop}
@@ -10,19 +10,14 @@ use lib.Dec.{ltb}
 use borrow.Author.Tests.{lt-ltb, le-ltb, ltb-false}
 use Rattle.library.specs.Library.{libraryOf}
 use Rattle.rules.specs.Checked.{checked}
-use Rattle.library.specs.Accepted.{Counted, Faultless}
 use Rattle.image.specs.declared.answer.Head.{Head}
 use Rattle.image.specs.declared.answer.Refusal.{Refusal}
 use Rattle.image.specs.declared.answer.Refusal.the-variants.{CardArea}
 use Rattle.image.specs.declared.answer.Checked.{Checked}
-use Rattle.library.proofs.Accepted.{faultless, counted}
-use Rattle.outcome.specs.Area.{outcomes}
 use Rattle.cards.specs.Layout.{cardWords}
 use Rattle.cards.specs.Card.{cards}
-use Rattle.writer.specs.Card.{tableCards}
 use Rattle.card.specs.Answer.{cardsGiven, cardsOf, areaWith, CardsCalled}
 use Rattle.card.specs.declared.answer.Cards.{Cards}
-use Rattle.card.proofs.Table.{table-cards}
 
 -- an answer, and the area that goes with it
 called : (image area : List ℕ) (found : Checked) (answer : Cards) (after : List ℕ) → checked image ≡ found
@@ -41,19 +36,6 @@ module _ (image area : List ℕ) (h : Head) (accepted : checked image ≡ Checke
   call-short l =
       called image area (Checked.Accepted h) (Cards.Refused CardArea) area accepted
       (ap (λ (b : Bool). cond b (Cards.Refused CardArea) (Cards.Filled (h .sequences))) (lt-ltb (length area) (cardWords * h .sequences) l)) refl
-
-  -- the cards of the outcome table
-  pub cards-written : (table rest after : List ℕ) → table ≡ outcomes (libraryOf image) ++ rest
-      → after ≡ tableCards table 0 (h .sequences) ++ drop (cardWords * h .sequences) area → after ≡ cards (libraryOf image) ++ drop (cardWords * h .sequences) area
-  cards-written table rest after t w =
-      let L = libraryOf image in
-      let has : Counted L h = counted image h accepted in
-      let right : Faultless image h = faultless image h accepted in
-      let low : 1 ≤ L .facts = omega (arith, has .facts, right .facts-low) in
-      let high : L .facts ≤ 64 = omega (arith, has .facts, right .facts-high) in
-      let written : tableCards table 0 (h .sequences) ≡ cards L =
-      ap₂ (λ (x : List ℕ) (n : ℕ). tableCards x 0 n) t (sym (has .sequences)) ∙ table-cards L low high rest in
-      w ∙ ap (λ (x : List ℕ). x ++ drop (cardWords * h .sequences) area) written
 
   pub call-filled : cardWords * h .sequences ≤ length area → (after : List ℕ) → after ≡ cards (libraryOf image) ++ drop (cardWords * h .sequences) area
       → CardsCalled image area (Cards.Filled (h .sequences)) after

@@ -1,22 +1,21 @@
 -- The card call's answer for every image and every card area, the area after it, and the number that the C side gets (document 01,
 -- "Turned down, in checking order", "The card" and "Chains").
-use Prim.Native.Nat.{ℕ, _*_, _≤_}
+use Prim.Native.Nat.{ℕ, _*_}
 use mathlib.Core.Path.{_≡_}
 use mathlib.Core.Bool.{cond}
 use mathlib.Core.List.{List, _++_}
 use lib.ListN.{length, drop}
 use lib.Dec.{ltb}
 use Rattle.image.specs.Answer.{refusalAnswer}
-use Rattle.rules.specs.Checked.{checked, accepts}
+use Rattle.rules.specs.Checked.{checked}
 use Rattle.library.specs.Library.{libraryOf}
-use Rattle.image.specs.declared.answer.Head.{Head}
 use Rattle.image.specs.declared.answer.Refusal.the-variants.{CardArea}
 use Rattle.image.specs.declared.answer.Checked.{Checked}
 use Rattle.cards.specs.Layout.{cardWords}
 use Rattle.cards.specs.Card.{cards}
 use Rattle.card.specs.declared.answer.Cards.{Cards}
 
--- 8: "The card area has fewer than 7 × C words of 64 bits."; "8 asks 13 × C" (document 02, request 5). It comes after 1 to 7;
+-- 8: "The card area has fewer than 7 × C words of 64 bits."; "8 asks 49 × C" (document 02, request 8). It comes after 1 to 7;
 -- "Otherwise .. the cards [answer] C"
 abbrev pub cardsGiven : Checked → ℕ → Cards
 cardsGiven (Checked.Refused r) room = Cards.Refused r
@@ -27,8 +26,8 @@ cardsGiven (Checked.Accepted h) room =
 abbrev pub cardsOf : List ℕ → List ℕ → Cards
 cardsOf image area = cardsGiven (checked image) (length area)
 
--- "Nothing lent is changed." "Each sequence's words are written into its own part of the card area; words past 7 × C stay.": 13 × C by
--- request 5
+-- "Nothing lent is changed." "Each sequence's words are written into its own part of the card area; words past 7 × C stay.": 49 × C by
+-- request 8
 abbrev pub areaWith : Cards → List ℕ → List ℕ → List ℕ
 areaWith (Cards.Refused r) image area = area
 areaWith (Cards.Filled n) image area = cards (libraryOf image) ++ drop (cardWords * n) area
@@ -46,8 +45,3 @@ cardsAnswer (Cards.Refused r) = refusalAnswer r
 pub record CardsCalled (image before : List ℕ) (found : Cards) (after : List ℕ) : Type 0 where
   pub answer : found ≡ cardsOf image before
   pub area : after ≡ cardArea image before
-
--- what the cards ask: an accepted image, and room for them
-pub record FillAsked (h : Head) (image area : List ℕ) : Type 0 where
-  pub accepted : accepts image h
-  pub room : cardWords * h .sequences ≤ length area

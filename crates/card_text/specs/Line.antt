@@ -1,27 +1,25 @@
--- The lines of the printing program (document 01, "The printing program").
-use Prim.Native.Nat.{ℕ, zero, suc, _*_}
+-- The lines of the printing program (document 01, "The printing program"; document 02, requests 4 and 8).
+use Prim.Native.Nat.{ℕ, zero, suc}
 use mathlib.Core.List.{List, [], _∷_, _++_}
-use lib.ListN.{take, drop}
-use Rattle.cards.specs.Layout.{cardWords}
 use Rattle.text.specs.Number.{numeral}
 
--- "then the seven card words in hexadecimal .., one space between": each word after a space. "The program prints all card words" (document 02,
--- request 4)
+-- "then the seven card words in hexadecimal .., one space between"; "The program prints all card words" (request 4); "A column prints as one
+-- hexadecimal number." (request 8): the flags and the columns, each after a space
 unfoldable pub spaced : List ℕ → List ℕ
 spaced [] = []
-spaced (w ∷ ws) = (32 ∷ numeral 16 w) ++ spaced ws
+spaced (x ∷ xs) = (32 ∷ numeral 16 x) ++ spaced xs
 
--- "one line a sequence: its number in decimal, then the seven card words"
+-- "one line a sequence: its number in decimal, then the seven card words": the numbers of its card
 unfoldable pub cardLine : ℕ → List ℕ → List ℕ
-cardLine c card = numeral 10 c ++ (spaced card ++ (10 ∷ []))
+cardLine c numbers = numeral 10 c ++ (spaced numbers ++ (10 ∷ []))
 
--- the lines of n sequences from sequence c on, their cards in one list
-unfoldable pub linesFrom : List ℕ → ℕ → ℕ → List ℕ
-linesFrom cards c zero = []
-linesFrom cards c (suc n) = cardLine c (take cardWords (drop (cardWords * c) cards)) ++ linesFrom cards (suc c) n
+-- the lines of n sequences from sequence c on, by the numbers of each one's card
+unfoldable pub linesFrom : (ℕ → List ℕ) → ℕ → ℕ → List ℕ
+linesFrom numbers c zero = []
+linesFrom numbers c (suc n) = cardLine c (numbers c) ++ linesFrom numbers (suc c) n
 
-unfoldable pub cardLines : List ℕ → ℕ → List ℕ
-cardLines cards n = linesFrom cards 0 n
+unfoldable pub cardLines : (ℕ → List ℕ) → ℕ → List ℕ
+cardLines numbers n = linesFrom numbers 0 n
 
 -- "refused " and " at "
 abbrev pub refusedText : List ℕ

@@ -8,7 +8,7 @@ use mathlib.Core.Path.{_≡_, refl, sym, ap, ap₂, _∙_}
 use mathlib.Core.Logic.{⊎-elim}
 use mathlib.Core.Bool.{Bool, true, false, cond, not, _&&_, _||_, and-self, and-true, true≢false}
 use mathlib.Core.List.{List, [], _∷_, _++_, map}
-use lib.ListN.{length, getD, List·getD-append}
+use lib.ListN.{length, getD}
 use lib.Seq.{ext-getD}
 use mir.Val.{boolByte}
 use Rattle.general.specs.Scan.{every}
@@ -18,7 +18,7 @@ use Rattle.general.proofs.Bools.{passes-or-not, and-implied}
 use Rattle.column.specs.Column.{column}
 use Rattle.column.specs.Sets.{inColumn, countBelow}
 use Rattle.column.proofs.Bits.{column-same, column-none}
-use Rattle.column.proofs.Operations.{in-column, column-all, count-same, count-none}
+use Rattle.column.proofs.Operations.{column-all, count-same, count-none}
 use Rattle.library.specs.Library.{Library, call}
 use Rattle.runs.specs.Added.{withList, addedTo, Whole}
 use Rattle.runs.specs.Touch.{Side, last, first, Mark, present, absent, untouched, otherTouch}
@@ -31,12 +31,11 @@ use Rattle.runs.proofs.Rows.{by-column}
 use Rattle.runs.proofs.Added.{possible-kept, possible-added}
 use Rattle.cards.specs.Layout.{CardColumn, always-needed, may-need, may-set, may-clear, always-set, always-cleared, always-stands}
 use Rattle.cards.specs.Layout.{may-first-set, may-first-untouched, may-last-untouched, may-end-cleared, may-end-unmentioned}
-use Rattle.cards.specs.Layout.{place, cardWords}
-use Rattle.cards.specs.Card.{every-run, claim, claimed, claimWord, columnWord, changeable, flags, card, cardWord, cards}
-use Rattle.cards.specs.Area.{partWord}
-use Rattle.cards.specs.Composed.{hasRun, hasEmptyRun, has, oneThenAll, allThenOne, listHas, listColumn, listCount, listFlags, composedCard, blankCard, listCard, emptyListCard, kept}
-use Rattle.cards.proofs.Meaning.{by-word, card-column, card-blank, place-low, run-flag, empty-flag}
-use Rattle.cards.proofs.Area.{length-card, length-cards, card-words}
+use Rattle.cards.specs.Layout.{cardNumbers, columnWidth, laid}
+use Rattle.cards.specs.Card.{every-run, claim, claimed, claimWord, columnWord, changeable, flags, card, cardNumber, cards}
+use Rattle.cards.specs.Composed.{hasRun, hasEmptyRun, has, oneThenAll, allThenOne, listHas, listColumn, listCount, listFlags, composedNumbers, blankNumbers, listNumbers, listCard, emptyListNumbers, kept}
+use Rattle.cards.proofs.Meaning.{by-number, card-column, card-blank, run-flag, empty-flag}
+use Rattle.cards.proofs.Area.{length-card, card-flags, card-has}
 use Rattle.cards.proofs.Rule.{every-same, one-then-same, all-then-same}
 use Rattle.cards.proofs.Joined.{Joined, called-rows}
 
@@ -45,8 +44,8 @@ all-from : {A : Type 0} {P Q : A → Type 0} → ((x : A) → P x → Q x) → (
 all-from k [] each = tt
 all-from k (x ∷ xs) each = (k x (each .0), all-from k xs (each .1))
 
-blank-word : (j : ℕ) → getD blankCard j 0 ≡ 0
-blank-word j = zeros cardWords j
+blank-number : (j : ℕ) → getD blankNumbers j 0 ≡ 0
+blank-number j = zeros cardNumbers j
 
 module _ (L : Library) (ms rest : List ℕ) (whole : Whole L) (below : All (λ (m : ℕ). m < length (L .sequences)) ms) where
   abbrev C : ℕ
@@ -60,28 +59,21 @@ module _ (L : Library) (ms rest : List ℕ) (whole : Whole L) (below : All (λ (
 
   -- ---- the members' bits
 
-  -- a word of a member's card, where the library's cards stand in front
-  member-word : (m k : ℕ) → m < C → k < cardWords → partWord area m k ≡ cardWord L m k
-  member-word m k l u = List·getD-append (cards L) rest 0 (cardWords * m + k) (omega (arith, length-cards L)) ∙ card-words L m k l u
+  member-has : L .facts ≤ columnWidth → (f : ℕ) → f < L .facts → (k : CardColumn) (m : ℕ) → m < C → has area f k m ≡ claimed L (claim k) m f
+  member-has few f low k m l = card-has L rest m l few k f low
 
-  member-has : (f : ℕ) → f < L .facts → (k : CardColumn) (m : ℕ) → m < C → has area f k m ≡ claimed L (claim k) m f
-  unfolding claimWord
-  member-has f low k m l =
-      ap (λ (n : ℕ). inColumn n f) (member-word m (place k) l (place-low k) ∙ card-column L m k)
-      ∙ in-column (L .facts) (λ (g : ℕ). claimed L (claim k) m g) f low
-
-  members-have : (f : ℕ) → f < L .facts → (k : CardColumn) → All (λ (m : ℕ). has area f k m ≡ claimed L (claim k) m f) ms
-  members-have f low k = all-from (member-has f low k) ms below
+  members-have : L .facts ≤ columnWidth → (f : ℕ) → f < L .facts → (k : CardColumn) → All (λ (m : ℕ). has area f k m ≡ claimed L (claim k) m f) ms
+  members-have few f low k = all-from (member-has few f low k) ms below
 
   members-run : every (hasRun area) ms ≡ every (possible.hasRun L) ms
   members-run =
       every-same (hasRun area) (possible.hasRun L) ms
-      (all-from (λ m l. ap (λ (n : ℕ). inColumn n 0) (member-word m 0 l (omega arith)) ∙ run-flag L m) ms below)
+      (all-from (λ m l. ap (λ (n : ℕ). inColumn n 0) (card-flags L rest m l) ∙ run-flag L m) ms below)
 
   members-empty : every (hasEmptyRun area) ms ≡ every (possible.hasEmptyRun L) ms
   members-empty =
       every-same (hasEmptyRun area) (possible.hasEmptyRun L) ms
-      (all-from (λ m l. ap (λ (n : ℕ). inColumn n 1) (member-word m 0 l (omega arith)) ∙ empty-flag L m) ms below)
+      (all-from (λ m l. ap (λ (n : ℕ). inColumn n 1) (card-flags L rest m l) ∙ empty-flag L m) ms below)
 
   -- ---- the added sequence's columns
 
@@ -106,13 +98,13 @@ module _ (L : Library) (ms rest : List ℕ) (whole : Whole L) (below : All (λ (
     added-empty : possible.hasEmptyRun L′ C ≡ every (possible.hasEmptyRun L) ms
     added-empty = added-column 0 1 (omega arith) ∙ by-members 0 .empty
 
-    module _ (f : ℕ) (low : f < L .facts) where
+    module _ (few : L .facts ≤ columnWidth) (f : ℕ) (low : f < L .facts) where
       -- a "some" column of a card is column j of a row
       abbrev IsColumn : CardColumn → ℕ → Type 0
       IsColumn k j = (K : Library) (m : ℕ) → claimed K (claim k) m f ≡ columnPossible K j m f
 
       members-agree : (k : CardColumn) (j : ℕ) → IsColumn k j → All (λ (m : ℕ). has area f k m ≡ rows f m j) ms
-      members-agree k j is = all-from (λ m e. e ∙ is L m) ms (members-have f low k)
+      members-agree k j is = all-from (λ m e. e ∙ is L m) ms (members-have few f low k)
 
       added-claim : (k : CardColumn) (j : ℕ) → j < columnCount → IsColumn k j → claimed L′ (claim k) C f ≡ after f j
       added-claim k j u is = is L′ C ∙ added-column f j u
@@ -184,8 +176,8 @@ module _ (L : Library) (ms rest : List ℕ) (whole : Whole L) (below : All (λ (
       listed may-end-cleared = cleared-end
       listed may-end-unmentioned = unmentioned
 
-    -- the words, for at most as many facts as a column has room for
-    module _ (few : L .facts ≤ 64) where
+    -- the numbers, for at most as many facts as a column has room for
+    module _ (few : L .facts ≤ columnWidth) where
       all-kept : kept (L .facts) ≡ L .facts
       all-kept = omega arith
 
@@ -193,7 +185,7 @@ module _ (L : Library) (ms rest : List ℕ) (whole : Whole L) (below : All (λ (
       unfolding listColumn claimWord
       column-listed k =
           ap (λ (n : ℕ). column n (λ (f : ℕ). listHas area ms f k)) all-kept
-          ∙ column-same (L .facts) (λ (f : ℕ). listHas area ms f k) (λ (f : ℕ). claimed L′ (claim k) C f) (λ f low. listed f low k)
+          ∙ column-same (L .facts) (λ (f : ℕ). listHas area ms f k) (λ (f : ℕ). claimed L′ (claim k) C f) (λ f low. listed few f low k)
 
       count-listed : listCount (L .facts) area ms ≡ changeable L′ C
       unfolding listCount changeable
@@ -201,7 +193,7 @@ module _ (L : Library) (ms rest : List ℕ) (whole : Whole L) (below : All (λ (
           ap (λ (n : ℕ). countBelow n (λ (f : ℕ). listHas area ms f may-set || listHas area ms f may-clear)) all-kept
           ∙ count-same (L .facts) (λ (f : ℕ). listHas area ms f may-set || listHas area ms f may-clear)
           (λ (f : ℕ). claimed L′ (claim may-set) C f || claimed L′ (claim may-clear) C f)
-          (λ f low. ap₂ _||_ (listed f low may-set) (listed f low may-clear))
+          (λ f low. ap₂ _||_ (listed few f low may-set) (listed few f low may-clear))
 
       flags-listed : listFlags (L .facts) area ms ≡ flags L′ C
       unfolding listFlags flags
@@ -210,27 +202,31 @@ module _ (L : Library) (ms rest : List ℕ) (whole : Whole L) (below : All (λ (
           let empty : every (hasEmptyRun area) ms ≡ possible.hasEmptyRun L′ C = members-empty ∙ sym added-empty in
           omega (arith, ap boolByte run, ap boolByte empty, count-listed)
 
-      words-listed : composedCard (L .facts) area ms ≡ card L′ C
-      unfolding composedCard card
-      words-listed i =
+      numbers-listed : composedNumbers (L .facts) area ms ≡ card L′ C
+      unfolding composedNumbers card
+      numbers-listed i =
           flags-listed i ∷ column-listed always-needed i ∷ column-listed may-need i ∷ column-listed may-set i ∷ column-listed may-clear i
           ∷ column-listed always-set i ∷ column-listed always-cleared i ∷ column-listed always-stands i ∷ column-listed may-first-set i
           ∷ column-listed may-first-untouched i ∷ column-listed may-last-untouched i ∷ column-listed may-end-cleared i
           ∷ column-listed may-end-unmentioned i ∷ []
 
-      listed-live : listCard (L .facts) area ms ≡ card L′ C
-      unfolding listCard
-      listed-live = ap (λ (b : Bool). cond b (composedCard (L .facts) area ms) blankCard) (members-run ∙ live) ∙ words-listed
+      listed-live : listNumbers (L .facts) area ms ≡ card L′ C
+      unfolding listNumbers
+      listed-live = ap (λ (b : Bool). cond b (composedNumbers (L .facts) area ms) blankNumbers) (members-run ∙ live) ∙ numbers-listed
 
   -- without a run of a member both are blank
-  listed-blank : every (possible.hasRun L) ms ≡ false → listCard (L .facts) area ms ≡ card L′ C
-  unfolding listCard card
+  listed-blank : every (possible.hasRun L) ms ≡ false → listNumbers (L .facts) area ms ≡ card L′ C
+  unfolding listNumbers card
   listed-blank none =
-      ap (λ (b : Bool). cond b (composedCard (L .facts) area ms) blankCard) (members-run ∙ none)
-      ∙ ext-getD 0 blankCard (card L′ C) refl (λ j u. blank-word j ∙ sym (card-blank L′ C (added-run ∙ none) j u))
+      ap (λ (b : Bool). cond b (composedNumbers (L .facts) area ms) blankNumbers) (members-run ∙ none)
+      ∙ ext-getD 0 blankNumbers (card L′ C) refl (λ j u. blank-number j ∙ sym (card-blank L′ C (added-run ∙ none) j u))
 
-  pub list-added : L .facts ≤ 64 → listCard (L .facts) area ms ≡ card L′ (addedTo L)
-  list-added few = ⊎-elim (λ live. listed-live live few) listed-blank (passes-or-not (every (possible.hasRun L) ms))
+  numbers-added : L .facts ≤ columnWidth → listNumbers (L .facts) area ms ≡ card L′ (addedTo L)
+  numbers-added few = ⊎-elim (λ live. listed-live live few) listed-blank (passes-or-not (every (possible.hasRun L) ms))
+
+  pub list-added : L .facts ≤ columnWidth → listCard (L .facts) area ms ≡ laid (card L′ (addedTo L))
+  unfolding listCard
+  list-added few = ap laid (numbers-added few)
 
 -- ---- cards of sequences with the same columns
 
@@ -278,7 +274,7 @@ module _ (K K′ : Library) (c c′ : ℕ) (facts : K .facts ≡ K′ .facts)
   unfolding card
   card-agrees =
       ext-getD 0 (card K c) (card K′ c′) (length-card K c ∙ sym (length-card K′ c′))
-      (λ j u. by-word (λ i. cardWord K c i ≡ cardWord K′ c′ i) flags-agree (λ k. card-column K c k ∙ column-agrees k ∙ sym (card-column K′ c′ k)) j
+      (λ j u. by-number (λ i. cardNumber K c i ≡ cardNumber K′ c′ i) flags-agree (λ k. card-column K c k ∙ column-agrees k ∙ sym (card-column K′ c′ k)) j
       (omega (arith, length-card K c)))
 
 -- with the list added, each sequence of the library has the card that it had
@@ -316,9 +312,9 @@ card-one L m whole low = card-agrees (withList L (m ∷ [])) L (addedTo L) m ref
         (λ e. ⊎-elim (λ run. run) (λ none. absurd (true≢false (sym e ∙ blank-columns (columnOf j) L m f none))) (passes-or-not (possible.hasRun L m)))
 
 -- the empty list, over any area
-pub list-none : (facts : ℕ) (area : List ℕ) → listCard facts area [] ≡ emptyListCard facts
-unfolding listCard composedCard listFlags listCount listColumn every oneThenAll allThenOne
-list-none facts area i =
+none-numbers : (facts : ℕ) (area : List ℕ) → listNumbers facts area [] ≡ emptyListNumbers facts
+unfolding listNumbers composedNumbers listFlags listCount listColumn every oneThenAll allThenOne
+none-numbers facts area i =
     let none = column-none (kept facts) in
     let all = column-all (kept facts) in
     flag i ∷ none i ∷ none i ∷ none i ∷ none i ∷ none i ∷ none i ∷ none i ∷ none i ∷ all i ∷ all i ∷ none i ∷ all i ∷ []
@@ -326,6 +322,10 @@ list-none facts area i =
     flag : 1 + 2 * 1 + 2 ^ 8 * countBelow (kept facts) (λ (f : ℕ). false) ≡ 3
     flag = omega (arith, count-none (kept facts))
 
+pub list-none : (facts : ℕ) (area : List ℕ) → listCard facts area [] ≡ laid (emptyListNumbers facts)
+unfolding listCard
+list-none facts area = ap laid (none-numbers facts area)
+
 -- and so the sequence whose one alternative is empty
-pub card-none : (L : Library) → Whole L → L .facts ≤ 64 → card (withList L []) (addedTo L) ≡ emptyListCard (L .facts)
-card-none L whole few = sym (list-added L [] [] whole tt few) ∙ list-none (L .facts) (cards L ++ [])
+pub card-none : (L : Library) → Whole L → L .facts ≤ columnWidth → card (withList L []) (addedTo L) ≡ emptyListNumbers (L .facts)
+card-none L whole few = sym (numbers-added L [] [] whole tt few) ∙ none-numbers (L .facts) (cards L ++ [])

@@ -1,5 +1,6 @@
 pub mod Meaning
 pub mod Unique
+pub mod Laid
 pub mod Area
 pub mod Rule
 pub mod Joined

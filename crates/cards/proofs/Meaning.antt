@@ -1,7 +1,7 @@
 -- What a card says, proved: the columns against the published definitions, the flags, the count and the blank card of demand 2, and
--- the sentences of demand 3 over the words of a card.
--- It has: `card-right` (demand 2), `runs-right` (demand 3), and that words which are the same mean the same (`card-same`, `runs-same`). That
--- no other words are a card is in Unique.
+-- the sentences of demand 3 over the numbers of a card.
+-- It has: `card-right` (demand 2), `runs-right` (demand 3), and that numbers which are the same mean the same (`card-same`, `runs-same`). That
+-- no other numbers are a card is in Unique.
 -- Assumes nothing.
 use Prim.Native.Nat.{ℕ, zero, suc, _+_, _*_, _/_, _^_, _≤_, _<_}
 use native.Mathlib.Omega.{arith}
@@ -30,23 +30,23 @@ use Rattle.runs.proofs.Execution.{needed-stood, set-stands, cleared-falls, gain
 use Rattle.runs.proofs.Standing.{standing-iff, ends-cleared-iff, unmentioned-iff}
 use Rattle.cards.specs.Layout.{CardColumn, always-needed, may-need, may-set, may-clear, always-set, always-cleared, always-stands}
 use Rattle.cards.specs.Layout.{may-first-set, may-first-untouched, may-last-untouched, may-end-cleared, may-end-unmentioned}
-use Rattle.cards.specs.Layout.{place, cardWords}
-use Rattle.cards.specs.Card.{Claim, some-run, every-run, claim, claimed, claimWord, columnWord, changeable, flags, card, cardWord}
+use Rattle.cards.specs.Layout.{place, cardNumbers, columnWidth}
+use Rattle.cards.specs.Card.{Claim, some-run, every-run, claim, claimed, claimWord, columnWord, changeable, flags, card, cardNumber}
 use Rattle.cards.specs.Meaning.{Lacks, SomeRun, puts, Columns, Flags, Blank, Card, Kept, Changed, Always, needed, set, cleared, columnOf, Missing, Runs}
 
--- ---- the words of a card
+-- ---- the numbers of a card
 
--- what holds of the flags' word and of each column's holds of every word of a card
-pub by-word : (P : ℕ → Type 0) → P 0 → ((k : CardColumn) → P (place k)) → (j : ℕ) → j < cardWords → P j
-by-word P zeroth column =
+-- what holds of the flags and of each column holds of every number of a card
+pub by-number : (P : ℕ → Type 0) → P 0 → ((k : CardColumn) → P (place k)) → (j : ℕ) → j < cardNumbers → P j
+by-number P zeroth column =
     let need = below-more P 2 (below-more P 1 (below-more P 0 (below-none P) zeroth) (column always-needed)) (column may-need) in
     let may = below-more P 4 (below-more P 3 need (column may-set)) (column may-clear) in
     let always = below-more P 7 (below-more P 6 (below-more P 5 may (column always-set)) (column always-cleared)) (column always-stands) in
     let first = below-more P 9 (below-more P 8 always (column may-first-set)) (column may-first-untouched) in
     below-more P 12 (below-more P 11 (below-more P 10 first (column may-last-untouched)) (column may-end-cleared)) (column may-end-unmentioned)
 
--- a column's word stands in its place
-pub card-column : (L : Library) (c : ℕ) (k : CardColumn) → cardWord L c (place k) ≡ columnWord L k c
+-- a column stands in its place
+pub card-column : (L : Library) (c : ℕ) (k : CardColumn) → cardNumber L c (place k) ≡ columnWord L k c
 unfolding card
 card-column L c always-needed = refl
 card-column L c may-need = refl
@@ -61,7 +61,7 @@ card-column L c may-last-untouched = refl
 card-column L c may-end-cleared = refl
 card-column L c may-end-unmentioned = refl
 
--- ---- a word, one fact at a time
+-- ---- a column, one fact at a time
 
 module _ (L : Library) (p : Claim) (c : ℕ) where
   claim-holds : (f : Fact L) → (bit (claimWord L p c) (f .0) ≡ 1) ↔ (claimed L p c (f .0) ≡ true)
@@ -78,7 +78,7 @@ module _ (L : Library) (p : Claim) (c : ℕ) where
 
 -- ---- demand 2
 
-columns-right : (L : Library) (c : ℕ) → HasRun L c → (f : Fact L) → Columns L c (cardWord L c) f
+columns-right : (L : Library) (c : ℕ) → HasRun L c → (f : Fact L) → Columns L c (cardNumber L c) f
 columns-right L c run f k = rw (card-column L c k) (Iff·trans (claim-holds L (claim k) c f) (go k))
   where
     p : PublishedColumns L c f
@@ -112,7 +112,7 @@ columns-right L c run f k = rw (card-column L c k) (Iff·trans (claim-holds L (c
     go may-end-cleared = some-iff standing absent (ends-cleared-iff L (f .0))
     go may-end-unmentioned = some-iff standing untouched (unmentioned-iff L (f .0))
 
-facts-only : (L : Library) (c : ℕ) (k : CardColumn) (f : ℕ) → L .facts ≤ f → Lacks (cardWord L c) k f
+facts-only : (L : Library) (c : ℕ) (k : CardColumn) (f : ℕ) → L .facts ≤ f → Lacks (cardNumber L c) k f
 facts-only L c k f u = rw (card-column L c k) (claim-high L (claim k) c f u)
 
 byte-bound : (b : Bool) → boolByte b ≤ 1
@@ -144,8 +144,8 @@ changeable-count L c =
     (λ f l. ap₂ _||_ (sym (in-column (L .facts) (λ (g : ℕ). possibleOutcome L lastSet c g) f l))
     (sym (in-column (L .facts) (λ (g : ℕ). possibleOutcome L lastCleared c g) f l)))
 
--- "bits 8 to 14"
-pub flags-count : (L : Library) (c : ℕ) → cardWord L c 0 / 2 ^ 8 ≡ changeable L c
+-- "bits 8 to 16"
+pub flags-count : (L : Library) (c : ℕ) → cardNumber L c 0 / 2 ^ 8 ≡ changeable L c
 unfolding card flags
 flags-count L c = omega (arith, byte-bound (hasRun L c), byte-bound (hasEmptyRun L c))
 
@@ -162,21 +162,26 @@ byte-test : (b : Bool) → eqb (boolByte b) 1 ≡ b
 byte-test true = refl
 byte-test false = refl
 
-pub run-flag : (L : Library) (c : ℕ) → inColumn (cardWord L c 0) 0 ≡ hasRun L c
+pub run-flag : (L : Library) (c : ℕ) → inColumn (cardNumber L c 0) 0 ≡ hasRun L c
 unfolding card inColumn
 run-flag L c = ap (λ (n : ℕ). eqb n 1) (run-bit L c) ∙ byte-test (hasRun L c)
 
-pub empty-flag : (L : Library) (c : ℕ) → inColumn (cardWord L c 0) 1 ≡ hasEmptyRun L c
+pub empty-flag : (L : Library) (c : ℕ) → inColumn (cardNumber L c 0) 1 ≡ hasEmptyRun L c
 unfolding card inColumn
 empty-flag L c = ap (λ (n : ℕ). eqb n 1) (empty-bit L c) ∙ byte-test (hasEmptyRun L c)
 
-flags-right : (L : Library) → L .facts ≤ 64 → (c : ℕ) → Flags L c (cardWord L c)
+-- "The count of changeable facts takes bits 8 to 16."
+pub flags-low : (L : Library) → L .facts ≤ columnWidth → (c : ℕ) → cardNumber L c 0 < 2 ^ 17
 unfolding card flags changeable
+flags-low L high c =
+    omega (arith, count-le (L .facts) (λ (f : ℕ). possibleOutcome L lastSet c f || possibleOutcome L lastCleared c f), byte-bound (hasRun L c), byte-bound (hasEmptyRun L c))
+
+flags-right : (L : Library) → L .facts ≤ columnWidth → (c : ℕ) → Flags L c (cardNumber L c)
+unfolding card flags
 flags-right L high c =
     let run = hasRun L c in
     let empty = hasEmptyRun L c in
     let n = changeable L c in
-    let few : n ≤ 64 = omega (arith, count-le (L .facts) (λ (f : ℕ). possibleOutcome L lastSet c f || possibleOutcome L lastCleared c f)) in
     let low = run-bit L c in
     let second = empty-bit L c in
     record {
@@ -184,7 +189,7 @@ flags-right L high c =
       empty-run = Iff·trans ((λ e. byte-true empty .0 (sym second ∙ e)), λ e. second ∙ byte-true empty .1 e) (hasEmptyRun-iff L c);
       count = flags-count L c ∙ changeable-count L c;
       between = λ k l u. middle-bits (boolByte run) (boolByte empty) n k (byte-bound run) (byte-bound empty) l u;
-      above = λ k l. bit-high 15 (flags L c) k (omega (arith, few, byte-bound run, byte-bound empty)) l;
+      above = λ k l. bit-high 17 (flags L c) k (flags-low L high c) l;
     }
 
 -- ---- the blank card
@@ -209,25 +214,25 @@ module _ (L : Library) (c : ℕ) (none : hasRun L c ≡ false) where
       ∙ count-none (L .facts) in
       omega (arith, ap boolByte none, ap boolByte empty, count)
 
-  pub card-blank : Blank (cardWord L c)
+  pub card-blank : Blank (cardNumber L c)
   unfolding card
-  card-blank = by-word (λ j. cardWord L c j ≡ 0) flags-blank (λ k. card-column L c k ∙ word-blank (claim k))
+  card-blank = by-number (λ j. cardNumber L c j ≡ 0) flags-blank (λ k. card-column L c k ∙ word-blank (claim k))
 
-pub card-right : (L : Library) → L .facts ≤ 64 → (c : ℕ) → Card L c (cardWord L c)
+pub card-right : (L : Library) → L .facts ≤ columnWidth → (c : ℕ) → Card L c (cardNumber L c)
 card-right L high c =
     record {
       columns = columns-right L c;
       facts-only = facts-only L c;
       blank = (
         (λ e w r. let one = flags-right L high c .run .1 (w, r) in
-            let zero-bit : bit (cardWord L c 0) 0 ≡ 0 = ap (λ (n : ℕ). bit n 0) (e 0 (omega arith)) ∙ bit-none 0 in
+            let zero-bit : bit (cardNumber L c 0) 0 ≡ 0 = ap (λ (n : ℕ). bit n 0) (e 0 (omega arith)) ∙ bit-none 0 in
             omega arith),
         λ none. card-blank L c (noRun-iff L c .1 none),
       );
       flags = flags-right L high c;
     }
 
--- ---- demand 3 over the words of a card
+-- ---- demand 3 over the numbers of a card
 
 module _ (L : Library) (c : ℕ) where
   always-run : (v : View) (m : Mark) → m ≢ untouched → (w : List Item) → Run L c w → (f : Fact L)
@@ -238,7 +243,7 @@ module _ (L : Library) (c : ℕ) where
       → bit (claimWord L (some-run v m) c) (f .0) ≡ 1
   may-run v m w r f o = claim-holds L (some-run v m) c f .1 (view-iff L v m c (f .0) .1 (w, r, o))
 
-  runs-kept : (w : List Item) → Run L c w → (s : State L) → Executes L w s → (f : Fact L) → Kept L (cardWord L c) w s f
+  runs-kept : (w : List Item) → Run L c w → (s : State L) → Executes L w s → (f : Fact L) → Kept L (cardNumber L c) w s f
   unfolding card
   runs-kept w r s ex f =
       record {
@@ -248,7 +253,7 @@ module _ (L : Library) (c : ℕ) where
         stands = λ e. end-standing (domainOf L) f w s ex .stands (always-run standing present present≢untouched w r f e);
       }
 
-  runs-changed : (w : List Item) → Run L c w → (s : State L) → (f : Fact L) → Changed L (cardWord L c) w s f
+  runs-changed : (w : List Item) → Run L c w → (s : State L) → (f : Fact L) → Changed L (cardNumber L c) w s f
   unfolding card
   runs-changed w r s f =
       record {
@@ -256,7 +261,7 @@ module _ (L : Library) (c : ℕ) where
         lost = λ q e. may-run (touches last) absent w r f (lost-cleared (domainOf L) f w s q e);
       }
 
-  missing-right : (a : Always) (f : Fact L) → Missing L c (cardWord L c) a f
+  missing-right : (a : Always) (f : Fact L) → Missing L c (cardNumber L c) a f
   unfolding card
   missing-right needed f =
       Iff·trans (claim-lacks L (claim always-needed) c f) (missing-iff L (touches first) present c (f .0) present≢untouched)
@@ -264,12 +269,12 @@ module _ (L : Library) (c : ℕ) where
   missing-right cleared f =
       Iff·trans (claim-lacks L (claim always-cleared) c f) (missing-iff L (touches last) absent c (f .0) absent≢untouched)
 
-  pub runs-right : Runs L c (cardWord L c)
+  pub runs-right : Runs L c (cardNumber L c)
   runs-right = record { kept = runs-kept; changed = runs-changed; missing = missing-right }
 
--- ---- words found elsewhere that are the same
+-- ---- numbers found elsewhere that are the same
 
-pub place-low : (k : CardColumn) → place k < cardWords
+pub place-low : (k : CardColumn) → place k < cardNumbers
 place-low always-needed = omega arith
 place-low may-need = omega arith
 place-low may-set = omega arith
@@ -283,11 +288,11 @@ place-low may-last-untouched = omega arith
 place-low may-end-cleared = omega arith
 place-low may-end-unmentioned = omega arith
 
-module _ (L : Library) (c : ℕ) (word : ℕ → ℕ) (same : (k : ℕ) → k < cardWords → word k ≡ cardWord L c k) where
-  same-column : (k : CardColumn) → word (place k) ≡ cardWord L c (place k)
+module _ (L : Library) (c : ℕ) (word : ℕ → ℕ) (same : (k : ℕ) → k < cardNumbers → word k ≡ cardNumber L c k) where
+  same-column : (k : CardColumn) → word (place k) ≡ cardNumber L c (place k)
   same-column k = same (place k) (place-low k)
 
-  pub card-same : Card L c (cardWord L c) → Card L c word
+  pub card-same : Card L c (cardNumber L c) → Card L c word
   card-same card =
       let flags = card .flags in
       record {
@@ -307,7 +312,7 @@ module _ (L : Library) (c : ℕ) (word : ℕ → ℕ) (same : (k : ℕ) → k < 
             };
       }
 
-  pub runs-same : Runs L c (cardWord L c) → Runs L c word
+  pub runs-same : Runs L c (cardNumber L c) → Runs L c word
   runs-same runs =
       record {
         kept = λ w r s ex f.

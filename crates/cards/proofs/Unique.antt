@@ -1,4 +1,4 @@
--- What a card says fixes its words: any words of which `Card` holds are the same.
+-- What a card says fixes its numbers: any numbers of which `Card` holds are the same.
 -- Assumes nothing.
 use Prim.Native.Nat.{ℕ, zero, suc, _+_, _-_, _/_, _%_, _^_, _≤_, _<_}
 use native.Mathlib.Omega.{arith}
@@ -15,9 +15,9 @@ use Rattle.runs.specs.Possible.{hasRun}
 use Rattle.general.proofs.Bools.{passes-or-not}
 use Rattle.runs.specs.Run.{HasRun, NoRun}
 use Rattle.runs.proofs.Columns.{hasRun-iff}
-use Rattle.cards.specs.Layout.{CardColumn, may-set, may-clear, place, cardWords}
+use Rattle.cards.specs.Layout.{CardColumn, may-set, may-clear, place, cardNumbers}
 use Rattle.cards.specs.Meaning.{Card}
-use Rattle.cards.proofs.Meaning.{by-word}
+use Rattle.cards.proofs.Meaning.{by-number}
 
 -- bits that are 1 together are equal
 bit-iff : (a b k : ℕ) → (bit a k ≡ 1) ↔ (bit b k ≡ 1) → bit a k ≡ bit b k
@@ -65,11 +65,11 @@ module _ (L : Library) (c : ℕ) (word other : ℕ → ℕ) (one : Card L c word
         (λ high. let from : 8 ≤ suc (suc k) = omega arith in
         bit-shift (word 0) (suc (suc k)) from ∙ ap (λ (n : ℕ). bit n (suc (suc k) - 8)) counts-fixed ∙ sym (bit-shift (other 0) (suc (suc k)) from))
 
-  pub card-unique : (k : ℕ) → k < cardWords → word k ≡ other k
+  pub card-unique : (k : ℕ) → k < cardNumbers → word k ≡ other k
   card-unique k l =
       ⊎-elim (λ e. live (hasRun-iff L c .0 e) k l)
       (λ e. let none : NoRun L c = λ w r. true≢false (sym (hasRun-iff L c .1 (w, r)) ∙ e) in one .blank .1 none k l ∙ sym (two .blank .1 none k l))
       (passes-or-not (hasRun L c))
     where
-      live : HasRun L c → (j : ℕ) → j < cardWords → word j ≡ other j
-      live run = by-word (λ j. word j ≡ other j) (all-bits (word 0) (other 0) (flags-fixed run)) (column-fixed run)
+      live : HasRun L c → (j : ℕ) → j < cardNumbers → word j ≡ other j
+      live run = by-number (λ j. word j ≡ other j) (all-bits (word 0) (other 0) (flags-fixed run)) (column-fixed run)

@@ -1,5 +1,5 @@
--- The card of a sequence and the cards of a library as words that are computed, by what is possible. What the words mean is `Meaning`, and
--- `proofs/` shows that these are the words.
+-- The card of a sequence, as its numbers, and the cards of a library, as words that are computed, by what is possible. What the numbers mean is
+-- `Meaning`, and `proofs/` shows that these are the numbers.
 use Prim.Native.Nat.{ℕ, zero, suc, _+_, _*_, _^_}
 use mathlib.Core.Bool.{Bool, _||_}
 use mathlib.Core.List.{List, [], _∷_, _++_}
@@ -13,6 +13,7 @@ use Rattle.runs.specs.View.{View, touches, standing}
 use Rattle.runs.specs.Possible.{possibleIn, alwaysIn, possibleOutcome, hasRun, hasEmptyRun}
 use Rattle.cards.specs.Layout.{CardColumn, always-needed, may-need, may-set, may-clear, always-set, always-cleared, always-stands}
 use Rattle.cards.specs.Layout.{may-first-set, may-first-untouched, may-last-untouched, may-end-cleared, may-end-unmentioned}
+use Rattle.cards.specs.Layout.{laid}
 
 -- what a column claims: that some run has a mark in a view, or that a run exists and every run has it
 pub data Claim : Type 0 where
@@ -60,11 +61,13 @@ unfoldable pub changeable : Library → ℕ → ℕ
 unfolding countBelow
 changeable L c = countBelow (L .facts) (λ (f : ℕ). possibleOutcome L lastSet c f || possibleOutcome L lastCleared c f)
 
--- "Flags: bit 0, a run exists; bit 1, an empty run exists; bits 8 to 14, the number of facts that are in "may set" or in "may clear"."
+-- "Flags: bit 0, a run exists; bit 1, an empty run exists; bits 8 to 14, the number of facts that are in "may set" or in "may clear".";
+-- "The count of changeable facts takes bits 8 to 16." (document 02, request 8)
 unfoldable pub flags : Library → ℕ → ℕ
 unfolding changeable
 flags L c = boolByte (hasRun L c) + 2 * boolByte (hasEmptyRun L c) + 2 ^ 8 * changeable L c
 
+-- the numbers of a card: the flags and the columns in their order
 unfoldable pub card : Library → ℕ → List ℕ
 unfolding flags claimWord
 card L c =
@@ -73,14 +76,15 @@ card L c =
     ∷ columnWord L may-first-untouched c ∷ columnWord L may-last-untouched c ∷ columnWord L may-end-cleared c
     ∷ columnWord L may-end-unmentioned c ∷ []
 
--- word k of a card
-abbrev pub cardWord : Library → ℕ → ℕ → ℕ
-cardWord L c k = getD (card L c) k 0
+-- number k of a card
+abbrev pub cardNumber : Library → ℕ → ℕ → ℕ
+cardNumber L c k = getD (card L c) k 0
 
--- the cards of n sequences from sequence c on
+-- the words of the cards of n sequences from sequence c on
 unfoldable pub cardsFrom : Library → ℕ → ℕ → List ℕ
+unfolding card laid
 cardsFrom L c zero = []
-cardsFrom L c (suc n) = card L c ++ cardsFrom L (suc c) n
+cardsFrom L c (suc n) = laid (card L c) ++ cardsFrom L (suc c) n
 
 -- the cards of a library, "sequence 0 first"
 unfoldable pub cards : Library → List ℕ

@@ -4,12 +4,13 @@ use Prim.Native.Nat.{ℕ, _+_, _*_, _^_, min}
 use mathlib.Core.Bool.{Bool, false, not, cond, _&&_, _||_}
 use mathlib.Core.List.{List, [], _∷_}
 use mir.Val.{boolByte}
-use Rattle.column.specs.Column.{column, columnWidth, allBelow}
+use Rattle.column.specs.Column.{column, allBelow}
 use Rattle.column.specs.Sets.{inColumn, countBelow}
 use Rattle.general.specs.Scan.{every}
 use Rattle.cards.specs.Layout.{CardColumn, always-needed, may-need, may-set, may-clear, always-set, always-cleared, always-stands}
 use Rattle.cards.specs.Layout.{may-first-set, may-first-untouched, may-last-untouched, may-end-cleared, may-end-unmentioned}
-use Rattle.cards.specs.Area.{partWord, cardColumn}
+use Rattle.cards.specs.Layout.{columnWidth, laid}
+use Rattle.cards.specs.Area.{partWord, partHas}
 
 -- "A test is a list of up to 256 sequences"
 abbrev pub mostList : ℕ
@@ -26,7 +27,7 @@ hasEmptyRun area m = inColumn (partWord area m 0) 1
 
 -- the bit of fact f in column k of member m
 abbrev pub has : List ℕ → ℕ → CardColumn → ℕ → Bool
-has area f k m = inColumn (cardColumn area m k) f
+has area f k m = partHas area m k f
 
 -- ---- the rule
 
@@ -74,7 +75,7 @@ module _ (area ms : List ℕ) (f : ℕ) where
   listHas always-cleared = not (lastHas may-set || allHave may-last-untouched)
   listHas always-stands = not (endHas may-end-cleared || allHave may-end-unmentioned)
 
--- ---- the words
+-- ---- the numbers
 
 -- "drops bits from F upward (none if F passes the column's width)"
 abbrev pub kept : ℕ → ℕ
@@ -95,24 +96,30 @@ unfoldable pub listFlags : ℕ → List ℕ → List ℕ → ℕ
 unfolding listCount inColumn every
 listFlags facts area ms = boolByte (every (hasRun area) ms) + 2 * boolByte (every (hasEmptyRun area) ms) + 2 ^ 8 * listCount facts area ms
 
-abbrev pub blankCard : List ℕ
-blankCard = 0 ∷ 0 ∷ 0 ∷ 0 ∷ 0 ∷ 0 ∷ 0 ∷ 0 ∷ 0 ∷ 0 ∷ 0 ∷ 0 ∷ 0 ∷ []
+abbrev pub blankNumbers : List ℕ
+blankNumbers = 0 ∷ 0 ∷ 0 ∷ 0 ∷ 0 ∷ 0 ∷ 0 ∷ 0 ∷ 0 ∷ 0 ∷ 0 ∷ 0 ∷ 0 ∷ []
 
--- the words in their order
-unfoldable pub composedCard : ℕ → List ℕ → List ℕ → List ℕ
+-- the numbers in their order
+unfoldable pub composedNumbers : ℕ → List ℕ → List ℕ → List ℕ
 unfolding listFlags listColumn
-composedCard facts area ms =
+composedNumbers facts area ms =
     listFlags facts area ms ∷ listColumn facts area ms always-needed ∷ listColumn facts area ms may-need ∷ listColumn facts area ms may-set
     ∷ listColumn facts area ms may-clear ∷ listColumn facts area ms always-set ∷ listColumn facts area ms always-cleared
     ∷ listColumn facts area ms always-stands ∷ listColumn facts area ms may-first-set ∷ listColumn facts area ms may-first-untouched
     ∷ listColumn facts area ms may-last-untouched ∷ listColumn facts area ms may-end-cleared ∷ listColumn facts area ms may-end-unmentioned ∷ []
 
 -- "blank unless every member has a run"
+unfoldable pub listNumbers : ℕ → List ℕ → List ℕ → List ℕ
+unfolding composedNumbers inColumn every
+listNumbers facts area ms = cond (every (hasRun area) ms) (composedNumbers facts area ms) blankNumbers
+
+-- the list's card, in words
 unfoldable pub listCard : ℕ → List ℕ → List ℕ → List ℕ
-unfolding composedCard inColumn every
-listCard facts area ms = cond (every (hasRun area) ms) (composedCard facts area ms) blankCard
+unfolding listNumbers laid
+listCard facts area ms = laid (listNumbers facts area ms)
 
 -- "The empty list has just the empty run.": every fact below F is untouched on both sides, and no item mentions it. The rule says so
 -- (`list-none`, proofs/Added)
-abbrev pub emptyListCard : ℕ → List ℕ
-emptyListCard facts = 3 ∷ 0 ∷ 0 ∷ 0 ∷ 0 ∷ 0 ∷ 0 ∷ 0 ∷ 0 ∷ allBelow facts ∷ allBelow facts ∷ 0 ∷ allBelow facts ∷ []
+abbrev pub emptyListNumbers : ℕ → List ℕ
+emptyListNumbers facts =
+    3 ∷ 0 ∷ 0 ∷ 0 ∷ 0 ∷ 0 ∷ 0 ∷ 0 ∷ 0 ∷ allBelow columnWidth facts ∷ allBelow columnWidth facts ∷ 0 ∷ allBelow columnWidth facts ∷ []

@@ -1,6 +1,6 @@
--- What a card says (demands 2 and 3), of every library and of any words, wherever they were found: each column against the published
--- definitions or the words of the request that added it, the flags, the count, the blank card, and what the words say of every run. Word k of a
--- card counts from 0.
+-- What a card says (demands 2 and 3), of every library and of any numbers, wherever they were found: each column against the published
+-- definitions or the words of the request that added it, the flags, the count, the blank card, and what the numbers say of every run. A card is its
+-- numbers: number 0 is the flags, and number k is column k, in which bit f is fact f.
 use Prim.Native.Nat.{ℕ, _/_, _^_, _≤_, _<_}
 use mathlib.Core.Path.{_≡_}
 use mathlib.Core.Logic.{_↔_, _⊎_}
@@ -17,7 +17,7 @@ use Rattle.runs.specs.Standing.{EndsStanding, EndsCleared, Unmentioned}
 use Rattle.runs.specs.Published.{prec∅, poss-prec∅, eff*∅+, eff*∅-, poss-eff*∅+, poss-eff*∅-}
 use Rattle.cards.specs.Layout.{CardColumn, always-needed, may-need, may-set, may-clear, always-set, always-cleared, always-stands}
 use Rattle.cards.specs.Layout.{may-first-set, may-first-untouched, may-last-untouched, may-end-cleared, may-end-unmentioned}
-use Rattle.cards.specs.Layout.{place, cardWords}
+use Rattle.cards.specs.Layout.{place, cardNumbers}
 
 -- "fact f is bit f": the column holds the fact, or the fact is missing from it
 abbrev pub Holds : (ℕ → ℕ) → CardColumn → ℕ → Type 0
@@ -60,17 +60,18 @@ pub record Flags (L : Library) (c : ℕ) (word : ℕ → ℕ) : Type 0 where
   pub run : (bit (word 0) 0 ≡ 1) ↔ HasRun L c
   -- "bit 1, an empty run exists"; "a run without steps is still called empty" (document 02, request 4)
   pub empty-run : (bit (word 0) 1 ≡ 1) ↔ ((w : List Item) × Run L c w × Empty w)
-  -- "bits 8 to 14, the number of facts that are in "may set" or in "may clear""
+  -- "bits 8 to 14, the number of facts that are in "may set" or in "may clear""; "The count of changeable facts takes bits 8 to 16." (document
+  -- 02, request 8)
   pub count : word 0 / 2 ^ 8 ≡ countBelow (L .facts) (λ (f : ℕ). inColumn (word (place may-set)) f || inColumn (word (place may-clear)) f)
   -- and no other bit
   pub between : (k : ℕ) → 2 ≤ k → k < 8 → bit (word 0) k ≡ 0
-  pub above : (k : ℕ) → 15 ≤ k → bit (word 0) k ≡ 0
+  pub above : (k : ℕ) → 17 ≤ k → bit (word 0) k ≡ 0
 
 -- "Without a run all .. words are 0"
 abbrev pub Blank : (ℕ → ℕ) → Type 0
-Blank word = (k : ℕ) → k < cardWords → word k ≡ 0
+Blank word = (k : ℕ) → k < cardNumbers → word k ≡ 0
 
--- the words are the card of sequence c, whole
+-- the numbers are the card of sequence c, whole
 pub record Card (L : Library) (c : ℕ) (word : ℕ → ℕ) : Type 0 where
   pub columns : HasRun L c → (f : Fact L) → Columns L c word f
   -- a column holds no bit from F upward
@@ -123,7 +124,7 @@ Breaks L a f w = ¬ HasOutcome L (rule a) f w
 abbrev pub Missing : (L : Library) → ℕ → (ℕ → ℕ) → Always → Fact L → Type 0
 Missing L c word a f = Lacks word (columnOf a) (f .0) ↔ (NoRun L c ⊎ ((w : List Item) × Run L c w × Breaks L a (f .0) w))
 
--- what the words say of the runs of sequence c
+-- what the numbers say of the runs of sequence c
 pub record Runs (L : Library) (c : ℕ) (word : ℕ → ℕ) : Type 0 where
   pub kept : (w : List Item) → Run L c w → (s : State L) → Executes L w s → (f : Fact L) → Kept L word w s f
   pub changed : (w : List Item) → Run L c w → (s : State L) → (f : Fact L) → Changed L word w s f

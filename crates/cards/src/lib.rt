@@ -1,1 +1,2 @@
-// Cards: the words of a card, what they mean by the published definitions and over all runs, and their theory. There is no function here.
+// Cards: the numbers of a card and their words, what they mean by the published definitions and over all runs, and their theory. There is no function
+// here.

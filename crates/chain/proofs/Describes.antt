@@ -34,6 +34,7 @@ use Rattle.slot.specs.Slots.{entryNumber, firstStep, inRanks, itemRank, rankIn,
 use Rattle.rank.specs.Tables.{depthIn, everyIn, fewestIn, lookIn}
 use Rattle.link.specs.Choice.{linkIn, alternativeIn, linkEntry, linkAt, linksIn, untouchedIn, answerIn}
 use Rattle.chain.specs.Described.{isFirst, markNumber, Asks, Masked, Placed, ItemsBy, Described}
+use Rattle.question.specs.Asked.{factBlock, factBit}
 use Rattle.question.specs.declared.asked.Asked.{Asked}
 use Rattle.chains.proofs.Depth.{step-rank, step-passes}
 use Rattle.chains.proofs.Links.{entriesOf, chosenAt, positionAt, chosen, chosen-rank, ranked-listed}
@@ -66,7 +67,7 @@ no-touch : (s : Side) (f : ℕ) → touch s noStep f ≡ untouched
 no-touch last f = rw (has-none f)
 no-touch first f = rw (has-none f)
 
-module _ (L : Library) (q : Asked) (Q : Question) (masks : List ℕ) (asks : Asks L q Q) (masked : Masked L masks) where
+module _ (L : Library) (q : Asked) (Q : Question) (masks : List ℕ) (asks : Asks L q Q) (masked : Masked L (factBlock q) masks) where
   abbrev asked : ℕ
   asked = q .fact
 
@@ -74,8 +75,11 @@ module _ (L : Library) (q : Asked) (Q : Question) (masks : List ℕ) (asks : Ask
   abbrev markNumberOf : Item → ℕ
   markNumberOf x = markNumber (itemTouch L (Q .side) asked x)
 
-  in-mask : (n : ℕ) (facts : List ℕ) → n ≡ maskOf facts → inColumn n asked ≡ has asked facts
-  in-mask n facts e = ap (λ (x : ℕ). inColumn x asked) e ∙ mask-has facts asked (omega (arith, asks .fact, masked .narrow))
+  -- the bit of the fact in a mask of its block
+  in-mask : (n : ℕ) (facts : List ℕ) → n ≡ maskOf (factBlock q) facts → inColumn n (factBit q) ≡ has asked facts
+  in-mask n facts e =
+      let whole : 64 * factBlock q + factBit q ≡ asked = omega arith in
+      ap (λ (x : ℕ). inColumn x (factBit q)) e ∙ mask-has (factBlock q) facts (factBit q) (omega arith) ∙ ap (λ (f : ℕ). has f facts) whole
 
   step-mark : (a : ℕ) → stepMark q masks a ≡ markNumberOf (step a)
   step-mark a =

@@ -4,18 +4,20 @@
 -- cases in Calls.
 -- Assumes nothing.
 use Prim.Native.Nat.{ℕ, zero, suc, _+_, _*_, _^_, _≤_, _<_}
-use native.Mathlib.Decide.{decLt, ℕ-discrete}
+use native.Mathlib.Decide.{ℕ-discrete}
 use native.Mathlib.Numerals.{add-one}
 use native.Mathlib.Omega.{arith}
 use mathlib.Core.Path.{_≡_, refl, sym, ap, _∙_, subst}
-use mathlib.Core.Logic.{_≢_, _↔_, ⊎-elim}
+use mathlib.Core.Logic.{_≢_, _↔_}
 use mathlib.Core.Bool.{Bool, true, false, cond, not}
-use mathlib.Core.List.{List, []}
-use lib.ListN.{length, getD, take, drop, replicate, length-replicate, List·getD-eq-default}
+use mathlib.Core.List.{List, _++_}
+use lib.ListN.{length, getD, take, drop, replicate, length-replicate}
 use lib.Seq.{getD-take, ext-getD, length-take-le}
+use Rattle.image.specs.Word.{mostSequences}
 use Rattle.rules.specs.Checked.{accepts}
 use Rattle.rules.specs.Rules.{opened}
 use Rattle.library.specs.Library.{Library, Sequence, Entry, alternativesFrom, sequencesPart, libraryOf, Item}
+use Rattle.library.specs.Tables.{masks}
 use Rattle.walk.specs.Walk.{alternativesAt}
 use Rattle.general.specs.Tests.{All}
 use Rattle.library.specs.Accepted.{SequenceWord, Counted}
@@ -24,8 +26,8 @@ use Rattle.library.proofs.Accepted.{faultless, parts, counted, sequence-entry}
 use Rattle.library.proofs.Rows.{all-at}
 use Rattle.general.specs.Numbers.{Zeros}
 use Rattle.settling.specs.Settling.{Scheduled}
-use Rattle.tables.specs.Tables.{TablesAsked, Prepared}
-use Rattle.tables.proofs.Tables.{few-sequences, step-masks, sequences-are, place-is, place-within, scheduled}
+use Rattle.tables.specs.Tables.{MasksAsked, TablesAsked, Prepared}
+use Rattle.tables.proofs.Tables.{few-sequences, blank-drop, step-masks, sequences-are, place-is, place-within, scheduled}
 use Rattle.runs.specs.Possible.{hasRun, possibleOutcome}
 use Rattle.runs.specs.Run.{RunOf, alternativesOf}
 use Rattle.general.proofs.Numbers.{zeros}
@@ -39,7 +41,8 @@ use Rattle.rank.specs.Visits.{Visits, RanksSettled}
 use Rattle.slot.specs.Slots.{firstStep, inRanks, itemRank, passIn, ItemsRankable}
 use Rattle.rank.specs.Tables.{lookIn, Rankable, RanksReadable, RanksVisitable, Ranked}
 use Rattle.link.specs.Choice.{Choosable, answerIn}
-use Rattle.chain.specs.Described.{Asks, Masked, Placed, ItemsBy, Described, FindAsked, ranksLength, RanksAsked, AreasAsked, Unranked, Findable, EntriesMarked, forUntouched, forRun, isFirst, markNumber, sideBy, markBy, questionBy}
+use Rattle.chain.specs.Described.{Asks, Masked, Placed, ItemsBy, Described, FindAsked, ranksLength, AreasAsked, Findable, EntriesMarked, forUntouched, forRun, isFirst, markNumber, sideBy, markBy, questionBy}
+use Rattle.question.specs.Asked.{factBlock}
 use Rattle.question.specs.declared.asked.Asked.{Asked}
 use Rattle.chains.proofs.Entries.{stays-run, any-run}
 use Rattle.chains.proofs.Passing.{Passable, pass-reached, pass-exact}
@@ -50,54 +53,48 @@ use Rattle.chain.proofs.Describes.{items-marked, items-any, pass-is, pa
 
 -- ---- the areas
 
--- of words that are all `none`
-ranks-asked : (h : Head) (q : Asked) (m : ℕ) → ranksLength h q ≤ m → RanksAsked h q (replicate m (q .none))
-ranks-asked h q m l = record { room = omega (arith, length-replicate m (q .none)); empty = start-unranked [] (λ T es. 0) (q .none) m }
-
 -- for so many steps and sequences
 pub areas-asked : (h : Head) (q : Asked) → q .none ≡ h .sequences + 2 → (steps sequences : ℕ) → h .steps ≤ steps → h .sequences ≤ sequences
-    → AreasAsked h q (replicate (3 * steps) 0) (replicate (4 * sequences) 0) (replicate (firstStep (sequences + 2) + steps) (q .none))
-    (replicate (firstStep (sequences + 2) + steps) (q .none)) (replicate (firstStep (sequences + 2) + steps) (q .none))
+    → AreasAsked h q (replicate (3 * steps) 0) (replicate (4 * sequences) 0) (replicate (firstStep (sequences + 2) + steps) 0)
+    (replicate (firstStep (sequences + 2) + steps) 0) (replicate (firstStep (sequences + 2) + steps) 0)
 areas-asked h q none steps sequences a c =
-    let ranks = ranks-asked h q (firstStep (sequences + 2) + steps) (omega arith) in
+    let m : ℕ = firstStep (sequences + 2) + steps in
+    let ranks : ranksLength h q ≤ length (replicate {A = ℕ} m 0) = omega (arith, length-replicate {A = ℕ} m 0) in
     record {
       masks-room = omega (arith, length-replicate {A = ℕ} (3 * steps) 0);
       masks-blank = zeros (3 * steps);
       callers-room = omega (arith, length-replicate {A = ℕ} (4 * sequences) 0);
       callers-blank = zeros (4 * sequences);
-      ahead-asked = ranks;
-      behind-asked = ranks;
-      links-asked = ranks;
+      ahead-room = ranks;
+      behind-room = ranks;
+      links-room = ranks;
     }
 
--- the part of an area that has the words
-module _ {h : Head} {q : Asked} {T : List ℕ} (asked : RanksAsked h q T) where
-  pub ranks-long : ranksLength h q ≡ length (take (ranksLength h q) T)
-  ranks-long = sym (length-take-le (ranksLength h q) T (asked .room))
+module _ {h : Head} {q : Asked} {masks callers ahead behind links : List ℕ} (areas : AreasAsked h q masks callers ahead behind links) where
+  -- the parts of the areas that have the words of a table
+  pub ahead-long : length (take (ranksLength h q) ahead) ≡ ranksLength h q
+  ahead-long = length-take-le (ranksLength h q) ahead (areas .ahead-room)
 
-  pub ranks-unranked : Unranked h q (take (ranksLength h q) T)
-  ranks-unranked =
-      record {
-        long = sym ranks-long;
-        empty = λ k.
-            elim (decLt k (ranksLength h q)) [
-              | yes below ↦ getD-take (ranksLength h q) T k (q .none) below ∙ asked .empty k
-              | no above ↦ List·getD-eq-default (take (ranksLength h q) T) (q .none) {n = k} (omega (arith, ranks-long))
-            ];
-      }
+  pub behind-long : length (take (ranksLength h q) behind) ≡ ranksLength h q
+  behind-long = length-take-le (ranksLength h q) behind (areas .behind-room)
 
--- what the makers of the tables ask
-pub tables-asked : {h : Head} {image : List ℕ} {q : Asked} {c : ℕ} {masks callers ahead behind links : List ℕ} → FindAsked h image q c
-    → AreasAsked h q masks callers ahead behind links → TablesAsked h image masks (replicate 256 0) callers (replicate 256 0)
-tables-asked {h} {image} asked areas =
-    record {
-      accepted = asked .accepted;
-      masks-room = areas .masks-room;
-      places-room = few-sequences image h (asked .accepted);
-      callers-room = areas .callers-room;
-      callers-blank = areas .callers-blank;
-      order-room = few-sequences image h (asked .accepted);
-    }
+  pub links-long : length (take (ranksLength h q) links) ≡ ranksLength h q
+  links-long = length-take-le (ranksLength h q) links (areas .links-room)
+
+  -- what the makers of the tables ask
+  module _ {image : List ℕ} {c : ℕ} (asked : FindAsked h image q c) where
+    pub masks-asked : MasksAsked h image masks
+    masks-asked = record { accepted = asked .accepted; room = areas .masks-room }
+
+    pub tables-asked : TablesAsked h image (replicate mostSequences 0) callers (replicate mostSequences 0)
+    tables-asked =
+        record {
+          accepted = asked .accepted;
+          places-room = few-sequences image h (asked .accepted);
+          callers-room = areas .callers-room;
+          callers-blank = areas .callers-blank;
+          order-room = few-sequences image h (asked .accepted);
+        }
 
 -- ---- what each part of the search asks, by what is asked of the tables
 
@@ -150,18 +147,21 @@ module _ {q : Asked} {n : ℕ} {masks ahead behind links part places callers ord
 
 -- ---- the tables of an accepted image
 
-module _ {h : Head} {image ms₀ ps₀ ms ps callers order : List ℕ} (accepted : accepts image h) (made : Prepared h image ms₀ ps₀ ms ps callers order)
-    {part : List ℕ} (sequences : part ≡ sequencesPart image) where
-  pub masks-made : Zeros ms₀ → Masked (libraryOf image) ms
-  masks-made blank =
-      let words = step-masks accepted made blank in
-      record {
-        narrow = omega (arith, counted image h accepted .facts, faultless image h accepted .facts-high);
-        needs = λ a. words a .0;
-        sets = λ a. words a .1;
-        clears = λ a. words a .2;
-      }
+-- the masks of the block k that was asked for
+pub masks-made : (image : List ℕ) (h : Head) → accepts image h → (k : ℕ) (ms₀ : List ℕ) {b : ℕ} {ms : List ℕ} → b ≡ k
+    → ms ≡ masks b (libraryOf image .steps) ++ drop (3 * h .steps) ms₀ → Zeros ms₀ → Masked (libraryOf image) k ms
+masks-made image h accepted k ms₀ asked made blank =
+    let of-block = made ∙ ap (λ (n : ℕ). masks n (libraryOf image .steps) ++ drop (3 * h .steps) ms₀) asked in
+    let words = step-masks h k (libraryOf image .steps) ms₀ of-block (blank-drop (3 * h .steps) ms₀ blank) in
+    record {
+      narrow = omega (arith, counted image h accepted .facts, faultless image h accepted .facts-high);
+      needs = λ a. words a .0;
+      sets = λ a. words a .1;
+      clears = λ a. words a .2;
+    }
 
+module _ {h : Head} {image ps₀ ps callers order : List ℕ} (accepted : accepts image h) (made : Prepared h image ps₀ ps callers order)
+    {part : List ℕ} (sequences : part ≡ sequencesPart image) where
   pub places-made : Placed (libraryOf image) part ps
   places-made c l =
       ap (λ (n : ℕ). alternativesFrom (drop n part)) (add-one (getD ps c 0))
@@ -185,18 +185,18 @@ module _ {h : Head} {image ms₀ ps₀ ms ps callers order : List ℕ} (accepted
               };
         }
 
-    pub tables-findable : {ahead behind links : List ℕ} → Unranked h q ahead → Unranked h q behind → Unranked h q links → Zeros ps₀ → 3 * h .steps ≤ length ms
-        → h .sequences ≤ length ps → 4 * h .sequences ≤ length callers
+    pub tables-findable : {ms ahead behind links : List ℕ} → length ahead ≡ ranksLength h q → length behind ≡ ranksLength h q → length links ≡ ranksLength h q
+        → Zeros ps₀ → 3 * h .steps ≤ length ms → h .sequences ≤ length ps → 4 * h .sequences ≤ length callers
         → Findable q (h .sequences) ms ahead behind links part ps callers (take (h .sequences) order)
-    tables-findable {links = links} a-yet b-yet yet blank masked placed room =
+    tables-findable {links = links} a-long b-long long blank masked placed room =
         let none = asked .none in
         record {
-          items = record { fact = omega (arith, asked .fact, faultless image h accepted .facts-high); room = omega (arith, yet .long); masked = omega (arith, yet .long) };
-          rankable = tables-rankable links (yet .long);
-          ahead-long = a-yet .long ∙ sym (yet .long);
-          behind-long = b-yet .long ∙ sym (yet .long);
+          items = record { fact = omega (arith, asked .fact, faultless image h accepted .facts-high); room = omega arith; masked = omega arith };
+          rankable = tables-rankable links long;
+          ahead-long = a-long ∙ sym long;
+          behind-long = b-long ∙ sym long;
           low = omega arith;
-          ranked = omega (arith, yet .long);
+          ranked = omega arith;
           placed = placed;
           opened =
               record {
@@ -214,7 +214,7 @@ touch-asked (suc zero) l t = absent≢untouched
 touch-asked (suc (suc zero)) l t = absurd (t refl)
 touch-asked (suc (suc (suc k))) l t = absurd (omega arith)
 
-module _ (image : List ℕ) (h : Head) (accepted : accepts image h) (ms ps part : List ℕ) (masks-are : Masked (libraryOf image) ms)
+module _ (image : List ℕ) (h : Head) (accepted : accepts image h) (ms ps part : List ℕ)
     (places-are : Placed (libraryOf image) part ps) where
   abbrev L : Library
   L = libraryOf image
@@ -240,9 +240,9 @@ module _ (image : List ℕ) (h : Head) (accepted : accepts image h) (ms ps part 
         fact = omega (arith, has .facts);
       }
 
-  -- a table from one without a rank, whose items are ranked by the question p and whose sequences by q
+  -- a table whose items are ranked by the question p and whose sequences by q
   module _ (all : Bool) (p q : Asked) (p-none : p .none ≡ unranked L) (q-none : q .none ≡ unranked L) (ahead behind before ranks : List ℕ)
-      (yet : Unranked h p before) (ranked : Ranked all p q (h .sequences) ms ahead behind part ps before ranks) where
+      (long : length before ≡ ranksLength h p) (ranked : Ranked all p q (h .sequences) ms ahead behind part ps before ranks) where
     abbrev m : ℕ
     m = unranked L
 
@@ -253,11 +253,10 @@ module _ (image : List ℕ) (h : Head) (accepted : accepts image h) (ms ps part 
     start-none : take m (ranked .start) ≡ replicate m m
     start-none =
         ext-getD m (take m (ranked .start)) (replicate m m)
-        (length-take-le m (ranked .start) (omega (arith, ranked .items .long, yet .long)) ∙ sym (length-replicate m m))
+        (length-take-le m (ranked .start) (omega (arith, ranked .items .long)) ∙ sym (length-replicate m m))
         (λ i l.
-        let below : i < m = omega (arith, length-take-le m (ranked .start) (omega (arith, ranked .items .long, yet .long))) in
-        getD-take m (ranked .start) i m below
-        ∙ ap (getD (ranked .start) i) (sym p-none) ∙ ranked .items .stays i (omega arith) ∙ yet .empty i ∙ p-none
+        let below : i < m = omega (arith, length-take-le m (ranked .start) (omega (arith, ranked .items .long))) in
+        getD-take m (ranked .start) i m below ∙ ap (getD (ranked .start) i) (sym p-none) ∙ ranked .items .unranked i (omega arith) ∙ p-none
         ∙ sym (start-unranked (L .sequences) (λ T es. 0) m m i))
 
     -- the ranks of the items
@@ -305,7 +304,7 @@ module _ (image : List ℕ) (h : Head) (accepted : accepts image h) (ms ps part 
 
   -- ---- the answer by the three tables
 
-  module _ (q : Asked) (c : ℕ) (asked : FindAsked h image q c) where
+  module _ (q : Asked) (c : ℕ) (asked : FindAsked h image q c) (masks-are : Masked L (factBlock q) ms) where
     abbrev Q : Question
     Q = questionBy q
 
@@ -315,46 +314,43 @@ module _ (image : List ℕ) (h : Head) (accepted : accepts image h) (ms ps part 
     stays-asks : Asks L (forUntouched q) (questionBy (forUntouched q))
     stays-asks = asks-by (forUntouched q) (omega arith) (asked .fact) (asked .none)
 
-    again : {T : List ℕ} → Unranked h q T → Unranked h (forUntouched q) T
-    again u = record { long = u .long; empty = u .empty }
-
-    stays-items : (r : Asked) (ahead behind before ranks : List ℕ) → Unranked h q before
+    stays-items : (r : Asked) (ahead behind before ranks : List ℕ) → length before ≡ ranksLength h q
         → (ranked : Ranked false (forUntouched q) r (h .sequences) ms ahead behind part ps before ranks)
         → ItemsBy (q .none) 0 (hasMark L (questionBy (forUntouched q)) (q .fact)) (ranked .start)
-    stays-items r ahead behind before ranks yet ranked =
-        items-marked L (forUntouched q) (questionBy (forUntouched q)) ms stays-asks masks-are before (ranked .start) (omega (arith, counted image h accepted .steps, yet .long)) (ranked .items) 0 refl
+    stays-items r ahead behind before ranks long ranked =
+        items-marked L (forUntouched q) (questionBy (forUntouched q)) ms stays-asks masks-are before (ranked .start) (omega (arith, counted image h accepted .steps)) (ranked .items) 0 refl
 
     -- the entries that can stay untouched, and those that have a run
-    stays-done : (links₀ stays₀ stays : List ℕ) → Unranked h q stays₀ → Ranked false (forUntouched q) (forRun q) (h .sequences) ms links₀ links₀ part ps stays₀ stays
+    stays-done : (links₀ stays₀ stays : List ℕ) → length stays₀ ≡ ranksLength h q → Ranked false (forUntouched q) (forRun q) (h .sequences) ms links₀ links₀ part ps stays₀ stays
         → (e : Entry) → passIn (unranked L) stays e ≡ canStay L Q (q .fact) e
-    stays-done links₀ stays₀ stays yet ranked =
-        entries-pass false (forUntouched q) (forRun q) no-rank no-rank links₀ links₀ stays₀ stays (again yet) ranked refl (hasMark L (questionBy (forUntouched q)) (q .fact))
-        (stays-items (forRun q) links₀ links₀ stays₀ stays yet ranked) (λ d. possibleOutcome L (untouchedOn Q) d (q .fact)) (stays-run L Q (q .fact))
+    stays-done links₀ stays₀ stays long ranked =
+        entries-pass false (forUntouched q) (forRun q) no-rank no-rank links₀ links₀ stays₀ stays long ranked refl (hasMark L (questionBy (forUntouched q)) (q .fact))
+        (stays-items (forRun q) links₀ links₀ stays₀ stays long ranked) (λ d. possibleOutcome L (untouchedOn Q) d (q .fact)) (stays-run L Q (q .fact))
 
-    runs-done : (links₀ runs₀ runs : List ℕ) → Unranked h q runs₀ → Ranked true (forUntouched q) (forRun q) (h .sequences) ms links₀ links₀ part ps runs₀ runs
+    runs-done : (links₀ runs₀ runs : List ℕ) → length runs₀ ≡ ranksLength h q → Ranked true (forUntouched q) (forRun q) (h .sequences) ms links₀ links₀ part ps runs₀ runs
         → (e : Entry) → passIn (unranked L) runs e ≡ canRun L Q (q .fact) e
-    runs-done links₀ runs₀ runs yet ranked =
-        entries-pass true (forUntouched q) (forRun q) no-rank no-rank links₀ links₀ runs₀ runs (again yet) ranked refl (λ (a : Item). true)
-        (items-any L (forUntouched q) (questionBy (forUntouched q)) ms stays-asks masks-are runs₀ (ranked .start) (omega (arith, counted image h accepted .steps, yet .long)) (ranked .items))
+    runs-done links₀ runs₀ runs long ranked =
+        entries-pass true (forUntouched q) (forRun q) no-rank no-rank links₀ links₀ runs₀ runs long ranked refl (λ (a : Item). true)
+        (items-any L (forUntouched q) (questionBy (forUntouched q)) ms stays-asks masks-are runs₀ (ranked .start) (omega (arith, counted image h accepted .steps)) (ranked .items))
         (λ d. hasRun L d) (any-run L)
 
     -- by the tables for the entries ahead of the position and those behind it
-    described-by : (blank ahead₀ behind₀ ahead behind : List ℕ) → Unranked h q ahead₀ → Unranked h q behind₀ → (b : Bool) → q .first ≡ b
+    described-by : (blank ahead₀ behind₀ ahead behind : List ℕ) → length ahead₀ ≡ ranksLength h q → length behind₀ ≡ ranksLength h q → (b : Bool) → q .first ≡ b
         → Ranked (not b) (forUntouched q) (forRun q) (h .sequences) ms blank blank part ps ahead₀ ahead
         → Ranked b (forUntouched q) (forRun q) (h .sequences) ms blank blank part ps behind₀ behind → Described L Q (q .fact) ahead behind
-    described-by blank ahead₀ behind₀ ahead behind a-yet b-yet false side a-ranked b-ranked =
+    described-by blank ahead₀ behind₀ ahead behind a-long b-long false side a-ranked b-ranked =
         record {
-          by-ahead = λ e. runs-done blank ahead₀ ahead a-yet a-ranked e ∙ ap (λ (x : Bool). aheadOf L Q (q .fact) (sideBy x) e) (sym side);
-          by-behind = λ e. stays-done blank behind₀ behind b-yet b-ranked e ∙ ap (λ (x : Bool). behindOf L Q (q .fact) (sideBy x) e) (sym side);
+          by-ahead = λ e. runs-done blank ahead₀ ahead a-long a-ranked e ∙ ap (λ (x : Bool). aheadOf L Q (q .fact) (sideBy x) e) (sym side);
+          by-behind = λ e. stays-done blank behind₀ behind b-long b-ranked e ∙ ap (λ (x : Bool). behindOf L Q (q .fact) (sideBy x) e) (sym side);
         }
-    described-by blank ahead₀ behind₀ ahead behind a-yet b-yet true side a-ranked b-ranked =
+    described-by blank ahead₀ behind₀ ahead behind a-long b-long true side a-ranked b-ranked =
         record {
-          by-ahead = λ e. stays-done blank ahead₀ ahead a-yet a-ranked e ∙ ap (λ (x : Bool). aheadOf L Q (q .fact) (sideBy x) e) (sym side);
-          by-behind = λ e. runs-done blank behind₀ behind b-yet b-ranked e ∙ ap (λ (x : Bool). behindOf L Q (q .fact) (sideBy x) e) (sym side);
+          by-ahead = λ e. stays-done blank ahead₀ ahead a-long a-ranked e ∙ ap (λ (x : Bool). aheadOf L Q (q .fact) (sideBy x) e) (sym side);
+          by-behind = λ e. runs-done blank behind₀ behind b-long b-ranked e ∙ ap (λ (x : Bool). behindOf L Q (q .fact) (sideBy x) e) (sym side);
         }
 
     -- the ranks of the sequences by the question
-    module _ (ahead behind links₀ links : List ℕ) (yet : Unranked h q links₀)
+    module _ (ahead behind links₀ links : List ℕ) (long : length links₀ ≡ ranksLength h q)
         (ranked : Ranked false q q (h .sequences) ms ahead behind part ps links₀ links) where
       asks : Asks L q Q
       asks = asks-by q (asked .mark) (asked .fact) (asked .none)
@@ -364,7 +360,7 @@ module _ (image : List ℕ) (h : Head) (accepted : accepts image h) (ms ps part 
 
       items-by : (past : ℕ) → past ≡ cond (sameMark untouched (Q .mark)) 0 (q .none) → ItemsBy (q .none) past (hasMark L Q (q .fact)) (ranked .start)
       items-by past end =
-          items-marked L q Q ms asks masks-are links₀ (ranked .start) (omega (arith, counted image h accepted .steps, yet .long)) (ranked .items) past end
+          items-marked L q Q ms asks masks-are links₀ (ranked .start) (omega (arith, counted image h accepted .steps)) (ranked .items) past end
 
       -- a question that asks for no touch
       untouched-done : Q .mark ≡ untouched → answerIn q ahead behind links part ps c ≡ answer L Q c (q .fact)
@@ -373,13 +369,13 @@ module _ (image : List ℕ) (h : Head) (accepted : accepts image h) (ms ps part 
           let look = untouchedLook L Q (q .fact) in
           let items = items-by 0 (ap (λ (k : Mark). cond (sameMark untouched k) 0 (q .none)) (sym marks-none)) in
           let looks : (T : List ℕ) → drop (unranked L) T ≡ drop (unranked L) (ranked .start) → lookIn q ahead behind T ≡ look (inRanks (unranked L) T) =
-          λ T same. depth-look L q Q asks ahead behind marks-none test T (items-stay false q q no-rank no-rank ahead behind links₀ links yet ranked 0 test T same items) in
-          let kept = made-kept false q q no-rank no-rank ahead behind links₀ links yet ranked look looks in
+          λ T same. depth-look L q Q asks ahead behind marks-none test T (items-stay false q q no-rank no-rank ahead behind links₀ links long ranked 0 test T same items) in
+          let kept = made-kept false q q no-rank no-rank ahead behind links₀ links long ranked look looks in
           untouched-answer L q Q asks ahead behind part ps places-are links marks-none
-          (items-stay false q q no-rank no-rank ahead behind links₀ links yet ranked 0 test links kept items) c listed
+          (items-stay false q q no-rank no-rank ahead behind links₀ links long ranked 0 test links kept items) c listed
           ∙ settled-untouched L Q (q .fact) (unranked L) (take (unranked L) links) (omega arith) marks-none
-          (made-visits false q q no-rank no-rank ahead behind links₀ links yet ranked look looks)
-          (made-settled false q q no-rank no-rank ahead behind links₀ links yet ranked look looks) c
+          (made-visits false q q no-rank no-rank ahead behind links₀ links long ranked look looks)
+          (made-settled false q q no-rank no-rank ahead behind links₀ links long ranked look looks) c
 
       -- a question that asks for a touch
       link-done : Q .mark ≢ untouched → Described L Q (q .fact) ahead behind → answerIn q ahead behind links part ps c ≡ answer L Q c (q .fact)
@@ -389,14 +385,14 @@ module _ (image : List ℕ) (h : Head) (accepted : accepts image h) (ms ps part 
           let items : ItemsBy (q .none) (unranked L) test (ranked .start) =
           subst (λ (n : ℕ). ItemsBy (q .none) n test (ranked .start)) no-rank (items-by (q .none) (past (Q .mark) touch)) in
           let looks : (T : List ℕ) → drop (unranked L) T ≡ drop (unranked L) (ranked .start) → lookIn q ahead behind T ≡ look (inRanks (unranked L) T) =
-          λ T same. touch-look L q Q asks ahead behind touch described T (items-stay false q q no-rank no-rank ahead behind links₀ links yet ranked (unranked L) test T same items) in
-          let kept = made-kept false q q no-rank no-rank ahead behind links₀ links yet ranked look looks in
+          λ T same. touch-look L q Q asks ahead behind touch described T (items-stay false q q no-rank no-rank ahead behind links₀ links long ranked (unranked L) test T same items) in
+          let kept = made-kept false q q no-rank no-rank ahead behind links₀ links long ranked look looks in
           let good =
           touch-good L Q (q .fact) (unranked L) (take (unranked L) links) (omega arith) touch
-          (made-visits false q q no-rank no-rank ahead behind links₀ links yet ranked look looks)
-          (made-settled false q q no-rank no-rank ahead behind links₀ links yet ranked look looks) in
+          (made-visits false q q no-rank no-rank ahead behind links₀ links long ranked look looks)
+          (made-settled false q q no-rank no-rank ahead behind links₀ links long ranked look looks) in
           touch-answer L q Q asks ahead behind part ps places-are links touch described
-          (items-stay false q q no-rank no-rank ahead behind links₀ links yet ranked (unranked L) test links kept items) (good .reached) (good .closed) c listed
+          (items-stay false q q no-rank no-rank ahead behind links₀ links long ranked (unranked L) test links kept items) (good .reached) (good .closed) c listed
           ∙ settled-touch L Q (q .fact) (unranked L) (take (unranked L) links) (omega arith) touch good c
         where
           past : (k : Mark) → k ≢ untouched → q .none ≡ cond (sameMark untouched k) 0 (q .none)
@@ -405,12 +401,12 @@ module _ (image : List ℕ) (h : Head) (accepted : accepts image h) (ms ps part 
           past untouched t = absurd (t refl)
 
       -- the answer by the three tables
-      pub found-done : (ahead₀ behind₀ : List ℕ) → Unranked h q ahead₀ → Unranked h q behind₀
+      pub found-done : (ahead₀ behind₀ : List ℕ) → length ahead₀ ≡ ranksLength h q → length behind₀ ≡ ranksLength h q
           → EntriesMarked q (h .sequences) ms links₀ part ps ahead₀ behind₀ ahead behind → answerIn q ahead behind links part ps c ≡ answer L Q c (q .fact)
-      found-done ahead₀ behind₀ a-yet b-yet marked =
+      found-done ahead₀ behind₀ a-long b-long marked =
           elim (ℕ-discrete (q .mark) 2) [
             | yes two ↦ untouched-done (ap markBy two)
             | no two ↦
                 link-done (touch-asked (q .mark) (asked .mark) two)
-                (described-by links₀ ahead₀ behind₀ ahead behind a-yet b-yet (q .first) refl (marked .ahead-marked two) (marked .behind-marked two))
+                (described-by links₀ ahead₀ behind₀ ahead behind a-long b-long (q .first) refl (marked .ahead-marked two) (marked .behind-marked two))
           ]

@@ -6,6 +6,7 @@ use mathlib.Core.Bool.{Bool, true, false, cond, not}
 use mathlib.Core.Logic.{_≢_}
 use mathlib.Core.List.{List, [], _∷_}
 use lib.ListN.{length, getD, drop}
+use Rattle.image.specs.Word.{mostFacts}
 use Rattle.rules.specs.Checked.{accepts}
 use Rattle.library.specs.Library.{Library, Entry, libraryOf, Item, step}
 use Rattle.walk.specs.Walk.{alternativesAt}
@@ -42,12 +43,12 @@ pub record Asks (L : Library) (q : Asked) (Q : Question) : Type 0 where
   pub none : q .none ≡ unranked L
   pub fact : q .fact < L .facts
 
--- the masks are those of the library's steps
-pub record Masked (L : Library) (masks : List ℕ) : Type 0 where
-  pub narrow : L .facts ≤ 64
-  pub needs : (a : ℕ) → getD masks (3 * a) 0 ≡ maskOf (actionOf L (step a) .needs)
-  pub sets : (a : ℕ) → getD masks (3 * a + 1) 0 ≡ maskOf (actionOf L (step a) .sets)
-  pub clears : (a : ℕ) → getD masks (3 * a + 2) 0 ≡ maskOf (actionOf L (step a) .clears)
+-- the masks are those of the library's steps, of the facts of block k, and there are no more facts than there may be
+pub record Masked (L : Library) (k : ℕ) (masks : List ℕ) : Type 0 where
+  pub narrow : L .facts ≤ mostFacts
+  pub needs : (a : ℕ) → getD masks (3 * a) 0 ≡ maskOf k (actionOf L (step a) .needs)
+  pub sets : (a : ℕ) → getD masks (3 * a + 1) 0 ≡ maskOf k (actionOf L (step a) .sets)
+  pub clears : (a : ℕ) → getD masks (3 * a + 2) 0 ≡ maskOf k (actionOf L (step a) .clears)
 
 -- the words hold each sequence's alternatives where its place says
 abbrev pub Placed : Library → List ℕ → List ℕ → Type 0
@@ -90,25 +91,15 @@ AnswerFound image q c area rank after = Answered (answer (libraryOf image) (ques
 abbrev pub ranksLength : Head → Asked → ℕ
 ranksLength h q = firstStep (q .none) + h .steps
 
--- an area without a rank, which has the room for a table
-pub record RanksAsked (h : Head) (q : Asked) (T : List ℕ) : Type 0 where
-  pub room : ranksLength h q ≤ length T
-  pub empty : (k : ℕ) → getD T k (q .none) ≡ q .none
-
 -- the areas that the answer is found in
 pub record AreasAsked (h : Head) (q : Asked) (masks callers ahead behind links : List ℕ) : Type 0 where
   pub masks-room : 3 * h .steps ≤ length masks
   pub masks-blank : Zeros masks
   pub callers-room : 4 * h .sequences ≤ length callers
   pub callers-blank : Zeros callers
-  pub ahead-asked : RanksAsked h q ahead
-  pub behind-asked : RanksAsked h q behind
-  pub links-asked : RanksAsked h q links
-
--- a table without a rank, which has these words and no other
-pub record Unranked (h : Head) (q : Asked) (T : List ℕ) : Type 0 where
-  pub long : length T ≡ ranksLength h q
-  pub empty : (k : ℕ) → getD T k (q .none) ≡ q .none
+  pub ahead-room : ranksLength h q ≤ length ahead
+  pub behind-room : ranksLength h q ≤ length behind
+  pub links-room : ranksLength h q ≤ length links
 
 -- ---- the tables, whatever image they are of
 

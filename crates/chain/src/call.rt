@@ -12,6 +12,7 @@ use question::asked::Asked;
 use question::asked::NO_RANK_ABOVE;
 use question::asked::RUN_MARK;
 use question::asked::UNTOUCHED_MARK;
+use question::asked::fact_block;
 use question::asked::in_range;
 use question::asked::out_of_range;
 use question::asked::read_question;
@@ -19,6 +20,7 @@ use rank::settle::settle;
 use reader::check::check;
 use slot::entry::write_item_ranks;
 use tables::prepare::prepare;
+use tables::prepare::prepare_masks;
 use tables::size::MOST_CALLERS;
 use tables::size::MOST_MASKS;
 use tables::size::MOST_PLACES;
@@ -49,7 +51,7 @@ pub const MOST_RANKS: usize = MOST_SEQUENCES as usize
     + MOST_FACTS as usize
     + MOST_STEPS as usize;
 
-// Ranks the items by one question and the sequences by another, in a table that has no rank yet.
+// Ranks the items by one question and the sequences by another.
 fn rank(
     all: bool,
     p: Asked,
@@ -180,7 +182,7 @@ fn find_by(
     write_chain(q, ahead, behind, links, part, places, area, c)
 }
 
-// Finds the answer to a question of sequence `c` of an accepted image, in lent areas.
+// Finds the answer to a question of sequence `c` of an accepted image, in lent areas, by the masks of the block of its fact.
 fn find_in(
     h: Head,
     image: &[u32],
@@ -201,7 +203,8 @@ fn find_in(
     let n = h.sequences as usize;
     let words = q.none as usize + MOST_FACTS as usize + h.steps as usize;
     let part = sequences_part(image);
-    prepare(h, image, masks, &mut places, callers, &mut order);
+    prepare_masks(h, image, fact_block(q), masks);
+    prepare(h, image, &mut places, callers, &mut order);
     find_by(
         q,
         masks,
@@ -225,9 +228,9 @@ fn find_small(h: Head, image: &[u32], q: Asked, c: u32, area: &mut [u32]) -> u32
 {
     let mut masks = [0u64; SMALL_MASKS];
     let mut callers = [0u64; SMALL_CALLERS];
-    let mut ahead = [q.none; SMALL_RANKS];
-    let mut behind = [q.none; SMALL_RANKS];
-    let mut links = [q.none; SMALL_RANKS];
+    let mut ahead = [0u32; SMALL_RANKS];
+    let mut behind = [0u32; SMALL_RANKS];
+    let mut links = [0u32; SMALL_RANKS];
     find_in(
         h,
         image,
@@ -249,9 +252,9 @@ fn find_large(h: Head, image: &[u32], q: Asked, c: u32, area: &mut [u32]) -> u32
 {
     let mut masks = [0u64; MOST_MASKS];
     let mut callers = [0u64; MOST_CALLERS];
-    let mut ahead = [q.none; MOST_RANKS];
-    let mut behind = [q.none; MOST_RANKS];
-    let mut links = [q.none; MOST_RANKS];
+    let mut ahead = [0u32; MOST_RANKS];
+    let mut behind = [0u32; MOST_RANKS];
+    let mut links = [0u32; MOST_RANKS];
     find_in(
         h,
         image,

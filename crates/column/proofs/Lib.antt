@@ -1,3 +1,4 @@
 pub mod Bits
 pub mod Low
 pub mod Operations
+pub mod Words

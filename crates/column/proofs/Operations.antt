@@ -100,20 +100,22 @@ in-column n p k l = ap (λ (b : ℕ). eqb b 1) (bit-column n p k l) ∙ byte-tes
 byte-eq : (b : ℕ) (c : Bool) → b ≡ boolByte c → eqb b 1 ≡ c
 byte-eq b c e = ap (λ (n : ℕ). eqb n 1) e ∙ byte-test c
 
+-- a bit is the number of its test
+byte-low : (b : ℕ) → b ≤ 1 → b ≡ boolByte (eqb b 1)
+byte-low zero l = refl
+byte-low (suc zero) l = refl
+byte-low (suc (suc b)) l = absurd (omega arith)
+
+pub bit-byte : (c k : ℕ) → bit c k ≡ boolByte (inColumn c k)
+unfolding inColumn
+bit-byte c k = byte-low (bit c k) (bit-le c k)
+
 -- a column with one fact more, whatever its width
 pub in-with : (c f k : ℕ) → inColumn (withFact c f) k ≡ eqb f k || inColumn c k
 unfolding inColumn
 in-with c f k =
     byte-eq (bit (withFact c f) k) (eqb f k || eqb (bit c k) 1)
-    (bit-or c (2 ^ f) k ∙ omega (arith, bit-pow f k, byte-or (eqb f k) (eqb (bit c k) 1), bit-byte))
-  where
-    low : (b : ℕ) → b ≤ 1 → b ≡ boolByte (eqb b 1)
-    low zero l = refl
-    low (suc zero) l = refl
-    low (suc (suc b)) l = absurd (omega arith)
-
-    bit-byte : bit c k ≡ boolByte (eqb (bit c k) 1)
-    bit-byte = low (bit c k) (bit-le c k)
+    (bit-or c (2 ^ f) k ∙ omega (arith, bit-pow f k, byte-or (eqb f k) (eqb (bit c k) 1), bit-byte c k))
 
 -- that fact is in it, and so are those that were in it before
 pub in-own : (c f : ℕ) → inColumn (withFact c f) f ≡ true

@@ -17,10 +17,6 @@ column (suc n) p = boolByte (p 0) + 2 * column n (λ (k : ℕ). p (suc k))
 abbrev pub withFact : ℕ → ℕ → ℕ
 withFact c f = bitOr c (2 ^ f)
 
--- how many bits a column has, in a word of 64 bits
-abbrev pub columnWidth : ℕ
-columnWidth = 64
-
--- all facts below n, or as many as a column has room for
-abbrev pub allBelow : ℕ → ℕ
-allBelow n = 2 ^ min n columnWidth - 1
+-- all facts below n, or as many as a column of width w has room for
+abbrev pub allBelow : ℕ → ℕ → ℕ
+allBelow w n = 2 ^ min n w - 1

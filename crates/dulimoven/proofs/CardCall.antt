@@ -18,7 +18,7 @@ use Rattle.image.specs.declared.answer.Refusal.the-variants.{CardArea}
 use Rattle.image.specs.declared.answer.Checked.{Checked}
 use Rattle.library.proofs.Accepted.{faultless, counted}
 use Rattle.card.specs.Answer.{cardsGiven, areaWith, cardsAnswer}
-use Rattle.cards.specs.Layout.{cardWords}
+use Rattle.cards.specs.Layout.{columnWidth, cardWords}
 use Rattle.cards.specs.Card.{cards}
 use Rattle.card.specs.declared.answer.Cards.{Cards}
 use Rattle.cards.proofs.Area.{all-cards, cards-unique}
@@ -28,8 +28,8 @@ use Rattle.dulimoven.specs.Demands.{Refuses}
 use Rattle.dulimoven.specs.Engine.{engine}
 use Rattle.dulimoven.proofs.Refusals.{refusal-high}
 
--- an accepted library has at most 64 facts
-pub few-facts : (image : List ℕ) (h : Head) → checked image ≡ Checked.Accepted h → libraryOf image .facts ≤ 64
+-- an accepted library has no more facts than a column has room for
+pub few-facts : (image : List ℕ) (h : Head) → checked image ≡ Checked.Accepted h → libraryOf image .facts ≤ columnWidth
 few-facts image h e = omega (arith, counted image h e .facts, faultless image h e .facts-high)
 
 module _ (image area : List ℕ) where

@@ -1,9 +1,9 @@
 -- The engine that the contracts describe meets the three demands, and what demand 1 says of a call no other number and no other area does.
 -- It has: demand 1 and `only-engine`; demand 2 (`columns`); demand 3 (`runs`); and all three (`demands-met`).
 -- Assumes nothing.
-use Prim.Native.Nat.{ℕ, _+_, _*_, _-_, _≤_, _<_}
+use Prim.Native.Nat.{ℕ, _+_, _*_, _-_, _^_, _≤_, _<_}
 use native.Mathlib.Omega.{arith}
-use mathlib.Core.Path.{_≡_, refl, sym, ap, ap₂, _∙_}
+use mathlib.Core.Path.{_≡_, refl, sym, ap, ap₂, subst, _∙_}
 use mathlib.Core.Logic.{_↔_, inl, inr, ⊎-elim}
 use mathlib.Core.List.{List, _++_}
 use lib.ListN.{length, getD, drop, length-append, length-drop, List·getD-append}
@@ -15,16 +15,17 @@ use Rattle.image.specs.declared.answer.Head.{Head}
 use Rattle.image.specs.declared.answer.Refusal.{Refusal}
 use Rattle.image.specs.declared.answer.Checked.{Checked}
 use Rattle.library.proofs.Accepted.{faultless, counted}
+use Rattle.library.proofs.Rows.{all-at}
 use Rattle.runs.specs.Run.{Run}
 use Rattle.runs.specs.Execution.{Fact}
 use Rattle.runs.specs.Touch.{Mark, present, absent, questionOf, HasOutcome, lastSet, lastCleared, lastUntouched, firstSet, firstUntouched}
 use Rattle.runs.proofs.Outcome.{present≢untouched, absent≢untouched}
 use Rattle.runs.proofs.Columns.{breaks-rule}
-use Rattle.cards.specs.Area.{partWord}
-use Rattle.cards.specs.Layout.{cardWords}
-use Rattle.cards.specs.Card.{cards}
+use Rattle.cards.specs.Area.{partNumber}
+use Rattle.cards.specs.Layout.{cardNumbers, columnWidth, cardWords}
+use Rattle.cards.specs.Card.{cards, cardNumber}
 use Rattle.cards.specs.Meaning.{Always, needed, set, cleared, Breaks, Card, Runs}
-use Rattle.cards.proofs.Area.{length-cards, card-words, all-cards}
+use Rattle.cards.proofs.Area.{length-cards, card-numbers, all-cards}
 use Rattle.cards.proofs.Meaning.{card-right, runs-right, card-same, runs-same}
 use Rattle.chains.specs.Link.{Chain}
 use Rattle.chains.specs.Call.{Reply}
@@ -111,13 +112,22 @@ module _ (image area : List ℕ) (ready : Ready image area) where
       (filled h (ready .accepted) (omega arith) (cards (libraryOf image)) (all-cards (libraryOf image) (few-facts image h (ready .accepted))) refl)))
       ∙ ap (λ (n : ℕ). cards (libraryOf image) ++ drop (cardWords * n) area) (sym size)
 
-  -- a sequence's own part of the area has its card's words
-  part-words : (c k : ℕ) → c < count (libraryOf image) → k < cardWords
-      → partWord (engine .cards image area .area) c k ≡ partWord (cards (libraryOf image)) c k
-  part-words c k l u =
-      ap (λ (a : List ℕ). partWord a c k) filled-area
-      ∙ List·getD-append (cards (libraryOf image)) (drop (cardWords * count (libraryOf image)) area) 0 (cardWords * c + k)
-      (omega (arith, length-cards (libraryOf image)))
+  few : libraryOf image .facts ≤ columnWidth
+  few = few-facts image (ready .head) (ready .accepted)
+
+  -- a sequence's own part of the area has its card's numbers
+  part-is : (c : ℕ) → c < count (libraryOf image) → (k : ℕ) → k < cardNumbers → partNumber (engine .cards image area .area) c k ≡ cardNumber (libraryOf image) c k
+  part-is c l k u =
+      ap (λ (a : List ℕ). partNumber a c k) filled-area ∙ card-numbers (libraryOf image) (drop (cardWords * count (libraryOf image)) area) c l few k u
+
+  narrow-there : (i : ℕ) → i < cardWords * count (libraryOf image) → getD (engine .cards image area .area) i 0 < 2 ^ 64
+  narrow-there i l =
+      let all = all-cards (libraryOf image) few in
+      let long = all .long in
+      let word : getD (engine .cards image area .area) i 0 ≡ getD (cards (libraryOf image)) i 0 =
+      ap (λ (a : List ℕ). getD a i 0) filled-area
+      ∙ List·getD-append (cards (libraryOf image)) (drop (cardWords * count (libraryOf image)) area) 0 i (omega arith) in
+      subst (λ (n : ℕ). n < 2 ^ 64) (sym word) (all-at (λ (w : ℕ). w < 2 ^ 64) (cards (libraryOf image)) (all .narrow) 0 i (omega arith))
 
   past-stays : (i : ℕ) → cardWords * count (libraryOf image) ≤ i → getD (engine .cards image area .area) i 0 ≡ getD area i 0
   past-stays i l =
@@ -136,17 +146,17 @@ module _ (image area : List ℕ) (ready : Ready image area) where
       ap length filled-area
       ∙ omega (arith, length-append (cards (libraryOf image)) (drop n area), length-drop n area, length-cards (libraryOf image))
 
-  card-there : (c : ℕ) → c < count (libraryOf image) → Card (libraryOf image) c (partWord (engine .cards image area .area) c)
+  card-there : (c : ℕ) → c < count (libraryOf image) → Card (libraryOf image) c (partNumber (engine .cards image area .area) c)
   card-there c l =
-      card-same (libraryOf image) c _ (λ k u. part-words c k l u ∙ card-words (libraryOf image) c k l u)
-      (card-right (libraryOf image) (few-facts image (ready .head) (ready .accepted)) c)
+      card-same (libraryOf image) c _ (part-is c l)
+      (card-right (libraryOf image) few c)
 
-  runs-there : (c : ℕ) → c < count (libraryOf image) → Runs (libraryOf image) c (partWord (engine .cards image area .area) c)
+  runs-there : (c : ℕ) → c < count (libraryOf image) → Runs (libraryOf image) c (partNumber (engine .cards image area .area) c)
   runs-there c l =
-      runs-same (libraryOf image) c _ (λ k u. part-words c k l u ∙ card-words (libraryOf image) c k l u) (runs-right (libraryOf image) c)
+      runs-same (libraryOf image) c _ (part-is c l) (runs-right (libraryOf image) c)
 
 pub columns : Demand2 engine
-columns = record { card = card-there; past = past-stays; long = length-stays }
+columns = record { card = card-there; narrow = narrow-there; past = past-stays; long = length-stays }
 
 -- ---- demand 3
 

@@ -17,12 +17,12 @@ use Rattle.dulimoven.specs.Returned.{Returned, returned, turnedDown}
 -- the first refusal that applies: "The check meets 1 to 7, the cards 1 to 8"
 pub data CardsRefused (image : List ℕ) (room : ℕ) : Refusal → Type 0 where
   by-image : {why : Refusal} → checked image ≡ Checked.Refused why → CardsRefused image room why
-  -- 8: "The card area has fewer than 7 × C words of 64 bits."; "8 asks 13 × C" (document 02, request 5)
+  -- 8: "The card area has fewer than 7 × C words of 64 bits."; "8 asks 49 × C" (document 02, request 8)
   by-area : (h : Head) → checked image ≡ Checked.Accepted h → room < cardWords * h .sequences → CardsRefused image room CardArea
 
 -- what the card call gives back
 pub data CardsReturn (image area : List ℕ) (r : Returned) : Type 0 where
   refused : (why : Refusal) → CardsRefused image (length area) why → r ≡ turnedDown why area → CardsReturn image area r
-  -- "Otherwise .. the cards [answer] C": `words` are the cards of all sequences; "words past 7 × C stay", 13 × C by request 5
+  -- "Otherwise .. the cards [answer] C": `words` are the cards of all sequences; "words past 7 × C stay", 49 × C by request 8
   filled : (h : Head) → checked image ≡ Checked.Accepted h → cardWords * h .sequences ≤ length area → (words : List ℕ)
       → AllCards (libraryOf image) words → r ≡ returned (h .sequences) (words ++ drop (cardWords * h .sequences) area) → CardsReturn image area r

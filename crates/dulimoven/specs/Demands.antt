@@ -16,7 +16,7 @@ use Rattle.runs.specs.Run.{Run}
 use Rattle.runs.specs.Execution.{Fact, State, Executes}
 use Rattle.runs.specs.Touch.{questionOf, HasOutcome}
 use Rattle.cards.specs.Layout.{cardWords}
-use Rattle.cards.specs.Area.{partWord}
+use Rattle.cards.specs.Area.{partNumber}
 use Rattle.cards.specs.Meaning.{Card, Kept, Changed, Always, needed, set, cleared, Breaks, Missing}
 use Rattle.chains.specs.Link.{Chain}
 use Rattle.chains.specs.Stands.{StandsFor}
@@ -85,7 +85,7 @@ pub record Demand1 (e : Engine) : Type 0 where
 abbrev pub count : Library → ℕ
 count L = length (L .sequences)
 
--- "For every accepted library", with a card area that has room: 13 × C words (document 02, request 5)
+-- "For every accepted library", with a card area that has room: 49 × C words (document 02, request 8)
 pub record Ready (image area : List ℕ) : Type 0 where
   pub head : Head
   pub accepted : checked image ≡ Checked.Accepted head
@@ -93,11 +93,14 @@ pub record Ready (image area : List ℕ) : Type 0 where
 
 pub record Demand2 (e : Engine) : Type 0 where
   -- "each card's columns hold a fact if the published definition of relaxed preconditions and effects puts it there, and only then, over
-  -- all finite runs; a sequence without a run has a blank card, and flags and count are those of document 01": the words are found in the
-  -- sequence's own part of the area
+  -- all finite runs; a sequence without a run has a blank card, and flags and count are those of document 01": the numbers are found in the
+  -- sequence's own part of the area, the flags in a word and each column in four
   pub card : (image area : List ℕ) → Ready image area → (c : ℕ) → c < count (libraryOf image)
-      → Card (libraryOf image) c (partWord (e .cards image area .area) c)
-  -- "words past 7 × C stay", 13 × C by request 5
+      → Card (libraryOf image) c (partNumber (e .cards image area .area) c)
+  -- "64-bit words": so the numbers fix them
+  pub narrow : (image area : List ℕ) → Ready image area → (i : ℕ) → i < cardWords * count (libraryOf image)
+      → getD (e .cards image area .area) i 0 < 2 ^ 64
+  -- "words past 7 × C stay", 49 × C by request 8
   pub past : (image area : List ℕ) → Ready image area → (i : ℕ) → cardWords * count (libraryOf image) ≤ i
       → getD (e .cards image area .area) i 0 ≡ getD area i 0
   pub long : (image area : List ℕ) → Ready image area → length (e .cards image area .area) ≡ length area
@@ -143,7 +146,7 @@ pub record Shown (L : Library) (c : ℕ) (word : ℕ → ℕ) (chain : ℕ → �
 pub record Demand3 (e : Engine) : Type 0 where
   -- "For every accepted library, however its sequences nest or call themselves"
   pub shown : (image area : List ℕ) → Ready image area → (c : ℕ) → c < count (libraryOf image)
-      → Shown (libraryOf image) c (partWord (e .cards image area .area) c) (e .chain image c)
+      → Shown (libraryOf image) c (partNumber (e .cards image area .area) c) (e .chain image c)
 
 -- ---- all three
 

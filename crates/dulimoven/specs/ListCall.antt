@@ -13,7 +13,7 @@ use Rattle.dulimoven.specs.Returned.{Returned, returned, turnedDown}
 
 -- the first refusal that applies: "of the earlier ones only 8; 14 for a list of more than 256, after 8; then 15 for a member not below C"
 pub data ListRefused (sequences room : ℕ) (list : List ℕ) : Refusal → Type 0 where
-  -- "8 asks 13 × C"
+  -- "8 asks 49 × C" (document 02, request 8)
   by-area : room < cardWords * sequences → ListRefused sequences room list CardArea
   by-length : cardWords * sequences ≤ room → mostList < length list → ListRefused sequences room list ListLength
   by-member : cardWords * sequences ≤ room → length list ≤ mostList → (m : ℕ) → List·Memᴰ m list → sequences ≤ m

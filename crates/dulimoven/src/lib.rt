@@ -1,6 +1,6 @@
 // The C side: the calls that a simulator makes, with plain numbers and lent arrays. include/dulimoven.h declares them. Each contract is one
 // equation: what the caller sees, the number and the area after the call, is what the engine of specs/Engine gives back.
-use writer::card::CARD_WORDS;
+use writer::block::CARD_WORDS;
 ghost use mathlib.Core.Path.{_≡_};
 ghost use Rattle.dulimoven.specs.Returned.{returned};
 ghost use Rattle.dulimoven.specs.Engine.{engine};
@@ -13,7 +13,7 @@ pub extern "C" fn dulimoven_check(image: &[u32]) -> u64
     image::answer::checked_answer(reader::check::check(image))
 }
 
-// The cards: C with the cards of all sequences written, thirteen words a sequence, or N × 2^32 + P for refusal N at position P with the area as
+// The cards: C with the cards of all sequences written, 49 words a sequence, or N × 2^32 + P for refusal N at position P with the area as
 // it was.
 #[no_mangle]
 pub extern "C" fn dulimoven_cards(image: &[u32], area: &mut [u64]) -> u64
@@ -37,7 +37,7 @@ pub extern "C" fn dulimoven_chain(
     question::answer::chain_answer(chain::call::chain(image, sequence, question, fact, area))
 }
 
-// The card of a test list, worked out from F and the cards: 0 with the thirteen words of the list's card written, or N × 2^32 for refusal N with
+// The card of a test list, worked out from F and the cards: 0 with the 49 words of the list's card written, or N × 2^32 for refusal N with
 // the card as it was.
 #[no_mangle]
 pub extern "C" fn dulimoven_list(

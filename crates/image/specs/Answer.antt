@@ -54,9 +54,9 @@ refusalPosition ListArea = 0
 abbrev pub refusalAnswer : Refusal → ℕ
 refusalAnswer r = refusalNumber r * 2 ^ 32 + refusalPosition r
 
--- a head's payload: "bits 0 to 6 hold F", "bits 7 to 17 hold A", "bits 18 to 26 hold C"
+-- a head's payload: "F in bits 0 to 8", "A in bits 9 to 18", "C in bits 19 to 27" (document 02, request 8)
 abbrev pub headPayload : Head → ℕ
-headPayload h = h .facts + h .steps * 2 ^ 7 + h .sequences * 2 ^ 18
+headPayload h = h .facts + h .steps * 2 ^ 9 + h .sequences * 2 ^ 19
 
 -- "It gets one 64-bit number: N × 2^32 + P for refusal N at position P, otherwise the head's payload from the check"
 abbrev pub checkedAnswer : Checked → ℕ

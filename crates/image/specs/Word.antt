@@ -1,5 +1,5 @@
 -- Words, their kinds and payloads, and the two words at the ends of an image: the head and the sum word (document 01, "The image"; document 02,
--- requests 4 and 6).
+-- requests 4, 6 and 8).
 use Prim.Native.Nat.{ℕ, _+_, _*_, _/_, _%_, _^_}
 use mathlib.Core.Bool.{Bool, _&&_, _||_}
 use mathlib.Core.List.{List, [], _∷_}
@@ -11,12 +11,13 @@ use Rattle.image.specs.declared.answer.Head.{Head}
 abbrev pub mostWords : ℕ
 mostWords = 8192
 
--- "1 to 64" facts, "0 to 1,024" steps and "0 to 256" sequences: the most that a head counts
+-- "F in bits 0 to 8 (1 to 256), A in bits 9 to 18 (0 to 1,023; 1,024 steps can no longer be written), C in bits 19 to 27 (0 to 256)" (document 02,
+-- request 8): the most facts, steps and sequences that a head counts
 abbrev pub mostFacts : ℕ
-mostFacts = 64
+mostFacts = 256
 
 abbrev pub mostSteps : ℕ
-mostSteps = 1024
+mostSteps = 1023
 
 abbrev pub mostSequences : ℕ
 mostSequences = 256
@@ -60,15 +61,10 @@ orderedSum earlier = wrappedSum (runningSums 0 earlier) % 2 ^ 28
 abbrev pub sumRight : List ℕ → ℕ → Bool
 sumRight earlier w = isKind 15 w && eqb (payload w) (orderedSum earlier)
 
--- "bits 0 to 6 hold F, the number of facts", "bits 7 to 17 hold A, steps", "bits 18 to 26 hold C, sequences"
+-- "F in bits 0 to 8", the number of facts, "A in bits 9 to 18", steps, "C in bits 19 to 27", sequences
 abbrev pub headOf : ℕ → Head
-headOf w = record { facts = payload w % 2 ^ 7; steps = payload w / 2 ^ 7 % 2 ^ 11; sequences = payload w / 2 ^ 18 % 2 ^ 9 }
+headOf w = record { facts = payload w % 2 ^ 9; steps = payload w / 2 ^ 9 % 2 ^ 10; sequences = payload w / 2 ^ 19 }
 
--- "Kind 1, head": F "1 to 64", A "0 to 1,024", C "0 to 256", "bit 27 is zero"
+-- "Kind 1, head": F "1 to 256", C "0 to 256"; A has no other rule than its bits
 abbrev pub headRight : ℕ → Bool
-headRight w =
-    isKind 1 w
-    && (leb 1 (headOf w .facts) && leb (headOf w .facts) mostFacts)
-    && leb (headOf w .steps) mostSteps
-    && leb (headOf w .sequences) mostSequences
-    && eqb (payload w / 2 ^ 27) 0
+headRight w = isKind 1 w && (leb 1 (headOf w .facts) && leb (headOf w .facts) mostFacts) && leb (headOf w .sequences) mostSequences

@@ -46,25 +46,21 @@ pub const FEWEST_WORDS: usize = 2;
 
 pub const MOST_WORDS: usize = 8192;
 
-pub const MOST_FACTS: u32 = 64;
+pub const MOST_FACTS: u32 = 256;
 
-pub const MOST_STEPS: u32 = 1024;
+pub const MOST_STEPS: u32 = 1023;
 
 pub const MOST_SEQUENCES: u32 = 256;
 
-// The head's payload: F in bits 0 to 6, A in bits 7 to 17, C in bits 18 to 26. A field is what the payload has from its first bit on, below a
-// power of two; nothing stands from bit 27 on.
-pub const FACTS_BELOW: u32 = 0x80;
+// The head's payload: F in bits 0 to 8, A in bits 9 to 18, C in bits 19 to 27. A field is what the payload has from its first bit on, below a
+// power of two.
+pub const FACTS_BELOW: u32 = 0x200;
 
-pub const STEPS_FROM: u32 = 0x80;
+pub const STEPS_FROM: u32 = 0x200;
 
-pub const STEPS_BELOW: u32 = 0x800;
+pub const STEPS_BELOW: u32 = 0x400;
 
-pub const SEQUENCES_FROM: u32 = 0x40000;
-
-pub const SEQUENCES_BELOW: u32 = 0x200;
-
-pub const HEAD_END: u32 = 0x8000000;
+pub const SEQUENCES_FROM: u32 = 0x80000;
 
 // Bits 31 to 28.
 pub fn kind_of(w: u32) -> u32
@@ -113,7 +109,7 @@ pub fn head_of(w: u32) -> Head
     Head {
         facts: p % FACTS_BELOW,
         steps: p / STEPS_FROM % STEPS_BELOW,
-        sequences: p / SEQUENCES_FROM % SEQUENCES_BELOW,
+        sequences: p / SEQUENCES_FROM,
     }
 }
 
@@ -125,7 +121,5 @@ pub fn head_right(w: u32) -> bool
     let f = p % FACTS_BELOW;
     (w / PAYLOADS == KIND_HEAD)
         & ((1 <= f) & (f <= MOST_FACTS))
-        & (p / STEPS_FROM % STEPS_BELOW <= MOST_STEPS)
-        & (p / SEQUENCES_FROM % SEQUENCES_BELOW <= MOST_SEQUENCES)
-        & (p / HEAD_END == 0)
+        & (p / SEQUENCES_FROM <= MOST_SEQUENCES)
 }

@@ -18,7 +18,7 @@ use lib.Dec.{leb, ltb, eqb}
 use borrow.Author.Tests.{leb-true, ltb-true, eqb-true, eqb-false}
 use mir.Val.{boolByte}
 use Rattle.image.specs.Word.{kind, payload, isKind, isFact, isEntry, headOf, headRight, sumRight}
-use Rattle.rules.specs.Rules.{opened, earlier, mayStand, faultAt}
+use Rattle.rules.specs.Rules.{opened, Before, earlier, mayStand, faultAt}
 use Rattle.rules.specs.Quick.{after}
 use Rattle.rules.specs.Checked.{scan, allButLast, between, firstWord, lastWord, checked}
 use Rattle.rules.specs.Walk.{walk, opening}
@@ -28,7 +28,6 @@ use Rattle.library.specs.Accepted.{Faultless, StepWord, SequenceWord, Pa
 use Rattle.image.specs.declared.answer.Head.{Head}
 use Rattle.image.specs.declared.answer.Refusal.the-variants.{Length, SumWord, HeadWord}
 use Rattle.image.specs.declared.answer.Checked.the-variants.{Accepted}
-use Rattle.rules.specs.declared.rules.Earlier.{Earlier}
 use Rattle.rules.specs.declared.rules.Fault.the-variants.{Nothing}
 use Rattle.general.proofs.Bools.{and-left, and-right, or-cases, or-five}
 use Rattle.image.proofs.Head.{HeadRule, head-rule}
@@ -43,14 +42,14 @@ use Rattle.library.proofs.Seam.{length-between}
 -- ---- where a word may stand
 
 -- which clause of the rule for kinds lets a word stand
-data Place (h : Head) (e : Earlier) (w : ℕ) : Type 0 where
+data Place (h : Head) (e : Before) (w : ℕ) : Type 0 where
   fact-word : isFact w ≡ true → (isKind 5 (e .last) || isFact (e .last)) ≡ true → Place h e w
   step-opener : kind w ≡ 5 → e .sequences ≡ 0 → Place h e w
   sequence-opener : kind w ≡ 6 → h .steps ≤ e .steps → Place h e w
   alternative-opener : kind w ≡ 7 → 0 < e .sequences → Place h e w
   entry-word : isEntry w ≡ true → (isKind 7 (e .last) || isEntry (e .last)) ≡ true → Place h e w
 
-place : (h : Head) (e : Earlier) (w : ℕ) → mayStand h e w ≡ true → Place h e w
+place : (h : Head) (e : Before) (w : ℕ) → mayStand h e w ≡ true → Place h e w
 place h e w s = go (or-five (isFact w && after-step) (isKind 5 w && eqb (e .sequences) 0) (isKind 6 w && leb (h .steps) (e .steps)) (isKind 7 w && ltb 0 (e .sequences)) (isEntry w && after-entry) s)
   where
     after-step : Bool
@@ -75,7 +74,7 @@ small w s = ⊎-elim (λ t. omega (arith, kind-is 5 w t)) (λ t. omega (arith, f
 large : (w : ℕ) → (isKind 7 w || isEntry w) ≡ true → 7 ≤ kind w
 large w s = ⊎-elim (λ t. omega (arith, kind-is 7 w t)) (λ t. omega (arith, entry-high w t)) (or-cases (isKind 7 w) (isEntry w) s)
 
-step-word : (h : Head) (e : Earlier) (w : ℕ) → Fine h e w → e .sequences ≡ 0 → kind (e .last) ≤ 5 → (kind w ≡ 6 → ⊥) → StepWord h w
+step-word : (h : Head) (e : Before) (w : ℕ) → Fine h e w → e .sequences ≡ 0 → kind (e .last) ≤ 5 → (kind w ≡ 6 → ⊥) → StepWord h w
 step-word h e w f none last other = go (place h e w (f .stands))
   where
     go : Place h e w → StepWord h w
@@ -86,7 +85,7 @@ step-word h e w f none last other = go (place h e w (f .stands))
     go (alternative-opener t a) = absurd (omega arith)
     go (entry-word t a) = absurd (omega (arith, large (e .last) a))
 
-sequence-word : (h : Head) (e : Earlier) (w : ℕ) → Fine h e w → (kind w ≡ 6) ⊎ ((0 < e .sequences) × (6 ≤ kind (e .last))) → SequenceWord h w
+sequence-word : (h : Head) (e : Before) (w : ℕ) → Fine h e w → (kind w ≡ 6) ⊎ ((0 < e .sequences) × (6 ≤ kind (e .last))) → SequenceWord h w
 sequence-word h e w f late =
     record {
       among = go (place h e w (f .stands)) late;
@@ -113,7 +112,7 @@ sequence-high w word = ⊎-elim (λ k. omega arith) (λ k. ⊎-elim (λ l. omega
 opens : (k w : ℕ) → (kind w ≡ k → ⊥) → boolByte (isKind k w) ≡ 0
 opens k w d = ap boolByte (is-not k w d)
 
-steps-words : (h : Head) (e : Earlier) (p : ℕ) (ws : List ℕ) (g : Head) → walk h e p ws ≡ Accepted g → e .sequences ≡ 0 → kind (e .last) ≤ 5
+steps-words : (h : Head) (e : Before) (p : ℕ) (ws : List ℕ) (g : Head) → walk h e p ws ≡ Accepted g → e .sequences ≡ 0 → kind (e .last) ≤ 5
     → All (StepWord h) (beforeSequences ws)
 unfolding beforeSequences
 steps-words h e p [] g a none last = tt
@@ -129,7 +128,7 @@ steps-words h e p (w ∷ ws) g a none last =
         let word = step-word h e w f none last (eqb-false (kind w) 6 q) in
         (word, rest (omega (arith, ap boolByte q)) (word .high))
 
-later-words : (h : Head) (e : Earlier) (p : ℕ) (ws : List ℕ) (g : Head) → walk h e p ws ≡ Accepted g → 0 < e .sequences → 6 ≤ kind (e .last)
+later-words : (h : Head) (e : Before) (p : ℕ) (ws : List ℕ) (g : Head) → walk h e p ws ≡ Accepted g → 0 < e .sequences → 6 ≤ kind (e .last)
     → All (SequenceWord h) ws
 later-words h e p [] g a some last = tt
 later-words h e p (w ∷ ws) g a some last =
@@ -137,7 +136,7 @@ later-words h e p (w ∷ ws) g a some last =
     let word = sequence-word h e w (fine h e p w (c .0)) (inr (some, last)) in
     (word, later-words h (after e w) (suc p) ws g (c .1) (omega arith) (sequence-high w word))
 
-sequences-words : (h : Head) (e : Earlier) (p : ℕ) (ws : List ℕ) (g : Head) → walk h e p ws ≡ Accepted g → All (SequenceWord h) (fromSequences ws)
+sequences-words : (h : Head) (e : Before) (p : ℕ) (ws : List ℕ) (g : Head) → walk h e p ws ≡ Accepted g → All (SequenceWord h) (fromSequences ws)
 unfolding fromSequences
 sequences-words h e p [] g a = tt
 sequences-words h e p (w ∷ ws) g a =
@@ -152,7 +151,7 @@ sequences-words h e p (w ∷ ws) g a =
 
 -- ---- the numbers of openers, and how many there are
 
-numbers : (h : Head) (e : Earlier) (p : ℕ) (ws : List ℕ) (g : Head) → walk h e p ws ≡ Accepted g → (i : ℕ) → i < length ws
+numbers : (h : Head) (e : Before) (p : ℕ) (ws : List ℕ) (g : Head) → walk h e p ws ≡ Accepted g → (i : ℕ) → i < length ws
     → (kind (getD ws i 0) ≡ 5 → payload (getD ws i 0) ≡ e .steps + opened 5 (take i ws))
     × (kind (getD ws i 0) ≡ 6 → payload (getD ws i 0) ≡ e .sequences + opened 6 (take i ws))
 unfolding opened
@@ -164,7 +163,7 @@ numbers h e p (w ∷ ws) g a (suc i) l =
     let ih = numbers h (after e w) (suc p) ws g (walk-cons h e p w ws g a .1) i (le-of-suc-le-suc l) in
     ((λ k. omega (arith, ih .0 k)), (λ k. omega (arith, ih .1 k)))
 
-counts : (h : Head) (e : Earlier) (p : ℕ) (ws : List ℕ) (g : Head) → walk h e p ws ≡ Accepted g → e .steps ≤ h .steps → e .sequences ≤ h .sequences
+counts : (h : Head) (e : Before) (p : ℕ) (ws : List ℕ) (g : Head) → walk h e p ws ≡ Accepted g → e .steps ≤ h .steps → e .sequences ≤ h .sequences
     → (e .steps + opened 5 ws ≡ h .steps) × (e .sequences + opened 6 ws ≡ h .sequences)
 unfolding opened
 counts h e p [] g a s q = omega (arith, walk-nil h e p g a)
@@ -183,13 +182,13 @@ counts h e p (w ∷ ws) g a s q =
         go true q = omega (arith, more (kind-is k w q))
         go false q = omega arith
 
-walk-head : (h : Head) (e : Earlier) (p : ℕ) (ws : List ℕ) (g : Head) → walk h e p ws ≡ Accepted g → h ≡ g
+walk-head : (h : Head) (e : Before) (p : ℕ) (ws : List ℕ) (g : Head) → walk h e p ws ≡ Accepted g → h ≡ g
 walk-head h e p [] g a = walk-nil h e p g a .0
 walk-head h e p (w ∷ ws) g a = walk-head h (after e w) (suc p) ws g (walk-cons h e p w ws g a .1)
 
 -- ---- the two parts of the words between
 
-steps-numbers : (h : Head) (e : Earlier) (p : ℕ) (ws : List ℕ) (g : Head) → walk h e p ws ≡ Accepted g → (i : ℕ) → i < length (beforeSequences ws)
+steps-numbers : (h : Head) (e : Before) (p : ℕ) (ws : List ℕ) (g : Head) → walk h e p ws ≡ Accepted g → (i : ℕ) → i < length (beforeSequences ws)
     → kind (getD (beforeSequences ws) i 0) ≡ 5 → payload (getD (beforeSequences ws) i 0) ≡ e .steps + opened 5 (take i (beforeSequences ws))
 steps-numbers h e p ws g a i l k =
     let b = beforeSequences ws in
@@ -200,7 +199,7 @@ steps-numbers h e p ws g a i l k =
     let below : i < length ws = omega (arith, ap length j, length-append b f) in
     ap payload (sym at) ∙ numbers h e p ws g a i below .0 (ap kind at ∙ k) ∙ ap (λ (x : List ℕ). e .steps + opened 5 x) cut
 
-sequences-numbers : (h : Head) (e : Earlier) (p : ℕ) (ws : List ℕ) (g : Head) → walk h e p ws ≡ Accepted g → (i : ℕ) → i < length (fromSequences ws)
+sequences-numbers : (h : Head) (e : Before) (p : ℕ) (ws : List ℕ) (g : Head) → walk h e p ws ≡ Accepted g → (i : ℕ) → i < length (fromSequences ws)
     → kind (getD (fromSequences ws) i 0) ≡ 6 → payload (getD (fromSequences ws) i 0) ≡ e .sequences + opened 6 (take i (fromSequences ws))
 unfolding fromSequences
 sequences-numbers h e p [] g a i = λ l k. absurd (omega arith)
@@ -349,7 +348,7 @@ module _ (image : List ℕ) (h : Head) (a : checked image ≡ Accepted h) where
         facts-high = rw head-is (r .facts-high);
         steps-high = rw head-is (r .steps-high);
         sequences-high = rw head-is (r .sequences-high);
-        payload = rw head-is (omega (arith, r .spare));
+        payload = rw head-is (omega arith);
         between = no-fault;
       }
 

@@ -10,12 +10,11 @@ use lib.Dec.{eqb, ltb}
 use borrow.Author.Tests.{eqb-true, ltb-true}
 use Rattle.column.specs.Sets.{inColumn}
 use Rattle.image.specs.Word.{kind, payload, isKind, isFact}
-use Rattle.rules.specs.Rules.{setsAfter}
+use Rattle.rules.specs.Rules.{setsAfter, Before}
 use Rattle.rules.specs.Quick.{after}
 use Rattle.rules.specs.Walk.{walk}
 use Rattle.image.specs.declared.answer.Head.{Head}
 use Rattle.image.specs.declared.answer.Checked.the-variants.{Accepted}
-use Rattle.rules.specs.declared.rules.Earlier.{Earlier}
 use Rattle.general.specs.Tests.{All}
 use Rattle.rules.proofs.Faultless.{Fine, fine, where-kind}
 use Rattle.rules.proofs.Sets.{set-word, set-stays}
@@ -26,7 +25,7 @@ use Rattle.library.proofs.Decode.{is-not, kind-is}
 use Rattle.library.proofs.Passed.{walk-cons}
 
 -- a later word of the step does not clear what it sets already
-clears-none : (h : Head) (e : Earlier) (p : ℕ) (ws : List ℕ) (g : Head) → walk h e p ws ≡ Accepted g → (f : ℕ) → inColumn (e .sets) f ≡ true
+clears-none : (h : Head) (e : Before) (p : ℕ) (ws : List ℕ) (g : Head) → walk h e p ws ≡ Accepted g → (f : ℕ) → inColumn (e .sets) f ≡ true
     → has f (factsFrom 4 ws) ≡ false
 unfolding factsFrom has
 clears-none h e p [] g a f set = refl
@@ -46,7 +45,7 @@ clears-none h e p (w ∷ ws) g a f set =
         ∙ where-kind (isKind 4 w) (not (inColumn (e .sets) (payload w))) (fn .unset) four))
 
 -- after a clear word the step sets nothing
-sets-none : (h : Head) (e : Earlier) (p : ℕ) (ws : List ℕ) (g : Head) → walk h e p ws ≡ Accepted g → kind (e .last) ≡ 4 → factsFrom 3 ws ≡ []
+sets-none : (h : Head) (e : Before) (p : ℕ) (ws : List ℕ) (g : Head) → walk h e p ws ≡ Accepted g → kind (e .last) ≡ 4 → factsFrom 3 ws ≡ []
 unfolding factsFrom
 sets-none h e p [] g a last = refl
 sets-none h e p (w ∷ ws) g a last =
@@ -63,7 +62,7 @@ sets-none h e p (w ∷ ws) g a last =
         rw (is-not 3 w (λ three. omega arith)) (rest four)
 
 -- the facts of one step
-facts-apart : (h : Head) (e : Earlier) (p : ℕ) (ws : List ℕ) (g : Head) → walk h e p ws ≡ Accepted g → (f : ℕ)
+facts-apart : (h : Head) (e : Before) (p : ℕ) (ws : List ℕ) (g : Head) → walk h e p ws ≡ Accepted g → (f : ℕ)
     → has f (factsFrom 3 ws) && has f (factsFrom 4 ws) ≡ false
 unfolding factsFrom has
 facts-apart h e p [] g a f = refl
@@ -106,7 +105,7 @@ facts-before k (w ∷ ws) = go (isKind 6 w) (isFact w) refl refl (facts-before k
     go true false six fact rest = refl
     go false c six fact rest = rw (fact, rest)
 
-pub steps-apart : (h : Head) (e : Earlier) (p : ℕ) (ws : List ℕ) (g : Head) → walk h e p ws ≡ Accepted g → All Apart (stepsFrom (beforeSequences ws))
+pub steps-apart : (h : Head) (e : Before) (p : ℕ) (ws : List ℕ) (g : Head) → walk h e p ws ≡ Accepted g → All Apart (stepsFrom (beforeSequences ws))
 unfolding beforeSequences stepsFrom
 steps-apart h e p [] g a = tt
 steps-apart h e p (w ∷ ws) g a =

@@ -18,46 +18,47 @@ use Rattle.image.specs.Word.{kind, isKind}
 use Rattle.rules.specs.Rules.{opened}
 use Rattle.library.specs.Library.{has, Step, alternativesFrom, sequencesFrom}
 use Rattle.general.specs.Tests.{All}
+use Rattle.column.specs.Words.{block, factsIn}
 use Rattle.library.specs.Tables.{maskWords, maskOf, masks, placesFrom}
 use Rattle.library.proofs.Decode.{kind-is, sequences-open, sequences-skip}
 use borrow.Author.Tests.{eqb-false, ne-eqb}
 
--- bit f of a mask is set exactly where fact f is one of its facts
-pub mask-bit : (facts : List ℕ) (f : ℕ) → f < 64 → bit (maskOf facts) f ≡ boolByte (has f facts)
+-- bit b of a mask is set exactly where fact 64 k + b is one of its facts
+pub mask-bit : (k : ℕ) (facts : List ℕ) (b : ℕ) → b < 64 → bit (maskOf k facts) b ≡ boolByte (has (64 * k + b) facts)
 unfolding maskOf
-mask-bit facts f l = bit-column 64 (λ (g : ℕ). has g facts) f l
+mask-bit k facts b l = bit-column 64 (block k (λ (f : ℕ). has f facts)) b l
 
-pub mask-has : (facts : List ℕ) (f : ℕ) → f < 64 → inColumn (maskOf facts) f ≡ has f facts
+pub mask-has : (k : ℕ) (facts : List ℕ) (b : ℕ) → b < 64 → inColumn (maskOf k facts) b ≡ has (64 * k + b) facts
 unfolding maskOf
-mask-has facts f l = in-column 64 (λ (g : ℕ). has g facts) f l
+mask-has k facts b l = in-column 64 (block k (λ (f : ℕ). has f facts)) b l
 
-pub mask-none : maskOf [] ≡ 0
+pub mask-none : (k : ℕ) → maskOf k [] ≡ 0
 unfolding maskOf has
-mask-none = column-none 64
+mask-none k = column-none 64
 
-pub mask-lt : (facts : List ℕ) → maskOf facts < 2 ^ 64
+pub mask-lt : (k : ℕ) (facts : List ℕ) → maskOf k facts < 2 ^ 64
 unfolding maskOf
-mask-lt facts = column-lt 64 (λ (g : ℕ). has g facts)
+mask-lt k facts = column-lt 64 (block k (λ (f : ℕ). has f facts))
 
 -- three words a step
-masks-length : (ss : List Step) → length (masks ss) ≡ maskWords * length ss
+masks-length : (b : ℕ) (ss : List Step) → length (masks b ss) ≡ maskWords * length ss
 unfolding masks
-masks-length [] = refl
-masks-length (s ∷ ss) = omega (arith, masks-length ss)
+masks-length b [] = refl
+masks-length b (s ∷ ss) = omega (arith, masks-length b ss)
 
 -- the words of step a
-row-at : (ss : List Step) (a : ℕ) (d : Step) → a < length ss
-    → (getD (masks ss) (maskWords * a) 0 ≡ maskOf (getD ss a d .needs))
-    × (getD (masks ss) (maskWords * a + 1) 0 ≡ maskOf (getD ss a d .sets))
-    × (getD (masks ss) (maskWords * a + 2) 0 ≡ maskOf (getD ss a d .clears))
+row-at : (b : ℕ) (ss : List Step) (a : ℕ) (d : Step) → a < length ss
+    → (getD (masks b ss) (maskWords * a) 0 ≡ maskOf b (getD ss a d .needs))
+    × (getD (masks b ss) (maskWords * a + 1) 0 ≡ maskOf b (getD ss a d .sets))
+    × (getD (masks b ss) (maskWords * a + 2) 0 ≡ maskOf b (getD ss a d .clears))
 unfolding masks
-row-at [] a d l = absurd (omega arith)
-row-at (s ∷ ss) zero d l = (refl, refl, refl)
-row-at (s ∷ ss) (suc a) d l =
+row-at b [] a d l = absurd (omega arith)
+row-at b (s ∷ ss) zero d l = (refl, refl, refl)
+row-at b (s ∷ ss) (suc a) d l =
     let n : maskWords * suc a ≡ suc (suc (suc (maskWords * a))) = omega arith in
     let m : maskWords * suc a + 1 ≡ suc (suc (suc (maskWords * a + 1))) = omega arith in
     let k : maskWords * suc a + 2 ≡ suc (suc (suc (maskWords * a + 2))) = omega arith in
-    let ih = row-at ss a d (le-of-suc-le-suc l) in
+    let ih = row-at b ss a d (le-of-suc-le-suc l) in
     (rw n (ih .0), rw m (ih .1), rw k (ih .2))
 
 -- a step that names no fact
@@ -65,20 +66,20 @@ abbrev pub noFacts : Step
 noFacts = record { needs = []; sets = []; clears = [] }
 
 -- the words of step a; past the steps, those of one that names no fact
-pub words-at : (ss : List Step) (a : ℕ)
-    → (getD (masks ss) (maskWords * a) 0 ≡ maskOf (getD ss a noFacts .needs))
-    × (getD (masks ss) (maskWords * a + 1) 0 ≡ maskOf (getD ss a noFacts .sets))
-    × (getD (masks ss) (maskWords * a + 2) 0 ≡ maskOf (getD ss a noFacts .clears))
-words-at ss a =
+pub words-at : (b : ℕ) (ss : List Step) (a : ℕ)
+    → (getD (masks b ss) (maskWords * a) 0 ≡ maskOf b (getD ss a noFacts .needs))
+    × (getD (masks b ss) (maskWords * a + 1) 0 ≡ maskOf b (getD ss a noFacts .sets))
+    × (getD (masks b ss) (maskWords * a + 2) 0 ≡ maskOf b (getD ss a noFacts .clears))
+words-at b ss a =
     elim (decLt a (length ss)) [
-      | yes l ↦ row-at ss a noFacts l
+      | yes l ↦ row-at b ss a noFacts l
       | no l ↦
           let past : getD ss a noFacts ≡ noFacts = List·getD-eq-default ss noFacts {n = a} (omega arith) in
-          let nothing : (k : ℕ) → maskWords * length ss ≤ k → getD (masks ss) k 0 ≡ maskOf [] =
-          λ k le. List·getD-eq-default (masks ss) 0 {n = k} (omega (arith, masks-length ss)) ∙ sym mask-none in (
-            nothing (maskWords * a) (omega arith) ∙ ap (λ (s : Step). maskOf (s .needs)) (sym past),
-            nothing (maskWords * a + 1) (omega arith) ∙ ap (λ (s : Step). maskOf (s .sets)) (sym past),
-            nothing (maskWords * a + 2) (omega arith) ∙ ap (λ (s : Step). maskOf (s .clears)) (sym past),
+          let nothing : (k : ℕ) → maskWords * length ss ≤ k → getD (masks b ss) k 0 ≡ maskOf b [] =
+          λ k le. List·getD-eq-default (masks b ss) 0 {n = k} (omega (arith, masks-length b ss)) ∙ sym (mask-none b) in (
+            nothing (maskWords * a) (omega arith) ∙ ap (λ (s : Step). maskOf b (s .needs)) (sym past),
+            nothing (maskWords * a + 1) (omega arith) ∙ ap (λ (s : Step). maskOf b (s .sets)) (sym past),
+            nothing (maskWords * a + 2) (omega arith) ∙ ap (λ (s : Step). maskOf b (s .clears)) (sym past),
           )
     ]
 
@@ -137,6 +138,6 @@ unfolding has
 none-above n [] a k l = refl
 none-above n (f ∷ facts) a k l = ap₂ _||_ (ne-eqb f k (λ e. omega (arith, a .0))) (none-above n facts (a .1) k l)
 
-pub mask-low : (n : ℕ) (facts : List ℕ) → All (λ (f : ℕ). f < n) facts → maskOf facts < 2 ^ n
+pub mask-low : (k n : ℕ) (facts : List ℕ) → All (λ (f : ℕ). f < n) facts → maskOf k facts < 2 ^ factsIn n k
 unfolding maskOf
-mask-low n facts a = column-low 64 n (λ (f : ℕ). has f facts) (λ k l u. none-above n facts a k l)
+mask-low k n facts a = column-low 64 (factsIn n k) (block k (λ (f : ℕ). has f facts)) (λ b l u. none-above n facts a (64 * k + b) (omega arith))

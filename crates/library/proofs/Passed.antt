@@ -7,7 +7,7 @@ use mathlib.Core.Bool.{Bool, true, false, cond, _||_}
 use mathlib.Core.List.{List, [], _∷_}
 use lib.Dec.{ltb}
 use borrow.Author.Tests.{ltb-false}
-use Rattle.rules.specs.Rules.{faultAt}
+use Rattle.rules.specs.Rules.{Before, faultAt}
 use Rattle.rules.specs.Quick.{after}
 use Rattle.rules.specs.Checked.{atWord}
 use Rattle.rules.specs.Walk.{walk}
@@ -16,7 +16,6 @@ use Rattle.image.specs.declared.answer.Refusal.{Refusal}
 use Rattle.image.specs.declared.answer.Refusal.the-variants.{Missing}
 use Rattle.image.specs.declared.answer.Checked.{Checked}
 use Rattle.image.specs.declared.answer.Checked.the-variants.{Accepted, Refused}
-use Rattle.rules.specs.declared.rules.Earlier.{Earlier}
 use Rattle.rules.specs.declared.rules.Fault.{Fault}
 use Rattle.rules.specs.declared.rules.Fault.the-variants.{Found, Nothing}
 use Rattle.general.proofs.Bools.{nor-left, nor-right}
@@ -40,12 +39,12 @@ pub passed-word : (f : Fault) (x : Checked) (h : Head) → atWord f x ≡ Accept
 passed-word (Found r) x h e = absurd (refused-accepted e)
 passed-word Nothing x h e = (refl, e)
 
-pub walk-cons : (h : Head) (e : Earlier) (p w : ℕ) (ws : List ℕ) (g : Head) → walk h e p (w ∷ ws) ≡ Accepted g
+pub walk-cons : (h : Head) (e : Before) (p w : ℕ) (ws : List ℕ) (g : Head) → walk h e p (w ∷ ws) ≡ Accepted g
     → (faultAt h e p w ≡ Nothing) × (walk h (after e w) (suc p) ws ≡ Accepted g)
 unfolding walk
 walk-cons h e p w ws g a = passed-word (faultAt h e p w) (walk h (after e w) (suc p) ws) g a
 
-pub walk-nil : (h : Head) (e : Earlier) (p : ℕ) (g : Head) → walk h e p [] ≡ Accepted g
+pub walk-nil : (h : Head) (e : Before) (p : ℕ) (g : Head) → walk h e p [] ≡ Accepted g
     → (h ≡ g) × (h .steps ≤ e .steps) × (h .sequences ≤ e .sequences)
 unfolding walk
 walk-nil h e p g a =

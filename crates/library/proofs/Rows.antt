@@ -12,8 +12,8 @@ use lib.ListN.{length, getD, take, drop, set, take-append-drop, length-set}
 use lib.Seq.{drop-cons, drop-length, take-length, take-suc}
 use borrow.Author.Tests.{eqb-false}
 use mir.Val.{boolByte}
-use Rattle.column.specs.Column.{withFact}
-use Rattle.column.proofs.Bits.{column-with}
+use Rattle.column.specs.Words.{withFactIn}
+use Rattle.column.proofs.Words.{column-with-in}
 use Rattle.image.specs.Word.{kind, payload, isKind}
 use Rattle.rules.specs.Rules.{opened}
 use Rattle.library.specs.Library.{has, Step, factsFrom, stepsFrom}
@@ -67,36 +67,36 @@ opened-within k j ws = omega (arith, opened-append k (take j ws) (drop j ws), ap
 
 -- ---- masks
 
-mask-cons : (f : ℕ) (fs : List ℕ) → f < 64 → withFact (maskOf fs) f ≡ maskOf (f ∷ fs)
+mask-cons : (n f : ℕ) (fs : List ℕ) → withFactIn n (maskOf n fs) f ≡ maskOf n (f ∷ fs)
 unfolding maskOf has
-mask-cons f fs l = column-with 64 f (λ (k : ℕ). has k fs) l
+mask-cons n f fs = column-with-in n f (λ (g : ℕ). has g fs)
 
 -- no fact stands from an opener to the step's end, since there the step before it ends
-mask-opener : (k w : ℕ) (ws : List ℕ) → kind w ≡ 5 → 0 ≡ maskOf (factsFrom k (w ∷ ws))
-mask-opener k w ws e = sym (ap maskOf (facts-end k w ws e) ∙ mask-none)
+mask-opener : (n k w : ℕ) (ws : List ℕ) → kind w ≡ 5 → 0 ≡ maskOf n (factsFrom k (w ∷ ws))
+mask-opener n k w ws e = sym (ap (maskOf n) (facts-end k w ws e) ∙ mask-none n)
 
-masks-opener : (w : ℕ) (ws : List ℕ) → kind w ≡ 5 → record { needs = 0; sets = 0; clears = 0 } ≡ masksFrom (w ∷ ws)
-masks-opener w ws e i = record { needs = mask-opener 2 w ws e i; sets = mask-opener 3 w ws e i; clears = mask-opener 4 w ws e i }
+masks-opener : (n w : ℕ) (ws : List ℕ) → kind w ≡ 5 → record { needs = 0; sets = 0; clears = 0 } ≡ masksFrom n (w ∷ ws)
+masks-opener n w ws e i = record { needs = mask-opener n 2 w ws e i; sets = mask-opener n 3 w ws e i; clears = mask-opener n 4 w ws e i }
 
 -- a fact word adds its fact to the mask of its kind, and to no other
-module _ (w : ℕ) (ws : List ℕ) (l : 2 ≤ kind w) (u : kind w ≤ 4) (f : payload w < 64) where
-  mask-here : (k : ℕ) → 2 ≤ k → k ≤ 4 → kind w ≡ k → withFact (maskOf (factsFrom k ws)) (payload w) ≡ maskOf (factsFrom k (w ∷ ws))
-  mask-here k low high e = mask-cons (payload w) (factsFrom k ws) f ∙ ap maskOf (sym (facts-here k w ws low high e))
+module _ (n w : ℕ) (ws : List ℕ) (l : 2 ≤ kind w) (u : kind w ≤ 4) where
+  mask-here : (k : ℕ) → 2 ≤ k → k ≤ 4 → kind w ≡ k → withFactIn n (maskOf n (factsFrom k ws)) (payload w) ≡ maskOf n (factsFrom k (w ∷ ws))
+  mask-here k low high e = mask-cons n (payload w) (factsFrom k ws) ∙ ap (maskOf n) (sym (facts-here k w ws low high e))
 
-  mask-other : (k : ℕ) → (kind w ≡ k → ⊥) → maskOf (factsFrom k ws) ≡ maskOf (factsFrom k (w ∷ ws))
-  mask-other k d = ap maskOf (sym (facts-other k w ws l u d))
+  mask-other : (k : ℕ) → (kind w ≡ k → ⊥) → maskOf n (factsFrom k ws) ≡ maskOf n (factsFrom k (w ∷ ws))
+  mask-other k d = ap (maskOf n) (sym (facts-other k w ws l u d))
 
-  masks-word : withWord (masksFrom ws) w ≡ masksFrom (w ∷ ws)
+  masks-word : withWord n (masksFrom n ws) w ≡ masksFrom n (w ∷ ws)
   masks-word = go (isKind 2 w) (isKind 3 w) refl refl
     where
       m : Masks
-      m = masksFrom ws
+      m = masksFrom n ws
 
       go : (a b : Bool) → isKind 2 w ≡ a → isKind 3 w ≡ b
-          → cond a (record { needs = withFact (m .needs) (payload w); sets = m .sets; clears = m .clears })
-          (cond b (record { needs = m .needs; sets = withFact (m .sets) (payload w); clears = m .clears })
-          (record { needs = m .needs; sets = m .sets; clears = withFact (m .clears) (payload w) }))
-          ≡ masksFrom (w ∷ ws)
+          → cond a (record { needs = withFactIn n (m .needs) (payload w); sets = m .sets; clears = m .clears })
+          (cond b (record { needs = m .needs; sets = withFactIn n (m .sets) (payload w); clears = m .clears })
+          (record { needs = m .needs; sets = m .sets; clears = withFactIn n (m .clears) (payload w) }))
+          ≡ masksFrom n (w ∷ ws)
       go true b p q =
           let e = kind-is 2 w p in
           λ i. record { needs = mask-here 2 (omega arith) (omega arith) e i; sets = mask-other 3 (omega arith) i; clears = mask-other 4 (omega arith) i }
@@ -111,24 +111,24 @@ module _ (w : ℕ) (ws : List ℕ) (l : 2 ≤ kind w) (u : kind w ≤ 4) (f : pa
 -- ---- the loops
 
 -- the masks from word i on are at hand, and the rows of the steps from word i on are written
-pub record MasksAt (part area₀ area : List ℕ) (m : Masks) (i : ℕ) : Type 0 where
+pub record MasksAt (n : ℕ) (part area₀ area : List ℕ) (m : Masks) (i : ℕ) : Type 0 where
   pub within : i ≤ length part
-  pub masked : m ≡ masksFrom (drop i part)
-  pub written : area ≡ take (maskWords * opened 5 (take i part)) area₀ ++ (masks (stepsFrom (drop i part)) ++ drop (maskWords * opened 5 part) area₀)
+  pub masked : m ≡ masksFrom n (drop i part)
+  pub written : area ≡ take (maskWords * opened 5 (take i part)) area₀ ++ (masks n (stepsFrom (drop i part)) ++ drop (maskWords * opened 5 part) area₀)
   pub long : length area ≡ length area₀
 
-module _ (part area₀ : List ℕ) where
-  pub masks-start : MasksAt part area₀ area₀ (record { needs = 0; sets = 0; clears = 0 }) (length part)
+module _ (n : ℕ) (part area₀ : List ℕ) where
+  pub masks-start : MasksAt n part area₀ area₀ (record { needs = 0; sets = 0; clears = 0 }) (length part)
   unfolding masks stepsFrom factsFrom
   masks-start =
       record {
         within = omega arith;
-        masked = rw (drop-length part) (λ i. record { needs = sym mask-none i; sets = sym mask-none i; clears = sym mask-none i });
+        masked = rw (drop-length part) (λ i. record { needs = sym (mask-none n) i; sets = sym (mask-none n) i; clears = sym (mask-none n) i });
         written = rw (drop-length part, take-length part) (sym (take-append-drop (maskWords * opened 5 part) area₀));
         long = refl;
       }
 
-  module _ (h : Head) (asked : StepsAsked h part area₀) (area : List ℕ) (m : Masks) (j : ℕ) (l : j < length part) (at : MasksAt part area₀ area m (suc j)) where
+  module _ (h : Head) (asked : StepsAsked h part area₀) (area : List ℕ) (m : Masks) (j : ℕ) (l : j < length part) (at : MasksAt n part area₀ area m (suc j)) where
     w : ℕ
     w = getD part j 0
 
@@ -148,25 +148,18 @@ module _ (part area₀ : List ℕ) where
     past = opened-take 5 j part l
 
     -- a fact word
-    pub fact-fits : isKind 5 (getD part j 0) ≡ false → payload (getD part j 0) < 64
-    unfolding w
-    fact-fits e =
-        let d = eqb-false (kind w) 5 e in
-        let high : kind w ≤ 4 = omega (arith, here) in
-        omega (arith, here .fact high, asked .facts)
-
-    pub masks-fact : isKind 5 (getD part j 0) ≡ false → MasksAt part area₀ area (withWord m (getD part j 0)) j
+    pub masks-fact : isKind 5 (getD part j 0) ≡ false → MasksAt n part area₀ area (withWord n m (getD part j 0)) j
     unfolding w rest
     masks-fact e =
         let d = eqb-false (kind w) 5 e in
-        let n : opened 5 (take (suc j) part) ≡ opened 5 (take j part) = omega (arith, past, ap boolByte e) in
+        let same : opened 5 (take (suc j) part) ≡ opened 5 (take j part) = omega (arith, past, ap boolByte e) in
         let high : kind w ≤ 4 = omega (arith, here) in
         record {
           within = omega arith;
-          masked = ap (λ (x : Masks). withWord x w) (at .masked) ∙ masks-word w rest (here .low) high (fact-fits e) ∙ ap masksFrom (sym cut);
+          masked = ap (λ (x : Masks). withWord n x w) (at .masked) ∙ masks-word n w rest (here .low) high ∙ ap (masksFrom n) (sym cut);
           written =
               at .written
-              ∙ ap₂ (λ (k : ℕ) (ss : List Step). take (maskWords * k) area₀ ++ (masks ss ++ drop (maskWords * opened 5 part) area₀)) n
+              ∙ ap₂ (λ (k : ℕ) (ss : List Step). take (maskWords * k) area₀ ++ (masks n ss ++ drop (maskWords * opened 5 part) area₀)) same
               (sym (ap stepsFrom cut ∙ steps-skip w rest d));
           long = at .long;
         }
@@ -184,25 +177,25 @@ module _ (part area₀ : List ℕ) where
 
     -- an opener
     pub masks-row : isKind 5 (getD part j 0) ≡ true
-        → MasksAt part area₀ (withRow area (maskWords * payload (getD part j 0)) m) (record { needs = 0; sets = 0; clears = 0 }) j
+        → MasksAt n part area₀ (withRow area (maskWords * payload (getD part j 0)) m) (record { needs = 0; sets = 0; clears = 0 }) j
     unfolding w rest masks
     masks-row e =
         let k = opened 5 (take j part) in
-        let n = number e in
-        let later = masks (stepsFrom rest) ++ drop (maskWords * opened 5 part) area₀ in
-        let three : maskWords * opened 5 (take (suc j) part) ≡ maskWords * k + maskWords = omega (arith, n) in
+        let at-step = number e in
+        let later = masks n (stepsFrom rest) ++ drop (maskWords * opened 5 part) area₀ in
+        let three : maskWords * opened 5 (take (suc j) part) ≡ maskWords * k + maskWords = omega (arith, at-step) in
         record {
           within = omega arith;
-          masked = masks-opener w rest (kind-is 5 w e) ∙ ap masksFrom (sym cut);
+          masked = masks-opener n w rest (kind-is 5 w e) ∙ ap (masksFrom n) (sym cut);
           written =
-              ap₂ (λ (x : List ℕ) (p : ℕ). withRow x (maskWords * p) m) (at .written ∙ ap (λ (t : ℕ). take t area₀ ++ later) three) (n .0)
-              ∙ put-row area₀ later (maskWords * k) m (n .2)
+              ap₂ (λ (x : List ℕ) (p : ℕ). withRow x (maskWords * p) m) (at .written ∙ ap (λ (t : ℕ). take t area₀ ++ later) three) (at-step .0)
+              ∙ put-row area₀ later (maskWords * k) m (at-step .2)
               ∙ ap (λ (x : Masks). take (maskWords * k) area₀ ++ (x .needs ∷ x .sets ∷ x .clears ∷ later)) (at .masked)
-              ∙ ap (λ (ss : List Step). take (maskWords * k) area₀ ++ (masks ss ++ drop (maskWords * opened 5 part) area₀)) (sym (ap stepsFrom cut ∙ steps-open w rest (kind-is 5 w e)));
+              ∙ ap (λ (ss : List Step). take (maskWords * k) area₀ ++ (masks n ss ++ drop (maskWords * opened 5 part) area₀)) (sym (ap stepsFrom cut ∙ steps-open w rest (kind-is 5 w e)));
           long = simp length-set (at .long);
         }
 
-  pub masks-end : (area : List ℕ) (m : Masks) → MasksAt part area₀ area m 0 → area ≡ masks (stepsFrom part) ++ drop (maskWords * opened 5 part) area₀
+  pub masks-end : (area : List ℕ) (m : Masks) → MasksAt n part area₀ area m 0 → area ≡ masks n (stepsFrom part) ++ drop (maskWords * opened 5 part) area₀
   unfolding opened
   masks-end area m at = at .written
 

@@ -7,7 +7,7 @@ use mathlib.Core.Logic.{_⊎_}
 use mathlib.Core.List.{List, []}
 use lib.ListN.{length, getD, take}
 use Rattle.general.specs.Tests.{All}
-use Rattle.image.specs.Word.{kind, payload, isEntry, headOf}
+use Rattle.image.specs.Word.{mostFacts, mostSteps, kind, payload, isEntry, headOf}
 use Rattle.image.specs.Answer.{headPayload}
 use Rattle.rules.specs.Rules.{opened, earlier, faultAt}
 use Rattle.rules.specs.Checked.{firstWord}
@@ -21,8 +21,8 @@ pub record Faultless (image : List ℕ) (h : Head) : Type 0 where
   pub high : length image ≤ 8192
   pub head : h ≡ headOf (firstWord image)
   pub facts-low : 1 ≤ h .facts
-  pub facts-high : h .facts ≤ 64
-  pub steps-high : h .steps ≤ 1024
+  pub facts-high : h .facts ≤ mostFacts
+  pub steps-high : h .steps ≤ mostSteps
   pub sequences-high : h .sequences ≤ 256
   pub payload : headPayload h ≡ payload (firstWord image)
   pub between : (p : ℕ) → 1 ≤ p → p + 1 < length image → faultAt h (earlier (take p image)) p (getD image p 0) ≡ Nothing

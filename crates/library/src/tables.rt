@@ -1,6 +1,7 @@
 // Tables made of the parts of an accepted image, in lent areas: the steps' masks, and where each sequence stands. Both are written from the
 // last word to the first, since a step's facts stand after its opener.
 use crate::parts::none_opens;
+use column::with_fact_in;
 use image::answer::Head;
 use image::word::AT_ONCE;
 use image::word::KIND_NEEDS;
@@ -11,31 +12,29 @@ use image::word::is_kind;
 use image::word::payload_of;
 ghost use mathlib.Core.Path.{_≡_};
 ghost use mathlib.Core.List.{_++_};
-ghost use Prim.Native.Nat.{_+_, _*_, _≤_, _<_};
+ghost use Prim.Native.Nat.{_+_, _*_, _≤_};
 ghost use lib.ListN.{length, drop};
-ghost use Rattle.image.specs.Word.{payload, mostFacts};
 ghost use Rattle.library.specs.Library.{stepsFrom};
 ghost use Rattle.library.specs.Tables.{maskWords, masks, placesFrom, withWord, withRow, NoPlaces, StepsAsked, SequencesAsked};
 
 // The words of a step in the table of masks: one for what it needs, one for what it sets, one for what it clears.
 pub const MASK_WORDS: usize = 3;
 
-// What a step needs, sets and clears, a bit a fact.
+// What a step needs, sets and clears, a bit a fact of a block.
 pub struct Masks {
     pub needs: u64,
     pub sets: u64,
     pub clears: u64,
 }
 
-// A fact word's fact added to the masks of the fact words after it.
-fn with_word(m: Masks, w: u32) -> Masks
-    requires { ⌜ payload w < mostFacts ⌝ }
-    ensures { λ r. ⌜ r ≡ withWord m w ⌝ }
+// A fact word's fact added to the masks of the fact words after it, if it is one of the block's.
+fn with_word(m: Masks, block: u32, w: u32) -> Masks
+    ensures { λ r. ⌜ r ≡ withWord block m w ⌝ }
 {
     let f = payload_of(w);
     if is_kind(KIND_NEEDS, w) {
         return Masks {
-            needs: column::with_fact(m.needs, f),
+            needs: with_fact_in(m.needs, block, f),
             sets: m.sets,
             clears: m.clears,
         };
@@ -43,14 +42,14 @@ fn with_word(m: Masks, w: u32) -> Masks
     if is_kind(KIND_SETS, w) {
         return Masks {
             needs: m.needs,
-            sets: column::with_fact(m.sets, f),
+            sets: with_fact_in(m.sets, block, f),
             clears: m.clears,
         };
     }
     Masks {
         needs: m.needs,
         sets: m.sets,
-        clears: column::with_fact(m.clears, f),
+        clears: with_fact_in(m.clears, block, f),
     }
 }
 
@@ -65,10 +64,10 @@ fn write_row(area: &mut [u64], step: u32, m: Masks)
     area[at + 2] = m.clears;
 }
 
-// Writes the masks of each step of the steps' part: three words a step. Words past them stay.
-pub fn write_masks(h: Head, part: &[u32], area: &mut [u64])
+// Writes the masks of each step of the steps' part, of the facts of a block: three words a step. Words past them stay.
+pub fn write_masks(h: Head, part: &[u32], block: u32, area: &mut [u64])
     requires { ⌜ StepsAsked h (now part) (now area) ⌝ }
-    ensures { λ _. ⌜ now (area .exit) ≡ masks (stepsFrom (now (part .entry))) ++ drop (maskWords * h .steps) (now (area .entry)) ⌝ }
+    ensures { λ _. ⌜ now (area .exit) ≡ masks block (stepsFrom (now (part .entry))) ++ drop (maskWords * h .steps) (now (area .entry)) ⌝ }
 {
     let mut m = Masks {
         needs: 0,
@@ -87,7 +86,7 @@ pub fn write_masks(h: Head, part: &[u32], area: &mut [u64])
                 clears: 0,
             };
         } else {
-            m = with_word(m, w);
+            m = with_word(m, block, w);
         }
     }
 }

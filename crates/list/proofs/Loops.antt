@@ -14,7 +14,7 @@ use Rattle.general.specs.Tests.{some}
 use Rattle.cards.specs.Layout.{cardWords}
 use Rattle.row.specs.Words.{startRow, allBits}
 use Rattle.row.specs.declared.words.Row.{Row}
-use Rattle.list.specs.Fold.{MembersIn, memberRow, followedRow, foldedFrom}
+use Rattle.list.specs.Fold.{MembersIn, memberRow, followedRow, foldedFrom, listRow}
 
 -- the members from index i on
 from : (ms : List ℕ) (i : ℕ) → i < length ms → drop i ms ≡ getD ms i 0 ∷ drop (i + 1) ms
@@ -26,25 +26,26 @@ past-all ms i u l = let same : i ≡ length ms = omega arith in ap (λ (n : ℕ)
 
 -- ---- the fold
 
-pub record FoldAt (area ms : List ℕ) (x : Row) (i : ℕ) : Type 0 where
+pub record FoldAt (area : List ℕ) (k : ℕ) (ms : List ℕ) (x : Row) (i : ℕ) : Type 0 where
   pub inside : i ≤ length ms
-  pub rest : foldedFrom area (startRow allBits) ms ≡ foldedFrom area x (drop i ms)
+  pub rest : listRow area k ms ≡ foldedFrom area k x (drop i ms)
 
-pub fold-start : (area ms : List ℕ) → FoldAt area ms (startRow allBits) 0
-fold-start area ms = record { inside = omega arith; rest = refl }
+module _ (area : List ℕ) (k : ℕ) (ms : List ℕ) where
+  pub fold-start : FoldAt area k ms (startRow allBits) 0
+  fold-start = record { inside = omega arith; rest = refl }
 
-pub fold-next : (area ms : List ℕ) (x y : Row) (i : ℕ) → FoldAt area ms x i → i < length ms → y ≡ followedRow x (memberRow area (getD ms i 0))
-    → FoldAt area ms y (i + 1)
-unfolding foldedFrom
-fold-next area ms x y i at l e =
-    record {
-      inside = omega arith;
-      rest = at .rest ∙ ap (foldedFrom area x) (from ms i l) ∙ ap (λ (r : Row). foldedFrom area r (drop (i + 1) ms)) (sym e);
-    }
+  pub fold-next : (x y : Row) (i : ℕ) → FoldAt area k ms x i → i < length ms → y ≡ followedRow x (memberRow area k (getD ms i 0))
+      → FoldAt area k ms y (i + 1)
+  unfolding foldedFrom
+  fold-next x y i at l e =
+      record {
+        inside = omega arith;
+        rest = at .rest ∙ ap (foldedFrom area k x) (from ms i l) ∙ ap (λ (r : Row). foldedFrom area k r (drop (i + 1) ms)) (sym e);
+      }
 
-pub fold-end : (area ms : List ℕ) (x : Row) (i : ℕ) → FoldAt area ms x i → length ms ≤ i → x ≡ foldedFrom area (startRow allBits) ms
-unfolding foldedFrom
-fold-end area ms x i at l = sym (at .rest ∙ ap (foldedFrom area x) (past-all ms i (at .inside) l))
+  pub fold-end : (x : Row) (i : ℕ) → FoldAt area k ms x i → length ms ≤ i → x ≡ listRow area k ms
+  unfolding foldedFrom
+  fold-end x i at l = sym (at .rest ∙ ap (foldedFrom area k x) (past-all ms i (at .inside) l))
 
 -- ---- a member that is not below the number of sequences
 

@@ -1,13 +1,13 @@
--- The fold on whole words, bit by bit: below the width each bit of the row that comes out is what the rules say of the members' bits.
+-- The fold on whole words of a block, bit by bit: each bit of the row that comes out is what the rules say of the members' bits.
 -- Assumes nothing.
-use Prim.Native.Nat.{ℕ, zero, suc, _%_, _≤_, _<_}
+use Prim.Native.Nat.{ℕ, zero, suc, _+_, _*_, _/_, _%_, _≤_, _<_}
 use native.Mathlib.Omega.{arith}
-use mathlib.Core.Path.{_≡_, refl, sym, ap, _∙_, fun-ext, subst}
+use mathlib.Core.Path.{_≡_, refl, sym, ap, ap₂, _∙_, fun-ext, subst}
 use mathlib.Core.Bool.{Bool}
 use mathlib.Core.List.{List, [], _∷_}
 use lib.Dec.{eqb}
 use mir.Val.{boolByte}
-use Rattle.column.specs.Column.{bit, columnWidth}
+use Rattle.column.specs.Column.{bit}
 use Rattle.column.specs.Sets.{inColumn}
 use Rattle.column.proofs.Bits.{bit-le, bit-zero, bit-suc}
 use Rattle.general.specs.Scan.{every}
@@ -20,7 +20,7 @@ use Rattle.row.specs.Words.{rowWords, startRow, allBits, isSet, bitRow}
 use Rattle.row.specs.declared.words.Row.{Row}
 use Rattle.row.proofs.Bits.{and-set, none-set, later-set, side-bits, start-bits}
 use Rattle.cards.specs.Composed.{hasRun, hasEmptyRun}
-use Rattle.list.specs.Fold.{memberRow, followedRow, foldedFrom}
+use Rattle.list.specs.Fold.{memberRow, followedRow, foldedFrom, listRow}
 use Rattle.cards.proofs.Joined.{joinAll, Joined, joined-rows}
 
 -- rows that agree in their ten columns and past them are the same
@@ -44,7 +44,7 @@ same-rows X Y low high = fun-ext go
     go (suc (suc (suc (suc (suc (suc (suc (suc (suc (suc j)))))))))) = high j
 
 -- no entry
-start-row : (f : ℕ) → f < columnWidth → bitRow (startRow allBits) f ≡ rows.startRow
+start-row : (f : ℕ) → f < 64 → bitRow (startRow allBits) f ≡ rows.startRow
 start-row f l = same-rows (bitRow (startRow allBits) f) rows.startRow (start-bits 64 f l) (λ j. none-set f)
 
 -- one list followed by another
@@ -74,35 +74,41 @@ set-byte a f = low (bit a f) (bit-le a f)
     low (suc (suc b)) u = absurd (omega arith)
 
 module _ (area : List ℕ) where
-  -- the members' bits of fact f
-  abbrev pub memberBits : ℕ → ℕ → rows.Row
-  memberBits f m = bitRow (memberRow area m) f
+  -- the members' bits of fact b of block k
+  abbrev memberBits : ℕ → ℕ → ℕ → rows.Row
+  memberBits k b m = bitRow (memberRow area k m) b
 
-  fold-bits : (f : ℕ) (x : Row) (ms : List ℕ) → bitRow (foldedFrom area x ms) f ≡ joinAll (memberBits f) (bitRow x f) ms
+  fold-bits : (k b : ℕ) (x : Row) (ms : List ℕ) → bitRow (foldedFrom area k x ms) b ≡ joinAll (memberBits k b) (bitRow x b) ms
   unfolding foldedFrom joinAll
-  fold-bits f x [] = refl
-  fold-bits f x (m ∷ ms) =
-      fold-bits f (followedRow x (memberRow area m)) ms ∙ ap (λ (X : rows.Row). joinAll (memberBits f) X ms) (followed-row x (memberRow area m) f)
+  fold-bits k b x [] = refl
+  fold-bits k b x (m ∷ ms) =
+      fold-bits k b (followedRow x (memberRow area k m)) ms
+      ∙ ap (λ (X : rows.Row). joinAll (memberBits k b) X ms) (followed-row x (memberRow area k m) b)
 
-  -- the row of a list
-  abbrev pub listRow : List ℕ → Row
-  listRow ms = foldedFrom area (startRow allBits) ms
+  row-bits : (k : ℕ) (ms : List ℕ) (b : ℕ) → b < 64 → Joined (memberBits k b) ms (bitRow (listRow area k ms) b)
+  row-bits k ms b l =
+      subst (Joined (memberBits k b) ms)
+      (sym (fold-bits k b (startRow allBits) ms ∙ ap (λ (X : rows.Row). joinAll (memberBits k b) X ms) (start-row b l)))
+      (joined-rows (memberBits k b) ms)
 
-  pub list-bits : (ms : List ℕ) (f : ℕ) → f < columnWidth → Joined (memberBits f) ms (bitRow (listRow ms) f)
-  list-bits ms f l =
-      subst (Joined (memberBits f) ms) (sym (fold-bits f (startRow allBits) ms ∙ ap (λ (X : rows.Row). joinAll (memberBits f) X ms) (start-row f l)))
-      (joined-rows (memberBits f) ms)
+  -- the same of fact 64 k + b, by where its bit stands in a card
+  pub list-bits : (k : ℕ) (ms : List ℕ) (b : ℕ) → b < 64
+      → Joined (memberBits ((64 * k + b) / 64) ((64 * k + b) % 64)) ms (bitRow (listRow area k ms) b)
+  list-bits k ms b l =
+      let word : k ≡ (64 * k + b) / 64 = omega arith in
+      let at : b ≡ (64 * k + b) % 64 = omega arith in
+      subst (λ (B : ℕ → rows.Row). Joined B ms (bitRow (listRow area k ms) b)) (ap₂ memberBits word at) (row-bits k ms b l)
 
-  -- the flags, which are the lowest bits
-  pub list-run : (ms : List ℕ) → listRow ms .run % 2 ≡ boolByte (every (hasRun area) ms)
+  -- the flags, which are the lowest bits in every block
+  pub list-run : (k : ℕ) (ms : List ℕ) → listRow area k ms .run % 2 ≡ boolByte (every (hasRun area) ms)
   unfolding inColumn
-  list-run ms =
-      sym (bit-zero (listRow ms .run)) ∙ set-byte (listRow ms .run) 0 ∙ ap boolByte (list-bits ms 0 (omega arith) .run)
+  list-run k ms =
+      sym (bit-zero (listRow area k ms .run)) ∙ set-byte (listRow area k ms .run) 0 ∙ ap boolByte (row-bits k ms 0 (omega arith) .run)
 
-  pub list-empty : (ms : List ℕ) → listRow ms .empty % 2 ≡ boolByte (every (hasEmptyRun area) ms)
+  pub list-empty : (k : ℕ) (ms : List ℕ) → listRow area k ms .empty % 2 ≡ boolByte (every (hasEmptyRun area) ms)
   unfolding inColumn
-  list-empty ms =
-      sym (bit-zero (listRow ms .empty)) ∙ set-byte (listRow ms .empty) 0
+  list-empty k ms =
+      sym (bit-zero (listRow area k ms .empty)) ∙ set-byte (listRow area k ms .empty) 0
       ∙ ap boolByte
-      (list-bits ms 0 (omega arith) .empty
+      (row-bits k ms 0 (omega arith) .empty
       ∙ ap (λ (p : ℕ → Bool). every p ms) (fun-ext (λ m. ap (λ (b : ℕ). eqb b 1) (sym (bit-suc (partWord area m 0) 0)))))

@@ -13,7 +13,7 @@ use Rattle.cards.specs.Layout.{cardWords}
 use Rattle.cards.specs.Composed.{mostList, listCard}
 use Rattle.list.specs.declared.answer.Listed.{Listed}
 
--- "of the earlier ones only 8" ("8 asks 13 × C"); "14 for a list of more than 256, after 8; then 15 for a member not below C"
+-- "of the earlier ones only 8" ("8 asks 49 × C", request 8); "14 for a list of more than 256, after 8; then 15 for a member not below C"
 abbrev pub listed : ℕ → List ℕ → List ℕ → Listed
 listed sequences cards ms =
     cond (ltb (length cards) (cardWords * sequences)) (Listed.Refused CardArea)

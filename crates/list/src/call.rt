@@ -2,7 +2,7 @@
 use crate::answer::Listed;
 use crate::compose::compose;
 use image::answer::Refusal;
-use writer::card::CARD_WORDS;
+use writer::block::CARD_WORDS;
 ghost use mathlib.Core.Path.{_≡_};
 ghost use lib.Dec.{leb};
 ghost use Rattle.general.specs.Tests.{some};

@@ -4,18 +4,19 @@ use Prim.Native.Nat.{ℕ, _-_, _*_, _^_, _≤_, _<_}
 use native.Mathlib.Decide.{ℕ-discrete}
 use native.Mathlib.Nat.{lt-of-le-of-lt}
 use native.Mathlib.Omega.{arith}
-use mathlib.Core.Path.{sym, subst}
+use mathlib.Core.Path.{_≡_, sym, subst}
 use mathlib.Core.Bool.{Bool, true, false, cond}
 use mathlib.Core.List.{List, [], _∷_}
 use lib.ListN.{length}
 use lib.Bits.{bitAnd, bitOr, and-le-l, and-le-r, or-lt}
 use lib.Pow.{pow-pos, ones-lt}
-use Rattle.column.specs.Column.{withFact}
+use Rattle.column.specs.Words.{withFactIn}
 use Rattle.column.specs.Sets.{difference}
 use Rattle.library.specs.Library.{Entry, step, check, item, call, Alternative}
 use Rattle.walk.specs.Walk.{alternativesAt}
 use Rattle.row.specs.Words.{rowWords, allFacts, allBits, noRow, startRow, notWord, stepMarks, stepRow, checkRow, laterMarks, joinRows, orMarks, orRows, rowIn}
 use Rattle.reading.specs.Walks.{isDead, entryIn, joinedFrom, alternativeIn, unitedFrom}
+use Rattle.reading.specs.declared.read.Block.{Block}
 use Rattle.outcome.specs.Visited.{visited}
 use Rattle.settling.specs.Settling.{Reached, here, next}
 use Rattle.row.specs.declared.words.Marks.{Marks}
@@ -89,10 +90,10 @@ module _ (n : ℕ) where
       }
 
   -- a check after a row leaves it low, though the check's own row is not
-  check-low : (x : Row) (f : ℕ) → LowRow x → LowRow (joinRows x (checkRow f))
+  check-low : (x : Row) (k f : ℕ) → LowRow x → LowRow (joinRows x (checkRow k f))
   unfolding LowMarks
-  check-low x f a =
-      let fact = withFact 0 f in
+  check-low x k f a =
+      let fact = withFactIn k 0 f in
       let others = difference 64 allBits fact in
       let kept : (b c : ℕ) → b < 2 ^ n → bitOr (bitAnd b c) 0 < 2 ^ n = λ b c l. or-low (bitAnd b c) 0 (and-low b c l) (pow-pos n) in
       record {
@@ -131,35 +132,35 @@ module _ (n : ℕ) where
 
   -- ---- entries and alternatives
 
-  module _ (steps table : List ℕ) (low-steps : (a : ℕ) → LowRow (rowIn steps a)) (low-table : (c : ℕ) → LowRow (rowIn table c)) where
-    entry-low : (e : Entry) (X : Row) → LowRow X → LowRow (joinRows X (entryIn steps table e))
+  module _ (b : Block) (full : b .all ≡ allFacts n) (steps table : List ℕ) (low-steps : (a : ℕ) → LowRow (rowIn steps a)) (low-table : (c : ℕ) → LowRow (rowIn table c)) where
+    entry-low : (e : Entry) (X : Row) → LowRow X → LowRow (joinRows X (entryIn b steps table e))
     entry-low (item (step a)) X x = join-low X _ x (low-steps a)
-    entry-low (item (check f)) X x = check-low X f x
+    entry-low (item (check f)) X x = check-low X (b .number) f x
     entry-low (call d) X x = join-low X _ x (low-table d)
 
-    joined-low : (es : List Entry) (X : Row) → LowRow X → LowRow (joinedFrom steps table X es)
+    joined-low : (es : List Entry) (X : Row) → LowRow X → LowRow (joinedFrom b steps table X es)
     unfolding joinedFrom
     joined-low [] X a = a
-    joined-low (e ∷ es) X a = cond-low (isDead table e) _ (joined-low es (joinRows X (entryIn steps table e)) (entry-low e X a))
+    joined-low (e ∷ es) X a = cond-low (isDead table e) _ (joined-low es (joinRows X (entryIn b steps table e)) (entry-low e X a))
 
-    united-low : (alts : List Alternative) (X : Row) → LowRow X → LowRow (unitedFrom (allFacts n) steps table X alts)
+    united-low : (alts : List Alternative) (X : Row) → LowRow X → LowRow (unitedFrom b steps table X alts)
     unfolding unitedFrom
     united-low [] X a = a
     united-low (es ∷ alts) X a =
-        united-low alts (orRows X (alternativeIn (allFacts n) steps table es)) (union-low X _ a (joined-low es (startRow (allFacts n)) start-low))
+        united-low alts (orRows X (alternativeIn b steps table es)) (union-low X _ a (joined-low es (startRow (b .all)) (subst (λ (m : ℕ). LowRow (startRow m)) (sym full) start-low)))
 
   -- ---- a table
 
-  module _ (steps part places : List ℕ) (low-steps : (a : ℕ) → LowRow (rowIn steps a)) (m : ℕ) where
-    pub reached-low : {t₀ t : List ℕ} → rowWords * m ≤ length t₀ → ((c : ℕ) → LowRow (rowIn t₀ c)) → Reached (visited (allFacts n) steps part places) m t₀ t
+  module _ (b : Block) (full : b .all ≡ allFacts n) (steps part places : List ℕ) (low-steps : (a : ℕ) → LowRow (rowIn steps a)) (m : ℕ) where
+    pub reached-low : {t₀ t : List ℕ} → rowWords * m ≤ length t₀ → ((c : ℕ) → LowRow (rowIn t₀ c)) → Reached (visited b steps part places) m t₀ t
         → (c : ℕ) → LowRow (rowIn t c)
     reached-low room low here = low
     reached-low room low (next {table = s} c l r) = λ d.
         let before = reached-low room low r in
-        let y = unitedFrom (allFacts n) steps s noRow (alternativesAt part places c) in
+        let y = unitedFrom b steps s noRow (alternativesAt part places c) in
         elim (ℕ-discrete d c) [
-          | yes e ↦ subst (λ (k : ℕ). LowRow (rowIn (visited (allFacts n) steps part places s c) k)) (sym e)
-              (subst LowRow (sym (row-same s c (orRows (rowIn s c) y) (omega (arith, reached-length (visits-lower (allFacts n) steps part places m) r))))
-              (union-low (rowIn s c) y (before c) (united-low steps s low-steps before (alternativesAt part places c) noRow none-low)))
+          | yes e ↦ subst (λ (k : ℕ). LowRow (rowIn (visited b steps part places s c) k)) (sym e)
+              (subst LowRow (sym (row-same s c (orRows (rowIn s c) y) (omega (arith, reached-length (visits-lower b steps part places m) r))))
+              (union-low (rowIn s c) y (before c) (united-low b full steps s low-steps before (alternativesAt part places c) noRow none-low)))
           | no apart ↦ subst LowRow (sym (row-other s c (orRows (rowIn s c) y) d apart)) (before d)
         ]

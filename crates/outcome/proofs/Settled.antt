@@ -23,7 +23,9 @@ use Rattle.runs.specs.Touch.{Side, last, first, Mark, present, absent, untouche
 use Rattle.runs.specs.Algebra.{sideAlgebra}
 use Rattle.runs.specs.Possible.{columnPossible}
 use Rattle.runs.specs.Rows.{Row, columnNumber, readRow, GoodRow, GoodRows, ClosedRows}
-use Rattle.row.specs.Words.{rowWords, allFacts, noRow, orRows, rowIn, bitRow}
+use Rattle.column.specs.Words.{factsIn, allIn}
+use Rattle.outcome.specs.Area.{blockOf}
+use Rattle.row.specs.Words.{rowWords, noRow, orRows, rowIn, bitRow}
 use Rattle.reading.specs.Walks.{unitedFrom}
 use Rattle.outcome.specs.Visited.{visited}
 use Rattle.settling.specs.Settling.{Reached, here, next, Settled}
@@ -73,13 +75,12 @@ member (es ∷ alts) zero l = List·Memᴰ·head refl
 member (es ∷ alts) (suc i) l = List·Memᴰ·tail (member alts i (le-of-suc-le-suc l))
 
 -- what the tables of an accepted image say: the rows of the steps, and places
-pub record Given (L : Library) (h : Head) (steps part places : List ℕ) : Type 0 where
-  pub narrow : L .facts ≤ 64
-  pub some : 0 < allFacts (L .facts)
+pub record Given (L : Library) (h : Head) (k : ℕ) (steps part places : List ℕ) : Type 0 where
+  pub some : 0 < allIn (L .facts) k
   pub facts : L .facts ≡ h .facts
   pub counted : length (L .steps) ≡ h .steps
   pub sequences : length (L .sequences) ≡ h .sequences
-  pub stepped : Stepped L steps
+  pub stepped : Stepped L k steps
   pub words : All (SequenceWord h) part
   pub reads : L .sequences ≡ sequencesFrom part
   pub placed : (c : ℕ) → c < h .sequences → Placed part c (getD places c 0)
@@ -89,84 +90,88 @@ all-drop h zero ws a = a
 all-drop h (suc n) [] a = tt
 all-drop h (suc n) (w ∷ ws) a = all-drop h n ws (a .1)
 
-module _ (L : Library) (h : Head) (steps part places : List ℕ) (given : Given L h steps part places) where
+module _ (L : Library) (h : Head) (n : ℕ) (steps part places : List ℕ) (given : Given L h n steps part places) where
   visit : List ℕ → ℕ → List ℕ
-  visit t c = visited (allFacts (L .facts)) steps part places t c
+  visit t c = visited (blockOf (L .facts) n) steps part places t c
 
   -- a run is found for all facts or for none
   abbrev WholeTable : List ℕ → Type 0
-  WholeTable t = (c : ℕ) → Whole (allFacts (L .facts)) (rowIn t c)
+  WholeTable t = (c : ℕ) → Whole (blockOf (L .facts) n) (rowIn t c)
 
   -- the bits of a row after a visit
-  module _ (t : List ℕ) (room : rowWords * h .sequences ≤ length t) (whole : WholeTable t) (c : ℕ) (l : c < h .sequences) (f : ℕ) (below : f < L .facts) where
-    gives : Row
-    gives j = some (λ (es : List Entry). readRow L f (tableBits t f) es j) (alternativesOf (L .sequences) c)
+  module _ (t : List ℕ) (room : rowWords * h .sequences ≤ length t) (whole : WholeTable t) (c : ℕ) (l : c < h .sequences) (b : ℕ) (below : b < factsIn (L .facts) n) where
+    -- the fact of bit b
+    abbrev f : ℕ
+    f = 64 * n + b
 
-    visit-bits : (j : ℕ) → j < rowWords → tableBits (visit t c) f c j ≡ (tableBits t f c j || gives j)
+    gives : Row
+    gives j = some (λ (es : List Entry). readRow L f (tableBits t b) es j) (alternativesOf (L .sequences) c)
+
+    visit-bits : (j : ℕ) → j < rowWords → tableBits (visit t c) b c j ≡ (tableBits t b c j || gives j)
     unfolding visit gives
     visit-bits j k =
         let p = getD places c 0 in
         let rest = drop (p + 1) part in
-        let y = unitedFrom (allFacts (L .facts)) steps t noRow (alternativesFrom rest) in
+        let y = unitedFrom (blockOf (L .facts) n) steps t noRow (alternativesFrom rest) in
         let alts : alternativesFrom rest ≡ alternativesOf (L .sequences) c =
-        ap (λ (n : ℕ). alternativesFrom (drop n part)) (add-one p) ∙ given .placed c l .reads ∙ ap (λ (S : List Sequence). getD S c []) (sym (given .reads)) in
-        ap (λ (r : words.Row). bitRow r f j) (row-same t c (orRows (rowIn t c) y) (omega arith))
-        ∙ or-bits (rowIn t c) y f j k
-        ∙ ap (λ (b : Bool). tableBits t f c j || b)
-        (united-bits L h steps t (given .narrow) (given .facts) (given .counted) (given .stepped) whole (given .some) f below (alternativesFrom rest)
+        ap (λ (m : ℕ). alternativesFrom (drop m part)) (add-one p) ∙ given .placed c l .reads ∙ ap (λ (S : List Sequence). getD S c []) (sym (given .reads)) in
+        ap (λ (r : words.Row). bitRow r b j) (row-same t c (orRows (rowIn t c) y) (omega arith))
+        ∙ or-bits (rowIn t c) y b j k
+        ∙ ap (λ (q : Bool). tableBits t b c j || q)
+        (united-bits L h n steps t (given .facts) (given .counted) (given .stepped) whole (given .some) b below (alternativesFrom rest)
         (alternatives-named h rest (all-drop h (p + 1) part (given .words))) noRow j k
-        ∙ ap₂ _||_ (none-row f j k) (ap (λ (alts′ : List Alternative). some (λ (es : List Entry). readRow L f (tableBits t f) es j) alts′) alts))
+        ∙ ap₂ _||_ (none-row b j k) (ap (λ (alts′ : List Alternative). some (λ (es : List Entry). readRow L f (tableBits t b) es j) alts′) alts))
 
-    good-visit : GoodRows L f (tableBits t f) → GoodRows L f (tableBits (visit t c) f)
+    good-visit : GoodRows L f (tableBits t b) → GoodRows L f (tableBits (visit t c) b)
     unfolding visit gives
     good-visit good d =
         elim (ℕ-discrete d c) [
-          | yes e ↦ subst (λ (n : ℕ). GoodRow L f n (tableBits (visit t c) f n)) (sym e)
-              (good-agree L f c (λ (j : ℕ). tableBits t f c j || gives j) (tableBits (visit t c) f c) (λ j k. sym (visit-bits j k))
-              (or-good L f c (tableBits t f c) gives (good c)
-              (union-good L f c (tableBits t f) (alternativesOf (L .sequences) c) (λ i k. read-good L f (tableBits t f) good c i k))))
-          | no apart ↦ subst (λ (r : words.Row). GoodRow L f d (bitRow r f)) (sym (row-other t c _ d apart)) (good d)
+          | yes e ↦ subst (λ (m : ℕ). GoodRow L f m (tableBits (visit t c) b m)) (sym e)
+              (good-agree L f c (λ (j : ℕ). tableBits t b c j || gives j) (tableBits (visit t c) b c) (λ j k. sym (visit-bits j k))
+              (or-good L f c (tableBits t b c) gives (good c)
+              (union-good L f c (tableBits t b) (alternativesOf (L .sequences) c) (λ i k. read-good L f (tableBits t b) good c i k))))
+          | no apart ↦ subst (λ (r : words.Row). GoodRow L f d (bitRow r b)) (sym (row-other t c _ d apart)) (good d)
         ]
 
     -- where the visit changes nothing, the row has what each alternative gives
     settled-covers : visit t c ≡ t → (i : ℕ) → i < length (alternativesOf (L .sequences) c) → (j : ℕ) → j < rowWords
-        → readRow L f (tableBits t f) (alternativeOf (L .sequences) c i) j ≡ true → tableBits t f c j ≡ true
+        → readRow L f (tableBits t b) (alternativeOf (L .sequences) c i) j ≡ true → tableBits t b c j ≡ true
     unfolding gives
     settled-covers same i k j u e =
         let alts = alternativesOf (L .sequences) c in
-        ap (λ (s : List ℕ). tableBits s f c j) (sym same) ∙ visit-bits j u
-        ∙ or-right (tableBits t f c j) (gives j) (some-intro (λ (es : List Entry). readRow L f (tableBits t f) es j) (member alts i k) e)
+        ap (λ (s : List ℕ). tableBits s b c j) (sym same) ∙ visit-bits j u
+        ∙ or-right (tableBits t b c j) (gives j) (some-intro (λ (es : List Entry). readRow L f (tableBits t b) es j) (member alts i k) e)
 
   -- from a blank table a run is found for all facts or for none
   blank-whole : {t₀ t : List ℕ} → rowWords * h .sequences ≤ length t₀ → ((k : ℕ) → getD t₀ k 0 ≡ 0)
-      → Reached (visited (allFacts (L .facts)) steps part places) (h .sequences) t₀ t → WholeTable t
+      → Reached (visited (blockOf (L .facts) n) steps part places) (h .sequences) t₀ t → WholeTable t
   blank-whole {t₀} room blank reached =
-      reached-whole (allFacts (L .facts)) steps part places (h .sequences) room (λ c. inl (ap (λ (r : words.Row). r .run) (blank-row t₀ blank c))) reached
+      reached-whole (blockOf (L .facts) n) steps part places (h .sequences) room (λ c. inl (ap (λ (r : words.Row). r .run) (blank-row t₀ blank c))) reached
 
   -- from a blank table every row stays good
   reached-good : {t₀ t : List ℕ} → rowWords * h .sequences ≤ length t₀ → ((k : ℕ) → getD t₀ k 0 ≡ 0)
-      → Reached (visited (allFacts (L .facts)) steps part places) (h .sequences) t₀ t → (f : ℕ) → f < L .facts → GoodRows L f (tableBits t f)
+      → Reached (visited (blockOf (L .facts) n) steps part places) (h .sequences) t₀ t → (b : ℕ) → b < factsIn (L .facts) n → GoodRows L (64 * n + b) (tableBits t b)
   unfolding visit
-  reached-good {t₀} room blank here f below = λ c.
-      good-agree L f c (λ (j : ℕ). false) (tableBits t₀ f c) (λ j k. sym (ap (λ (r : words.Row). bitRow r f j) (blank-row t₀ blank c) ∙ none-row f j k)) (none-good L f c)
-  reached-good room blank (next {table = s} c l r) f below =
-      good-visit s (omega (arith, reached-length (visits-lower (allFacts (L .facts)) steps part places (h .sequences)) r)) (blank-whole room blank r) c l f below
-      (reached-good room blank r f below)
+  reached-good {t₀} room blank here b below = λ c.
+      good-agree L (64 * n + b) c (λ (j : ℕ). false) (tableBits t₀ b c) (λ j k. sym (ap (λ (r : words.Row). bitRow r b j) (blank-row t₀ blank c) ∙ none-row b j k)) (none-good L (64 * n + b) c)
+  reached-good room blank (next {table = s} c l r) b below =
+      good-visit s (omega (arith, reached-length (visits-lower (blockOf (L .facts) n) steps part places (h .sequences)) r)) (blank-whole room blank r) c l b below
+      (reached-good room blank r b below)
 
-  settled-closed : (t : List ℕ) → rowWords * h .sequences ≤ length t → WholeTable t → Settled (visited (allFacts (L .facts)) steps part places) (h .sequences) t
-      → (f : ℕ) → f < L .facts → ClosedRows L f (tableBits t f)
+  settled-closed : (t : List ℕ) → rowWords * h .sequences ≤ length t → WholeTable t → Settled (visited (blockOf (L .facts) n) steps part places) (h .sequences) t
+      → (b : ℕ) → b < factsIn (L .facts) n → ClosedRows L (64 * n + b) (tableBits t b)
   unfolding visit
-  settled-closed t room whole settled f below c i k j u e =
+  settled-closed t room whole settled b below c i k j u e =
       elim (decLt c (h .sequences)) [
-        | yes l ↦ settled-covers t room whole c l f below (settled c l) i k j u e
+        | yes l ↦ settled-covers t room whole c l b below (settled c l) i k j u e
         | no l ↦ absurd (omega (arith, ap (λ (alts : List Alternative). length alts) (List·getD-eq-default (L .sequences) [] {n = c} (omega (arith, given .sequences)))))
       ]
 
   -- what the bits of such a table say
   pub settled-bits : (t₀ t : List ℕ) → rowWords * h .sequences ≤ length t₀ → ((k : ℕ) → getD t₀ k 0 ≡ 0)
-      → Reached (visited (allFacts (L .facts)) steps part places) (h .sequences) t₀ t → Settled (visited (allFacts (L .facts)) steps part places) (h .sequences) t
-      → (f : ℕ) → f < L .facts → (j : ℕ) → j < rowWords → (c : ℕ) → tableBits t f c j ≡ columnPossible L j c f
-  settled-bits t₀ t room blank reached settled f below =
-      rows-possible L f (tableBits t f) (reached-good room blank reached f below)
-      (settled-closed t (omega (arith, reached-length (visits-lower (allFacts (L .facts)) steps part places (h .sequences)) reached)) (blank-whole room blank reached) settled
-      f below)
+      → Reached (visited (blockOf (L .facts) n) steps part places) (h .sequences) t₀ t → Settled (visited (blockOf (L .facts) n) steps part places) (h .sequences) t
+      → (b : ℕ) → b < factsIn (L .facts) n → (j : ℕ) → j < rowWords → (c : ℕ) → tableBits t b c j ≡ columnPossible L j c (64 * n + b)
+  settled-bits t₀ t room blank reached settled b below =
+      rows-possible L (64 * n + b) (tableBits t b) (reached-good room blank reached b below)
+      (settled-closed t (omega (arith, reached-length (visits-lower (blockOf (L .facts) n) steps part places (h .sequences)) reached)) (blank-whole room blank reached) settled
+      b below)

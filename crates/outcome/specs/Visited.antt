@@ -6,6 +6,7 @@ use Rattle.walk.specs.Walk.{alternativesAt}
 use Rattle.row.specs.Words.{rowWords, noRow, orRows, rowIn, withRow}
 use Rattle.reading.specs.Walks.{RowsReadable, unitedFrom}
 use Rattle.row.specs.declared.words.Row.{Row}
+use Rattle.reading.specs.declared.read.Block.{Block}
 
 -- how much the words lack to the greatest number: what falls while the table grows
 unfoldable pub lacking : List ℕ → ℕ
@@ -19,10 +20,10 @@ pub record RowsVisitable (n : ℕ) (steps part places table : List ℕ) : Type 0
   pub placed : n ≤ length places
   pub within : (c : ℕ) → c < n → getD places c 0 < length part
 
-module _ (all : ℕ) (steps part places : List ℕ) where
+module _ (b : Block) (steps part places : List ℕ) where
   -- the row of sequence c after a visit
   abbrev pub visitedRow : List ℕ → ℕ → Row
-  visitedRow table c = orRows (rowIn table c) (unitedFrom all steps table noRow (alternativesAt part places c))
+  visitedRow table c = orRows (rowIn table c) (unitedFrom b steps table noRow (alternativesAt part places c))
 
   -- the table after a visit of sequence c
   abbrev pub visited : List ℕ → ℕ → List ℕ

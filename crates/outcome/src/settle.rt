@@ -2,6 +2,7 @@
 // changes a row.
 use callers::sets::ALL_SEQUENCES;
 use callers::sets::SET_WORDS;
+use reading::read::Block;
 use reading::read::read_sequence;
 use row::words::same;
 use row::words::united;
@@ -16,7 +17,7 @@ ghost use Rattle.outcome.specs.Visited.{lacking, RowsVisitable, visited}
 
 // Unites the row of sequence `c` with what its alternatives give. Answers whether that changed it.
 fn visit(
-    all: u64,
+    block: Block,
     steps: &[u64],
     part: &[u32],
     places: &[u32],
@@ -25,18 +26,18 @@ fn visit(
     c: usize,
 ) -> bool
     requires { ⌜ RowsVisitable n (now steps) (now part) (now places) (now table) × (c < n) ⌝ }
-    ensures { λ r. ⌜ Visit (visited all (now (steps .entry)) (now (part .entry)) (now (places .entry))) lacking (now (table .entry)) c (now (table .exit)) r ⌝ }
+    ensures { λ r. ⌜ Visit (visited block (now (steps .entry)) (now (part .entry)) (now (places .entry))) lacking (now (table .entry)) c (now (table .exit)) r ⌝ }
 {
     let old = row_at(table, c);
     let at = places[c] as usize + 1;
-    let new = united(old, read_sequence(all, steps, table, part, at));
+    let new = united(old, read_sequence(block, steps, table, part, at));
     put_row(table, c, new);
     !same(old, new)
 }
 
 // Visits each sequence that the order names once. At first every sequence is stale, and afterwards those that a visit may still change.
 fn sweep(
-    all: u64,
+    block: Block,
     steps: &[u64],
     part: &[u32],
     places: &[u32],
@@ -46,15 +47,15 @@ fn sweep(
     stale: &mut [u64],
     n: usize,
 )
-    requires { ⌜ RowsVisitable n (now steps) (now part) (now places) (now table) × Scheduled n (now part) (now places) (now callers) (now order) × Swept (visited all (now steps) (now part) (now places)) n (now table) (now table) (now stale) ⌝ }
-    ensures { λ _. ⌜ Swept (visited all (now (steps .entry)) (now (part .entry)) (now (places .entry))) n (now (table .entry)) (now (table .exit)) (now (stale .exit)) ⌝ }
+    requires { ⌜ RowsVisitable n (now steps) (now part) (now places) (now table) × Scheduled n (now part) (now places) (now callers) (now order) × Swept (visited block (now steps) (now part) (now places)) n (now table) (now table) (now stale) ⌝ }
+    ensures { λ _. ⌜ Swept (visited block (now (steps .entry)) (now (part .entry)) (now (places .entry))) n (now (table .entry)) (now (table .exit)) (now (stale .exit)) ⌝ }
 {
     let mut i = 0;
     while i < order.len() {
         let c = order[i];
         i += 1;
         if c < n {
-            let changed = visit(all, steps, part, places, table, n, c);
+            let changed = visit(block, steps, part, places, table, n, c);
             after_visit(stale, callers, c, changed);
         }
     }
@@ -62,7 +63,7 @@ fn sweep(
 
 // Visits all sequences in the order, and then those that are stale, against the order and in it in turn, until none is.
 pub fn settle(
-    all: u64,
+    block: Block,
     steps: &[u64],
     part: &[u32],
     places: &[u32],
@@ -72,11 +73,11 @@ pub fn settle(
     n: usize,
 )
     requires { ⌜ RowsVisitable n (now steps) (now part) (now places) (now table) × Scheduled n (now part) (now places) (now callers) (now order) ⌝ }
-    ensures { λ _. ⌜ Settles (visited all (now (steps .entry)) (now (part .entry)) (now (places .entry))) n (now (table .entry)) (now (table .exit)) ⌝ }
+    ensures { λ _. ⌜ Settles (visited block (now (steps .entry)) (now (part .entry)) (now (places .entry))) n (now (table .entry)) (now (table .exit)) ⌝ }
 {
     let mut stale = [ALL_SEQUENCES; SET_WORDS];
     sweep(
-        all,
+        block,
         steps,
         part,
         places,
@@ -89,7 +90,7 @@ pub fn settle(
     let mut turn = first(order, &stale, n);
     while turn.number < n {
         let c = turn.number;
-        let changed = visit(all, steps, part, places, table, n, c);
+        let changed = visit(block, steps, part, places, table, n, c);
         after_visit(&mut stale, callers, c, changed);
         turn = next(order, &stale, n, turn);
     }

@@ -1,5 +1,5 @@
 -- The numbers that the chain call is asked with: in range, or the first of 9, 10 and 11 that applies; and the question that they are.
-use Prim.Native.Nat.{ℕ, _+_, _%_}
+use Prim.Native.Nat.{ℕ, _+_, _/_, _%_}
 use mathlib.Core.Bool.{Bool, cond, _&&_}
 use lib.Dec.{leb, ltb}
 use Rattle.image.specs.declared.answer.Head.{Head}
@@ -17,3 +17,10 @@ outOfRange h c q = cond (ltb c (h .sequences)) (cond (leb q 5) Fact Question) Se
 -- "0 last set, 1 last cleared, 2 last untouched, 3 first needed, 4 first set, 5 first untouched"; "no rank" is C + 2
 abbrev pub questionAsked : Head → ℕ → ℕ → Asked
 questionAsked h q f = record { first = leb 3 q; mark = q % 3; fact = f; none = h .sequences + 2 }
+
+-- the block of 64 facts that the fact asked about is in, and the bit that it has in a word of that block
+abbrev pub factBlock : Asked → ℕ
+factBlock q = q .fact / 64
+
+abbrev pub factBit : Asked → ℕ
+factBit q = q .fact % 64

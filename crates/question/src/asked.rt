@@ -1,10 +1,11 @@
 // What the chain call is asked: a question of the library, or refusal 9, 10 or 11.
+use column::BLOCK_FACTS;
 use image::answer::Head;
 use image::answer::Refusal;
 ghost use mathlib.Core.Path.{_≡_};
 ghost use Prim.Native.Nat.{_≤_, _<_};
 ghost use Rattle.image.specs.Word.{mostSequences};
-ghost use Rattle.question.specs.Asked.{inRange, outOfRange, questionAsked};
+ghost use Rattle.question.specs.Asked.{inRange, outOfRange, questionAsked, factBlock, factBit};
 
 // The last number of a question.
 const LAST_QUESTION: u64 = 5;
@@ -64,4 +65,18 @@ pub fn read_question(h: Head, question: u64, fact: u64) -> Asked
         fact: fact as u32,
         none: h.sequences + NO_RANK_ABOVE,
     }
+}
+
+// The block of the fact asked about: the masks of that block say what a step does to the fact, and no other mask does.
+pub fn fact_block(q: Asked) -> u32
+    ensures { λ r. ⌜ r ≡ factBlock q ⌝ }
+{
+    q.fact / BLOCK_FACTS
+}
+
+// The bit that the fact asked about has in a word of its block.
+pub fn fact_bit(q: Asked) -> u32
+    ensures { λ r. ⌜ r ≡ factBit q ⌝ }
+{
+    q.fact % BLOCK_FACTS
 }

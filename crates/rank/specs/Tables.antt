@@ -94,8 +94,8 @@ module _ (q : Asked) (ahead behind part places : List ℕ) where
   abbrev pub visitedRanks : List ℕ → ℕ → List ℕ
   visitedRanks ranks c = set ranks c (visitedRank ranks c)
 
--- a table of ranks that is made from one without a rank: those of the items are written by the question p, then those of the sequences below
--- n lowered by the question q until no visit changes them
+-- a table of ranks that is made in an area: those of the items are written by the question p, where no sequence has a rank yet, then those of
+-- the sequences below n lowered by the question q until no visit changes them
 pub record Ranked (all : Bool) (p q : Asked) (n : ℕ) (masks ahead behind part places before after : List ℕ) : Type 0 where
   pub start : List ℕ
   pub items : ItemsRanked all p masks before start

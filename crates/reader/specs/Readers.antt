@@ -1,60 +1,60 @@
 -- What the functions of the check promise: where each stopped, and that the answer from there on is the answer from where it began.
-use Prim.Native.Nat.{ℕ, suc, _+_, _≤_, _<_}
+use Prim.Native.Nat.{ℕ, _+_, _-_, _%_, _≤_, _<_}
 use mathlib.Core.Path.{_≡_}
 use lib.ListN.{length, getD, drop}
-use lib.Dec.{eqb}
-use mathlib.Core.Bool.{true, false, cond}
+use mathlib.Core.Bool.{true}
+use mathlib.Core.Logic.{_⊎_}
 use mathlib.Core.List.{List}
 use Rattle.column.specs.Sets.{inColumn}
-use Rattle.rules.specs.Quick.{insideRight, FactFollows, further, withLast}
-use Rattle.rules.specs.Walk.{walk, opening}
+use Rattle.image.specs.Word.{kind, payload}
+use Rattle.rules.specs.Quick.{insideRight, withLast, upTo}
+use Rattle.rules.specs.Walk.{walk}
 use Rattle.image.specs.declared.answer.Head.{Head}
-use Rattle.image.specs.declared.answer.Checked.{Checked}
-use Rattle.image.specs.declared.answer.Checked.the-variants.{Refused}
 use Rattle.rules.specs.declared.rules.Earlier.{Earlier}
 use Rattle.reader.specs.declared.check.Body.{Body}
 use Rattle.reader.specs.declared.check.Facts.{Facts}
-use Rattle.reader.specs.declared.check.Steps.{Steps}
-use Rattle.reader.specs.declared.check.Steps.the-variants as steps
 
--- the whole answer, from where the steps' part was left
-abbrev pub resume : Head → List ℕ → Steps → Checked
-resume h part (steps.Refused r) = Refused r
-resume h part (steps.End e i) = walk h e (1 + i) (drop i part)
-
--- the steps' part was left within it, and no more was opened than was read
-abbrev pub StoppedWithin : List ℕ → Steps → Type 0
-StoppedWithin part (steps.Refused r) = Unit {0}
-StoppedWithin part (steps.End e i) = (i ≤ length part) × (e .steps ≤ i) × (e .sequences ≤ i)
-
--- what the reader of the steps' part promises: the answer from where it stopped is the answer from the part's start
-pub record StepsRead (h : Head) (first : ℕ) (part : List ℕ) (r : Steps) : Type 0 where
-  pub same : resume h part r ≡ walk h (opening first) 1 part
-  pub left : StoppedWithin part r
-
--- the step sets none of the facts
-abbrev pub Unset : ℕ → ℕ → Type 0
-Unset sets facts = (f : ℕ) → inColumn facts f ≡ true → inColumn sets f ≡ false
-
--- what a reader of a step's or a sequence's words promises: the answer from where it stopped is the answer from where it began. e is
--- what the rules ask of the words before index `at`, and `then` of those before index `next`
+-- what a reader promises: the answer from where it stopped is the answer from where it began. e is what is carried of the words before
+-- index `at`, and `then` of those before index `next`; p is the position at which the part begins
 pub record Read (h : Head) (part : List ℕ) (e : Earlier) (at : ℕ) (then : Earlier) (next : ℕ) : Type 0 where
   pub low : at ≤ next
   pub within : next ≤ length part
-  pub same : (p : ℕ) → walk h e (p + at) (drop at part) ≡ walk h then (p + next) (drop next part)
+  pub same : (p : ℕ) → walk h (upTo part e at) (p + at) (drop at part) ≡ walk h (upTo part then next) (p + next) (drop next part)
 
--- of fact words of one kind after the word `last`. The facts of set words are added to what the step sets, which is `from` at first; clear
--- words are right where the step sets none of their facts. Fact words of the next kind may follow
-pub record KindRead (h : Head) (part : List ℕ) (k last from at : ℕ) (r : Facts) : Type 0 where
-  pub read : (e : Earlier) (sets : ℕ) → (k ≡ 3 → sets ≡ from) → (k ≡ 4 → Unset sets (r .facts))
-      → Read h part (further e last sets) at (further e (r .last) (cond (eqb k 3) (r .facts) sets)) (r .next)
-  pub follows : FactFollows (r .last) (suc k)
+-- ---- a step's words
 
--- of a step's fact words, with the facts that the step sets
-abbrev pub FactsRead : Head → List ℕ → Earlier → ℕ → Facts → Type 0
-FactsRead h part e at r = Read h part e at (further e (r .last) (r .facts)) (r .next)
+-- the words from index `at` on and before index `next` are of kind k, and each is greater than the one before it
+pub record Run (part : List ℕ) (k at next : ℕ) : Type 0 where
+  pub low : at ≤ next
+  pub within : next ≤ length part
+  pub kinds : (j : ℕ) → j < next → at ≤ j → kind (getD part j 0) ≡ k
+  pub rising : (j : ℕ) → j < next → at < j → getD part (j - 1) 0 < getD part j 0
 
--- of a sequence's words
+-- fact words of kind k from index `at` on: the head counts the fact of each, and the fingerprint has its remainder
+pub record KindRead (h : Head) (part : List ℕ) (k at : ℕ) (r : Facts) : Type 0 where
+  pub run : Run part k at (r .next)
+  pub counted : (j : ℕ) → j < r .next → at ≤ j → payload (getD part j 0) < h .facts
+  pub printed : (j : ℕ) → j < r .next → at ≤ j → inColumn (r .fingerprint) (payload (getD part j 0) % 64) ≡ true
+
+-- the word at index j names the fact of none of the words from index `from` on and before index `to`
+abbrev pub NamesNone : List ℕ → ℕ → ℕ → ℕ → Type 0
+NamesNone part from to j = (i : ℕ) → from ≤ i → i < to → payload (getD part i 0) ≡ payload (getD part j 0) → ⊥
+
+-- r is the first of the clear words, from index `clears` on and before index `end`, that names the fact of a set word, which stand from
+-- index `sets` on; or `end`
+pub record FirstShared (part : List ℕ) (sets clears end r : ℕ) : Type 0 where
+  pub low : clears ≤ r
+  pub high : r ≤ end
+  pub none-before : (j : ℕ) → j < r → clears ≤ j → NamesNone part sets clears j
+  pub shared : (r ≡ end) ⊎ ((i : ℕ) × (sets ≤ i) × (i < clears) × (payload (getD part i 0) ≡ payload (getD part r 0)))
+
+-- the fact words of the step that the word at index `opener` opens
+abbrev pub FactsRead : Head → List ℕ → ℕ → ℕ → Type 0
+FactsRead h part opener next =
+    (e : Earlier) → Read h part (withLast e (getD part opener 0)) (opener + 1) (withLast e (getD part (next - 1) 0)) next
+
+-- ---- a sequence's words
+
 abbrev pub BodyRead : Head → List ℕ → Earlier → ℕ → Body → Type 0
 BodyRead h part e at r = Read h part e at (withLast e (r .last)) (r .next)
 

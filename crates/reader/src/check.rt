@@ -10,7 +10,6 @@ use image::word::KIND_CLEARS;
 use image::word::KIND_NEEDS;
 use image::word::KIND_SEQUENCE;
 use image::word::KIND_SETS;
-use image::word::KIND_STEP;
 use image::word::MOST_WORDS;
 use image::word::PAYLOADS;
 use image::word::head_of;
@@ -22,30 +21,25 @@ use rules::rules::body_right;
 use rules::rules::first_fault;
 use rules::rules::inside_right;
 use rules::rules::past;
-use rules::rules::past_opener;
-use rules::rules::sequence_fault;
+use rules::rules::sequence_right;
 use rules::rules::step_right;
 use sum::payload::sum_right;
 ghost use mathlib.Core.Path.{_≡_};
 ghost use mathlib.Core.Bool.{true};
 ghost use Prim.Native.Nat.{_+_, _≤_, _<_};
-ghost use lib.ListN.{length};
+ghost use lib.ListN.{length, getD, drop};
 ghost use Rattle.rules.specs.Checked.{checked};
-ghost use Rattle.rules.specs.Quick.{Counts, FactFollows, further, inAlternative};
+ghost use Rattle.rules.specs.Quick.{Counts, inAlternative, withLast, seen, upTo};
 ghost use Rattle.rules.specs.Walk.{walk, ended, opening};
-ghost use Rattle.reader.specs.Readers.{StepsRead, BodyRead, KindRead, FactsRead, FoursRead, FourRight};
-ghost use Rattle.image.specs.Word.{isKind, headOf, headRight, mostWords};
+ghost use Rattle.reader.specs.Readers.{Run, KindRead, FirstShared, FactsRead, BodyRead, FoursRead, FourRight};
+ghost use Rattle.image.specs.Word.{isKind, headOf, mostWords};
 
-// Where the reader of the steps' part stopped: at a refusal, or at the part's word with this index, the first sequence or the part's
-// end, with what the rules ask of the words before it.
-pub enum Steps {
-    Refused(Refusal),
-    End(Earlier, usize),
-}
+// A fingerprint has a bit for each remainder of a fact by this.
+const REMAINDERS: u32 = 64;
 
 // What is answered where all words are read: refusal 7 at the last word, or acceptance.
 fn ended_at(h: Head, e: Earlier, p: u32) -> Checked
-    ensures { λ r. ⌜ r ≡ ended h e p ⌝ }
+    ensures { λ r. ⌜ r ≡ ended h (seen e 0) p ⌝ }
 {
     if (e.steps < h.steps) | (e.sequences < h.sequences) {
         return Checked::Refused(Refusal::Missing(p));
@@ -53,22 +47,20 @@ fn ended_at(h: Head, e: Earlier, p: u32) -> Checked
     Checked::Accepted(h)
 }
 
-// What the rules ask of the words before, where words that open neither a step nor a sequence follow them.
-fn further_on(e: Earlier, last: u32, sets: u64) -> Earlier
-    ensures { λ r. ⌜ r ≡ further e last sets ⌝ }
+// What is carried of the words before, where words that open neither a step nor a sequence follow them.
+fn further_on(e: Earlier, last: u32) -> Earlier
+    ensures { λ r. ⌜ r ≡ withLast e last ⌝ }
 {
     Earlier {
         steps: e.steps,
         sequences: e.sequences,
         last: last,
-        sets: sets,
     }
 }
 
-// Where a reader of fact words stopped: the word before, a column of facts, and the index.
+// Where a reader of fact words of one kind stopped: the fingerprint of their facts, and the index.
 pub struct Facts {
-    pub last: u32,
-    pub facts: u64,
+    pub fingerprint: u64,
     pub next: usize,
 }
 
@@ -78,90 +70,74 @@ pub struct Body {
     pub next: usize,
 }
 
-// Reads the fact words of kind `k` that stand from index `at` on, after the word `last`, and are right by 4 to 6, and adds their facts to
-// the column `from`. The words of a kind whose facts the head counts are one range of numbers.
-fn read_kind(h: Head, k: u32, last: u32, from: u64, part: &[u32], at: usize) -> Facts
-    requires { ⌜ (at ≤ length (now part)) × Counts h × (2 ≤ k) × (k ≤ 4) × FactFollows last k ⌝ }
-    ensures { λ r. ⌜ KindRead h (now (part .entry)) k last from at r ⌝ }
+// Reads the fact words of kind `k` that stand from index `at` on, each of a fact that the head counts and greater than the one before it. The
+// words of a kind whose facts the head counts are one range of numbers.
+fn read_kind(h: Head, k: u32, part: &[u32], at: usize) -> Facts
+    requires { ⌜ (at ≤ length (now part)) × Counts h × (1 ≤ k) × (k ≤ 4) ⌝ }
+    ensures { λ r. ⌜ KindRead h (now (part .entry)) k at r ⌝ }
 {
     let start = k * PAYLOADS;
     let end = start + h.facts;
-    let mut l = last;
     let mut low = start - 1;
-    let mut facts = from;
+    let mut fingerprint = 0;
     let mut i = at;
     while i < part.len() {
         let w = part[i];
         if !((low < w) & (w < end)) {
             return Facts {
-                last: l,
-                facts: facts,
+                fingerprint: fingerprint,
                 next: i,
             };
         }
-        facts = with_fact(facts, w - start);
-        l = w;
+        fingerprint = with_fact(fingerprint, w % REMAINDERS);
         low = w;
         i += 1;
     }
     Facts {
-        last: l,
-        facts: facts,
+        fingerprint: fingerprint,
         next: i,
     }
 }
 
-// Reads the fact words that stand from index `at` on, after a step's opener, and are right. It stops before the clear words of a step that
-// clears what it sets; these are judged one by one.
-fn read_facts(h: Head, e: Earlier, part: &[u32], at: usize) -> Facts
-    requires { ⌜ (at ≤ length (now part)) × Counts h × (isKind 5 (e .last) ≡ true) ⌝ }
-    ensures { λ r. ⌜ FactsRead h (now (part .entry)) e at r ⌝ }
+// The index of the first clear word whose fact a set word of its step names, or of the end of the clear words. The set words from `sets` on and
+// the clear words from `clears` on ascend, so that each is looked at once.
+fn first_shared(part: &[u32], sets: usize, clears: usize, end: usize) -> usize
+    requires { ⌜ Run (now part) 3 sets clears × Run (now part) 4 clears end ⌝ }
+    ensures { λ r. ⌜ FirstShared (now (part .entry)) sets clears end r ⌝ }
 {
-    let needs = read_kind(h, KIND_NEEDS, e.last, 0, part, at);
-    let sets = read_kind(h, KIND_SETS, needs.last, e.sets, part, needs.next);
-    let clears = read_kind(h, KIND_CLEARS, sets.last, 0, part, sets.next);
-    if !apart(clears.facts, sets.facts) {
-        return sets;
-    }
-    Facts {
-        last: clears.last,
-        facts: sets.facts,
-        next: clears.next,
-    }
-}
-
-// Reads the steps' part: the words of `part` up to the first sequence. The part begins at position 1, after the head. A step's
-// words are read together; a word at which that ends, and which opens no step as it must, is judged by each rule.
-fn read_steps(h: Head, first: u32, part: &[u32]) -> Steps
-    requires { ⌜ (length (now part) < mostWords) × Counts h ⌝ }
-    ensures { λ r. ⌜ StepsRead h first (now (part .entry)) r ⌝ }
-{
-    let mut e = Earlier {
-        steps: 0,
-        sequences: 0,
-        last: first,
-        sets: 0,
-    };
-    let mut i = 0;
-    while i < part.len() {
-        let w = part[i];
-        if step_right(h, e, w) {
-            e = past_opener(e, w);
-            let facts = read_facts(h, e, part, i + 1);
-            e = further_on(e, facts.last, facts.facts);
-            i = facts.next;
-        } else {
-            if is_kind(KIND_SEQUENCE, w) {
-                return Steps::End(e, i);
-            }
-            if let Fault::Found(r) = first_fault(h, e, (1 + i) as u32, w) {
-                return Steps::Refused(r);
-            }
-            e = past(e, w);
+    let mut i = sets;
+    let mut j = clears;
+    while i < clears {
+        if end <= j {
+            return end;
+        }
+        let set = part[i] % PAYLOADS;
+        let cleared = part[j] % PAYLOADS;
+        if set == cleared {
+            return j;
+        }
+        if set < cleared {
             i += 1;
+        } else {
+            j += 1;
         }
     }
-    Steps::End(e, i)
+    end
+}
+
+// Reads the fact words of the step that the word at index `opener` opens, up to the first that is not right. Where the fingerprints of
+// what it sets and of what it clears have no bit in common, it clears nothing that it sets.
+fn read_facts(h: Head, part: &[u32], opener: usize) -> usize
+    requires { ⌜ (opener < length (now part)) × Counts h × (isKind 5 (getD (now part) opener 0) ≡ true) ⌝ }
+    ensures { λ r. ⌜ FactsRead h (now (part .entry)) opener r ⌝ }
+{
+    let needs = read_kind(h, KIND_NEEDS, part, opener + 1);
+    let sets = read_kind(h, KIND_SETS, part, needs.next);
+    let clears = read_kind(h, KIND_CLEARS, part, sets.next);
+    if apart(clears.fingerprint, sets.fingerprint) {
+        return clears.next;
+    }
+    first_shared(part, needs.next, sets.next, clears.next)
 }
 
 // Whether the four words from index `at` on are right after an alternative's opener or an entry. One test without a way out, so that
@@ -235,36 +211,80 @@ fn read_body(h: Head, e: Earlier, part: &[u32], at: usize) -> Body
     Body { last: l, next: i }
 }
 
-// Reads the sequences' part, which begins at position `at`, to its end.
+// Reads the words from index `from` on to the end of the part, which begins at position `at`, each judged by each rule.
+fn read_words(h: Head, before: Earlier, at: usize, part: &[u32], from: usize) -> Checked
+    requires { ⌜ (at + length (now part) ≤ mostWords) × (from ≤ length (now part)) × (before .steps ≤ at + from) × (before .sequences ≤ at + from) ⌝ }
+    ensures { λ r. ⌜ r ≡ walk h (upTo (now (part .entry)) before from) (at + from) (drop from (now (part .entry))) ⌝ }
+{
+    let mut e = before;
+    let mut i = from;
+    while i < part.len() {
+        let w = part[i];
+        if let Fault::Found(r) = first_fault(h, e, at, part, i) {
+            return Checked::Refused(r);
+        }
+        e = past(e, w);
+        i += 1;
+    }
+    ended_at(h, e, (at + i) as u32)
+}
+
+// Reads the sequences' part, which begins at position `at`, to its end, a sequence's words together. Where one begins with another word than
+// it must, that is judged by each rule.
 fn read_sequences(h: Head, before: Earlier, at: usize, part: &[u32]) -> Checked
-    requires { ⌜ (at + length (now part) < mostWords) × (before .steps ≤ at) × (before .sequences ≤ at) × Counts h ⌝ }
-    ensures { λ r. ⌜ r ≡ walk h before at (now (part .entry)) ⌝ }
+    requires { ⌜ (at + length (now part) ≤ mostWords) × (before .steps ≤ at) × (before .sequences ≤ at) × Counts h ⌝ }
+    ensures { λ r. ⌜ r ≡ walk h (seen before 0) at (now (part .entry)) ⌝ }
 {
     let mut e = before;
     let mut i = 0;
     while i < part.len() {
         let w = part[i];
-        if let Fault::Found(r) = sequence_fault(h, e, (at + i) as u32, w) {
-            return Checked::Refused(r);
+        if !sequence_right(h, e, w) {
+            return read_words(h, e, at, part, i);
         }
         e = past(e, w);
         let body = read_body(h, e, part, i + 1);
-        e = further_on(e, body.last, e.sets);
+        e = further_on(e, body.last);
         i = body.next;
     }
     ended_at(h, e, (at + i) as u32)
 }
 
+// Reads the words from position 1 on: the steps, the words of each together, and from the first sequence's opener on the sequences' part. Of
+// what a step sets that part knows nothing: no clear word may stand there.
+fn read_steps(h: Head, first: u32, part: &[u32]) -> Checked
+    requires { ⌜ (length (now part) < mostWords) × Counts h ⌝ }
+    ensures { λ r. ⌜ r ≡ walk h (opening first) 1 (now (part .entry)) ⌝ }
+{
+    let mut e = Earlier {
+        steps: 0,
+        sequences: 0,
+        last: first,
+    };
+    let mut i = 0;
+    while i < part.len() {
+        let w = part[i];
+        if !step_right(h, e, w) {
+            if is_kind(KIND_SEQUENCE, w) {
+                return read_sequences(h, e, 1 + i, &part[i..]);
+            }
+            return read_words(h, e, 1, part, i);
+        }
+        let next = read_facts(h, part, i);
+        e = past(e, w);
+        e = further_on(e, part[next - 1]);
+        i = next;
+    }
+    ended_at(h, e, (1 + i) as u32)
+}
+
 // Reads the words between head and sum word: refusals 4 to 7 and 13, or acceptance.
 fn read(first: u32, between: &[u32]) -> Checked
-    requires { ⌜ (length (now between) < 8191) × (headRight first ≡ true) ⌝ }
+    requires { ⌜ length (now between) < mostWords ⌝ }
     ensures { λ r. ⌜ r ≡ walk (headOf first) (opening first) 1 (now (between .entry)) ⌝ }
 {
     let h = head_of(first);
-    match read_steps(h, first, between) {
-        Steps::Refused(r) => Checked::Refused(r),
-        Steps::End(e, at) => read_sequences(h, e, 1 + at, &between[at..]),
-    }
+    read_steps(h, first, between)
 }
 
 // What the documents answer for an image: the head's counts, or the first of the refusals 1 to 7 and 13 that applies.

@@ -14,29 +14,30 @@ use Rattle.walk.proofs.Walking.{opener-inside, entries-at, alternatives-at, Wal
 use Rattle.row.specs.Words.{noRow, startRow, joinRows, orRows, rowIn}
 use Rattle.reading.specs.Walks.{RowWithin, isDead, entryIn, joinedFrom, unitedFrom, EmptiesEnd}
 use Rattle.row.specs.declared.words.Row.{Row}
+use Rattle.reading.specs.declared.read.Block.{Block}
 use Rattle.row.proofs.Bits.{rows-again}
 
 -- an entry in whose row no run is found names a sequence, since a run is found in the row of a step and in that of a check
-pub dead-is : (steps table : List ℕ) (w : ℕ) → RowWithin steps table w → isEntry w ≡ true
-    → isDead table (entryOf w) ≡ not (ltb 0 (entryIn steps table (entryOf w) .run))
-dead-is steps table w within e = go (isKind 8 w) (isKind 13 w) refl refl
+pub dead-is : (b : Block) (steps table : List ℕ) (w : ℕ) → RowWithin steps table w → isEntry w ≡ true
+    → isDead table (entryOf w) ≡ not (ltb 0 (entryIn b steps table (entryOf w) .run))
+dead-is b steps table w within e = go (isKind 8 w) (isKind 13 w) refl refl
   where
-    go : (a b : Bool) → isKind 8 w ≡ a → isKind 13 w ≡ b
-        → let x : Entry = cond a (item (step (payload w))) (cond b (item (check (payload w))) (call (payload w))) in
-        isDead table x ≡ not (ltb 0 (entryIn steps table x .run))
-    go true b k m = sym (ap not (lt-ltb 0 (rowIn steps (payload w) .run) (within .run (eqb-true (kind w) 8 k))))
+    go : (a d : Bool) → isKind 8 w ≡ a → isKind 13 w ≡ d
+        → let x : Entry = cond a (item (step (payload w))) (cond d (item (check (payload w))) (call (payload w))) in
+        isDead table x ≡ not (ltb 0 (entryIn b steps table x .run))
+    go true d k m = sym (ap not (lt-ltb 0 (rowIn steps (payload w) .run) (within .run (eqb-true (kind w) 8 k))))
     go false true k m = refl
     go false false k m = refl
 
 -- an entry joined to what stands before it, where it is not dead, and nothing where it is
-module _ (steps table : List ℕ) (X : Row) (e : Entry) (es : List Entry) where
-  pub joined-live : isDead table e ≡ false → joinedFrom steps table X (e ∷ es) ≡ joinedFrom steps table (joinRows X (entryIn steps table e)) es
+module _ (b : Block) (steps table : List ℕ) (X : Row) (e : Entry) (es : List Entry) where
+  pub joined-live : isDead table e ≡ false → joinedFrom b steps table X (e ∷ es) ≡ joinedFrom b steps table (joinRows X (entryIn b steps table e)) es
   unfolding joinedFrom
-  joined-live live = ap (λ (b : Bool). cond b noRow (joinedFrom steps table (joinRows X (entryIn steps table e)) es)) live
+  joined-live live = ap (λ (t : Bool). cond t noRow (joinedFrom b steps table (joinRows X (entryIn b steps table e)) es)) live
 
-  pub joined-dead : isDead table e ≡ true → joinedFrom steps table X (e ∷ es) ≡ noRow
+  pub joined-dead : isDead table e ≡ true → joinedFrom b steps table X (e ∷ es) ≡ noRow
   unfolding joinedFrom
-  joined-dead dead = ap (λ (b : Bool). cond b noRow (joinedFrom steps table (joinRows X (entryIn steps table e)) es)) dead
+  joined-dead dead = ap (λ (t : Bool). cond t noRow (joinedFrom b steps table (joinRows X (entryIn b steps table e)) es)) dead
 
 -- ---- alternatives without entries
 
@@ -69,21 +70,21 @@ empties-turn {part} {at} {i} here e none =
           ∙ ap (λ (n : ℕ). replicate n [] ++ alternativesFrom (drop (i + 1) part)) more;
     }
 
-module _ (all : ℕ) (steps table : List ℕ) where
+module _ (b : Block) (steps table : List ℕ) where
   abbrev empty : Row
-  empty = startRow all
+  empty = startRow (b .all)
 
   -- a row that has the empty alternative's already
   united-empties : (X : Row) (n : ℕ) (alts : List Alternative) → orRows X empty ≡ X
-      → unitedFrom all steps table X (replicate n [] ++ alts) ≡ unitedFrom all steps table X alts
+      → unitedFrom b steps table X (replicate n [] ++ alts) ≡ unitedFrom b steps table X alts
   unfolding unitedFrom joinedFrom
   united-empties X zero alts has = refl
   united-empties X (suc n) alts has =
-      ap (λ (Y : Row). unitedFrom all steps table Y (replicate n [] ++ alts)) has ∙ united-empties X n alts has
+      ap (λ (Y : Row). unitedFrom b steps table Y (replicate n [] ++ alts)) has ∙ united-empties X n alts has
 
   -- an alternative without entries, and those after it
-  pub uniting-empties : {part : List ℕ} {whole : Row} (x : Row) {i r : ℕ} → Walking part whole (unitedFrom all steps table x) i → isKind 7 (getD part i 0) ≡ true
-      → isEntry (getD part (i + 1) 0) ≡ false → EmptiesEnd part (i + 1) r → Walking part whole (unitedFrom all steps table (orRows x (startRow all))) r
+  pub uniting-empties : {part : List ℕ} {whole : Row} (x : Row) {i r : ℕ} → Walking part whole (unitedFrom b steps table x) i → isKind 7 (getD part i 0) ≡ true
+      → isEntry (getD part (i + 1) 0) ≡ false → EmptiesEnd part (i + 1) r → Walking part whole (unitedFrom b steps table (orRows x (startRow (b .all)))) r
   unfolding unitedFrom joinedFrom
   uniting-empties {part} x {i} {r} here e none ends =
       let y = orRows x empty in
@@ -91,7 +92,7 @@ module _ (all : ℕ) (steps table : List ℕ) where
         within = ends .within;
         same =
             sym (united-empties y (r - (i + 1)) (alternativesFrom (drop r part)) (rows-again x empty))
-            ∙ ap (unitedFrom all steps table y) (sym (ends .empties))
-            ∙ ap (λ (es : Alternative). unitedFrom all steps table x (es ∷ alternativesFrom (drop (i + 1) part))) (sym (entries-at part (i + 1) false none))
+            ∙ ap (unitedFrom b steps table y) (sym (ends .empties))
+            ∙ ap (λ (es : Alternative). unitedFrom b steps table x (es ∷ alternativesFrom (drop (i + 1) part))) (sym (entries-at part (i + 1) false none))
             ∙ walking-here here e;
       }

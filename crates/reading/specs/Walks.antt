@@ -6,23 +6,23 @@ use mathlib.Core.Bool.{Bool, cond}
 use mathlib.Core.List.{List, [], _∷_, _++_}
 use lib.ListN.{length, getD, drop, replicate}
 use lib.Dec.{ltb}
-use Rattle.image.specs.Word.{kind, payload, mostFacts}
+use Rattle.image.specs.Word.{kind, payload}
 use Rattle.library.specs.Library.{Entry, step, check, item, call, Alternative, entriesFrom, alternativesFrom}
 use Rattle.library.specs.Accepted.{HighEntry}
 use Rattle.walk.specs.Walk.{namesNone, walkEnd}
 use Rattle.row.specs.Words.{rowWords, noRow, startRow, stepRow, checkRow, joinRows, orRows, rowIn}
 use Rattle.row.specs.declared.words.Row.{Row}
+use Rattle.reading.specs.declared.read.Block.{Block}
 use Rattle.reading.specs.declared.read.Read.{Read}
 use Rattle.library.specs.Tables.{maskWords}
 
--- a word of the sequences' part; an entry names a row of the steps' table, in which a run is found, one of the table of outcomes, or a fact that
--- there is
+-- a word of the sequences' part; an entry that is no check names a row of the steps' table, in which a run is found, or one of the table of
+-- outcomes
 pub record RowWithin (steps table : List ℕ) (w : ℕ) : Type 0 where
   pub high : HighEntry w
   pub step : kind w ≡ 8 → rowWords * payload w + rowWords ≤ length steps
   pub run : kind w ≡ 8 → 0 < rowIn steps (payload w) .run
   pub sequence : kind w ≡ 9 → rowWords * payload w + rowWords ≤ length table
-  pub check : kind w ≡ 13 → payload w < mostFacts
 
 -- each of the words is one
 abbrev pub RowsReadable : List ℕ → List ℕ → List ℕ → Type 0
@@ -32,11 +32,11 @@ RowsReadable steps table part = (i : ℕ) → i < length part → RowWithin step
 abbrev pub isDead : List ℕ → Entry → Bool
 isDead table = namesNone (λ d. ltb 0 (rowIn table d .run))
 
-module _ (steps table : List ℕ) where
+module _ (b : Block) (steps table : List ℕ) where
   -- the row of an entry
   abbrev pub entryIn : Entry → Row
   entryIn (item (step a)) = rowIn steps a
-  entryIn (item (check f)) = checkRow f
+  entryIn (item (check f)) = checkRow (b .number) f
   entryIn (call d) = rowIn table d
 
   -- the row after the entries from here on, where that of those before is X: nothing where one of them is dead
@@ -44,10 +44,9 @@ module _ (steps table : List ℕ) where
   joinedFrom X [] = X
   joinedFrom X (e ∷ es) = cond (isDead table e) noRow (joinedFrom (joinRows X (entryIn e)) es)
 
-module _ (all : ℕ) (steps table : List ℕ) where
   -- the row of an alternative
   abbrev pub alternativeIn : Alternative → Row
-  alternativeIn es = joinedFrom steps table (startRow all) es
+  alternativeIn es = joinedFrom (startRow (b .all)) es
 
   -- X with the rows of the alternatives from here on
   unfoldable pub unitedFrom : Row → List Alternative → Row

@@ -1,6 +1,6 @@
 -- Rows of words, bit by bit: each formula on whole columns is the formula of `Rows` for each fact.
 -- Assumes nothing.
-use Prim.Native.Nat.{ℕ, zero, suc, _+_, _-_, _/_, _^_, _≤_, _<_, max, min}
+use Prim.Native.Nat.{ℕ, zero, suc, _+_, _-_, _*_, _^_, _≤_, _<_, max, min}
 use native.Mathlib.Nat.{sub-zero}
 use native.Mathlib.Omega.{arith}
 use mathlib.Core.Path.{_≡_, refl, sym, ap, _∙_}
@@ -9,22 +9,17 @@ use lib.Bits.{bitAnd, bitOr, or-lt}
 use lib.Dec.{eqb}
 use lib.Pow.{ones-split, high, ones-lt, pow-pos, pow-lt}
 use mir.Val.{boolByte}
-use Rattle.column.specs.Column.{bit, withFact}
-use Rattle.column.specs.Sets.{difference}
-use Rattle.column.proofs.Bits.{bit-le, bit-or, bit-and, bit-not, bit-none, bit-pow, all-bits}
+use Rattle.column.specs.Column.{bit}
+use Rattle.column.specs.Sets.{difference, inColumn}
+use Rattle.column.specs.Words.{withFactIn}
+use Rattle.column.proofs.Bits.{bit-le, bit-or, bit-and, bit-not, bit-none, all-bits}
+use Rattle.column.proofs.Words.{with-in, with-lt}
 use Rattle.runs.specs.Touch.{Mark, present, absent, untouched, Side, last, first}
 use Rattle.runs.specs.Rows as rows
 use Rattle.runs.specs.Rows.{columnNumber, joinRow, touchRow}
 use Rattle.row.specs.Words.{rowWords, allFacts, allBits, startRow, notWord, stepRow, checkRow, joinRows, orRows, isSet, bitRow}
 use Rattle.row.specs.declared.words.Row.{Row}
 use Rattle.runs.proofs.Rows.{by-column}
-
-pub all-facts : (f : ℕ) → f ≤ 64 → (2 ^ 64 - 1) / 2 ^ (64 - f) ≡ 2 ^ f - 1
-all-facts f l =
-    let n : 64 ≡ f + (64 - f) = omega arith in
-    ap (λ (k : ℕ). (2 ^ k - 1) / 2 ^ (64 - f)) n
-    ∙ ap (λ (k : ℕ). k / 2 ^ (64 - f)) (ones-split f (64 - f))
-    ∙ high (2 ^ f - 1) (64 - f) (ones-lt (64 - f))
 
 -- ---- one bit of an operation
 
@@ -147,32 +142,32 @@ step-bits n needs sets clears f l u a b c =
     side first absent = absent-set n needs sets f l u a b
     side first untouched = untouched-set n needs sets f l u a b
 
--- a check of fact g
-byte-set : (b : Bool) → eqb (boolByte b) 1 ≡ b
-byte-set true = refl
-byte-set false = refl
+-- a check of fact g, for block k
+module _ (k g b : ℕ) (l : b < 64) where
+  fact-set : isSet (withFactIn k 0 g) b ≡ eqb g (64 * k + b)
+  unfolding inColumn
+  fact-set = with-in k 0 g b l ∙ ap (λ (t : Bool). eqb g (64 * k + b) || t) (none-set b) ∙ or-false (eqb g (64 * k + b))
 
-module _ (g f : ℕ) (l : f < 64) (low : g < 64) where
-  fact-set : isSet (withFact 0 g) f ≡ eqb g f
-  fact-set = ap (λ (n : ℕ). eqb n 1) (bit-pow g f) ∙ byte-set (eqb g f)
-
-  others-set : isSet (difference 64 allBits (withFact 0 g)) f ≡ not (eqb g f)
+  others-set : isSet (difference 64 allBits (withFactIn k 0 g)) b ≡ not (eqb g (64 * k + b))
   others-set =
-      and-set allBits (notWord (2 ^ g)) f ∙ ap (λ (t : Bool). t && isSet (notWord (2 ^ g)) f) (all-set 64 f l) ∙ not-set (2 ^ g) f (pow-lt low) l
-      ∙ ap not fact-set
+      and-set allBits (notWord (withFactIn k 0 g)) b ∙ ap (λ (t : Bool). t && isSet (notWord (withFactIn k 0 g)) b) (all-set 64 b l)
+      ∙ not-set (withFactIn k 0 g) b (with-lt k 0 g (omega arith)) l ∙ ap not fact-set
 
-pub check-bits : (g f : ℕ) → f < 64 → g < 64 → (j : ℕ) → j < rowWords → bitRow (checkRow g) f j ≡ touchRow true (eqb g f) false false j
-check-bits g f l low =
-    by-column (λ (j : ℕ). bitRow (checkRow g) f j ≡ touchRow true (eqb g f) false false j) (all-set 64 f l) (all-set 64 f l) side (none-set f)
-    (others-set g f l low ∙ ap not (sym (or-false (eqb g f || false) ∙ or-false (eqb g f))))
+pub check-bits : (k g b : ℕ) → b < 64 → (j : ℕ) → j < rowWords → bitRow (checkRow k g) b j ≡ touchRow true (eqb g (64 * k + b)) false false j
+check-bits k g b l =
+    by-column (λ (j : ℕ). bitRow (checkRow k g) b j ≡ touchRow true here false false j) (all-set 64 b l) (all-set 64 b l) side (none-set b)
+    (others-set k g b l ∙ ap not (sym (or-false (here || false) ∙ or-false here)))
   where
-    side : (s : Side) (m : Mark) → bitRow (checkRow g) f (columnNumber s m) ≡ touchRow true (eqb g f) false false (columnNumber s m)
-    side last present = none-set f
-    side last absent = none-set f
-    side last untouched = all-set 64 f l
-    side first present = fact-set g f l low
-    side first absent = none-set f
-    side first untouched = others-set g f l low ∙ ap not (sym (or-false (eqb g f)))
+    here : Bool
+    here = eqb g (64 * k + b)
+
+    side : (s : Side) (m : Mark) → bitRow (checkRow k g) b (columnNumber s m) ≡ touchRow true here false false (columnNumber s m)
+    side last present = none-set b
+    side last absent = none-set b
+    side last untouched = all-set 64 b l
+    side first present = fact-set k g b l
+    side first absent = none-set b
+    side first untouched = others-set k g b l ∙ ap not (sym (or-false here))
 
 -- what is united again is there already
 or-again : (a b : ℕ) → bitOr (bitOr a b) b ≡ bitOr a b

@@ -1,13 +1,14 @@
--- Rows of the outcome table as words, all facts at once: the formulas of `Rows` on whole columns. Bit f of each word is what `Rows`
--- says of fact f, which `proofs/` shows.
+-- Rows of the outcome table as words, all facts of a block at once: the formulas of `Rows` on whole columns. Bit b of each word is what `Rows`
+-- says of fact b of the block, which `proofs/` shows.
 use Prim.Native.Nat.{ℕ, _+_, _-_, _*_, _^_}
 use mathlib.Core.Bool.{Bool, _&&_}
 use mathlib.Core.List.{List, [], _∷_}
 use lib.ListN.{getD, set}
 use lib.Bits.{bitAnd, bitOr}
 use lib.Dec.{eqb}
-use Rattle.column.specs.Column.{bit, withFact}
+use Rattle.column.specs.Column.{bit}
 use Rattle.column.specs.Sets.{difference}
+use Rattle.column.specs.Words.{withFactIn}
 use Rattle.runs.specs.Possible.{columnCount}
 use Rattle.row.specs.declared.words.Marks.{Marks}
 use Rattle.row.specs.declared.words.Row.{Row}
@@ -16,7 +17,7 @@ use Rattle.row.specs.declared.words.Row.{Row}
 abbrev pub rowWords : ℕ
 rowWords = columnCount
 
--- all facts below F
+-- as many facts as there are, from the lowest bit on
 abbrev pub allFacts : ℕ → ℕ
 allFacts facts = 2 ^ facts - 1
 
@@ -56,17 +57,17 @@ stepRow all needs sets clears =
       unmentioned = bitAnd all (notWord (bitOr (bitOr needs sets) clears));
     }
 
--- a check of fact f: "a check is no step" and "counts as a need" on the first side (document 02, request 4). It leaves all other facts alone,
--- whatever F is
-abbrev pub checkRow : ℕ → Row
-checkRow f =
+-- a check of fact f, for block k: "a check is no step" and "counts as a need" on the first side (document 02, request 4). It leaves all other facts
+-- alone, whatever F is
+abbrev pub checkRow : ℕ → ℕ → Row
+checkRow k f =
     record {
       run = allBits;
       empty = allBits;
       last = startMarks allBits;
-      first = record { present = withFact 0 f; absent = 0; untouched = difference 64 allBits (withFact 0 f) };
+      first = record { present = withFactIn k 0 f; absent = 0; untouched = difference 64 allBits (withFactIn k 0 f) };
       cleared = 0;
-      unmentioned = difference 64 allBits (withFact 0 f);
+      unmentioned = difference 64 allBits (withFactIn k 0 f);
     }
 
 -- one list followed by another, of which a run is found: there is a run of both where there is one of the first
@@ -166,6 +167,6 @@ wordsOf r =
 abbrev pub isSet : ℕ → ℕ → Bool
 isSet n f = eqb (bit n f) 1
 
--- what a row of words says of fact f
+-- what a row of words says of the fact of bit f
 abbrev pub bitRow : Row → ℕ → ℕ → Bool
 bitRow r f j = isSet (getD (wordsOf r) j 0) f

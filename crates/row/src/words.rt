@@ -1,12 +1,9 @@
-// A row of the outcome table: what is possible of one sequence, or of the entries read so far, for all facts at once. Bit f of each word says
-// it of fact f.
+// A row of the outcome table: what is possible of one sequence, or of the entries read so far, for all facts of a block at once. Bit b of each word
+// says it of fact b of the block.
 use column::sets::without;
-use column::with_fact;
-use image::word::MOST_FACTS;
+use column::with_fact_in;
 ghost use mathlib.Core.Path.{_≡_};
-ghost use Prim.Native.Nat.{_≤_, _<_};
-ghost use Rattle.image.specs.Word.{mostFacts};
-ghost use Rattle.row.specs.Words.{allFacts, noRow, startRow, stepMarks, stepRow, checkRow, laterMarks, joinRows, orMarks, orRows, sameMarks, sameRows};
+ghost use Rattle.row.specs.Words.{noRow, startRow, stepMarks, stepRow, checkRow, laterMarks, joinRows, orMarks, orRows, sameMarks, sameRows};
 
 // The words of a row in a table, in their order.
 pub const RUN: usize = 0;
@@ -52,14 +49,6 @@ pub struct Row {
     pub first: Marks,
     pub cleared: u64,
     pub unmentioned: u64,
-}
-
-// The column of all facts below `facts`.
-pub fn all_facts(facts: u32) -> u64
-    requires { ⌜ (1 ≤ facts) × (facts ≤ mostFacts) ⌝ }
-    ensures { λ r. ⌜ r ≡ allFacts facts ⌝ }
-{
-    ALL_BITS >> (MOST_FACTS - facts)
 }
 
 // Nothing is possible.
@@ -131,13 +120,13 @@ pub fn of_step(all: u64, needs: u64, sets: u64, clears: u64) -> Row
     }
 }
 
-// The row of a check of fact `f`: an empty run, which needs the fact and touches nothing on the last side. Where it leaves a fact alone all bits
-// are set, those from F upward too, so that the row before it is joined to it by the fact's bit alone.
-pub fn of_check(f: u32) -> Row
-    requires { ⌜ f < mostFacts ⌝ }
-    ensures { λ r. ⌜ r ≡ checkRow f ⌝ }
+// The row of a check of fact `f`, for the facts of a block: an empty run, which needs the fact and touches nothing on the last side. Where it leaves
+// a fact alone all bits are set, those from F upward too, so that the row before it is joined to it by the fact's bit alone; and that is set in the
+// fact's own block only.
+pub fn of_check(block: u32, f: u32) -> Row
+    ensures { λ r. ⌜ r ≡ checkRow block f ⌝ }
 {
-    let fact = with_fact(0, f);
+    let fact = with_fact_in(0, block, f);
     let others = without(ALL_BITS, fact);
     Row {
         run: ALL_BITS,

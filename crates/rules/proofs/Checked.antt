@@ -14,11 +14,10 @@ use Rattle.image.specs.declared.answer.Head.{Head}
 use Rattle.image.specs.declared.answer.Refusal.the-variants.{Length, SumWord, HeadWord}
 use Rattle.image.specs.declared.answer.Checked.the-variants.{Refused}
 use Rattle.image.proofs.Head.{head-rule}
-use Rattle.rules.specs.Rules.{opened, lastOf, setsAfter, setsOf, earlier, faultAt}
+use Rattle.rules.specs.Rules.{opened, lastOf, setsAfter, setsOf, Before, earlier, faultAt}
 use Rattle.rules.specs.Quick.{after}
 use Rattle.rules.specs.Checked.{atWord, scan, allButLast, between, firstWord, lastWord, checked}
 use Rattle.rules.specs.Walk.{walk, opening}
-use Rattle.rules.specs.declared.rules.Earlier.{Earlier}
 use Rattle.rules.proofs.Sets.{sets-append}
 
 -- ---- the walk is the scan
@@ -50,7 +49,7 @@ unfolding scan walk
 scan-walk h before [] = refl
 scan-walk h before (w ∷ ws) =
     ap (atWord (faultAt h (earlier before) (length before) w))
-    (scan-walk h (before ++ (w ∷ [])) ws ∙ ap₂ (λ (e : Earlier) (p : ℕ). walk h e p ws) (earlier-snoc w before) (length-snoc w before))
+    (scan-walk h (before ++ (w ∷ [])) ws ∙ ap₂ (λ (e : Before) (p : ℕ). walk h e p ws) (earlier-snoc w before) (length-snoc w before))
 
 -- ---- the cases
 
@@ -106,4 +105,4 @@ module _ (image : List ℕ) where
     checked-walk s h = simp (le-leb 2 (length image) low, le-leb (length image) 8192 high, s, h)
         (sym (scan-walk (headOf (firstWord image)) (take 1 image) (between image)
         ∙ ap (λ (b : List ℕ). walk (headOf (firstWord image)) (earlier b) (length b) (between image)) (take-one image (omega arith))
-        ∙ ap (λ (e : Earlier). walk (headOf (firstWord image)) e 1 (between image)) (head-opens (firstWord image) h)))
+        ∙ ap (λ (e : Before). walk (headOf (firstWord image)) e 1 (between image)) (head-opens (firstWord image) h)))

@@ -3,19 +3,17 @@
 use Prim.Native.Nat.{ℕ, _<_}
 use native.Mathlib.Omega.{arith}
 use mathlib.Core.Path.{_≡_, refl}
-use mathlib.Core.Bool.{Bool, true, false, cond, _&&_, _||_, false≢true}
+use mathlib.Core.Bool.{Bool, true, false, cond, _&&_, false≢true}
 use lib.Dec.{eqb, ltb}
 use borrow.Author.Tests.{eqb-true, eq-eqb, ltb-true}
-use Rattle.image.specs.Word.{mostFacts, kind, payload, isKind, isFact}
-use Rattle.rules.specs.Rules.{mayStand, whereKind, payloadRight, inOrder, clearsUnset, faultAt}
-use Rattle.rules.specs.Quick.{Counts}
+use Rattle.image.specs.Word.{kind, payload, isKind, isFact}
+use Rattle.rules.specs.Rules.{Before, mayStand, whereKind, payloadRight, inOrder, clearsUnset, faultAt}
 use Rattle.image.specs.declared.answer.Head.{Head}
 use Rattle.image.specs.declared.answer.Refusal.{Refusal}
-use Rattle.rules.specs.declared.rules.Earlier.{Earlier}
 use Rattle.rules.specs.declared.rules.Fault.the-variants.{Found, Nothing}
-use Rattle.general.proofs.Bools.{and-left, and-right, or-left, or-right, and-six}
+use Rattle.general.proofs.Bools.{and-left, and-right, and-six}
 
-pub record Fine (h : Head) (e : Earlier) (w : ℕ) : Type 0 where
+pub record Fine (h : Head) (e : Before) (w : ℕ) : Type 0 where
   pub stands : mayStand h e w ≡ true
   pub pays : payloadRight h e w ≡ true
   pub follows : inOrder e w ≡ true
@@ -32,12 +30,12 @@ all-kept true true false d x y z u e = absurd (found-nothing e)
 all-kept true false c d x y z u e = absurd (found-nothing e)
 all-kept false b c d x y z u e = absurd (found-nothing e)
 
-pub fine : (h : Head) (e : Earlier) (p w : ℕ) → faultAt h e p w ≡ Nothing → Fine h e w
+pub fine : (h : Head) (e : Before) (p w : ℕ) → faultAt h e p w ≡ Nothing → Fine h e w
 fine h e p w n =
     let k = all-kept (mayStand h e w) (payloadRight h e w) (inOrder e w) (clearsUnset (e .sets) w) _ _ _ _ n in
     record { stands = k .0; pays = k .1; follows = k .2; unset = k .3 }
 
-pub none-found : (h : Head) (e : Earlier) (p w : ℕ) → Fine h e w → Nothing ≡ faultAt h e p w
+pub none-found : (h : Head) (e : Before) (p w : ℕ) → Fine h e w → Nothing ≡ faultAt h e p w
 none-found h e p w f = rw (f .stands, f .pays, f .follows, f .unset)
 
 -- the rule holds of a word of its kind
@@ -49,7 +47,7 @@ pub kind-where : (b r : Bool) → (b ≡ true → r ≡ true) → whereKind b r 
 kind-where true r holds = holds refl
 kind-where false r holds = refl
 
-pub record Payloads (h : Head) (e : Earlier) (w : ℕ) : Type 0 where
+pub record Payloads (h : Head) (e : Before) (w : ℕ) : Type 0 where
   pub step : kind w ≡ 5 → (payload w ≡ e .steps) × (payload w < h .steps)
   pub sequence : kind w ≡ 6 → (payload w ≡ e .sequences) × (payload w < h .sequences)
   pub names-step : kind w ≡ 8 → payload w < h .steps
@@ -57,7 +55,7 @@ pub record Payloads (h : Head) (e : Earlier) (w : ℕ) : Type 0 where
   pub names-fact : kind w ≡ 13 → payload w < h .facts
   pub fact : isFact w ≡ true → payload w < h .facts
 
-pub payloads : (h : Head) (e : Earlier) (w : ℕ) → payloadRight h e w ≡ true → Payloads h e w
+pub payloads : (h : Head) (e : Before) (w : ℕ) → payloadRight h e w ≡ true → Payloads h e w
 payloads h e w s =
     let p = payload w in
     let five = eqb p (e .steps) && ltb p (h .steps) in
@@ -82,9 +80,3 @@ payloads h e w s =
       names-fact = λ k. ltb-true _ _ (where-kind (isKind 13 w) (ltb p (h .facts)) (and-right others check s) (eq-eqb (kind w) 13 k));
       fact = λ k. ltb-true _ _ (where-kind (isFact w) (ltb p (h .facts)) (t .4) k);
     }
-
--- the fact of a set word has a place in a column
-pub set-low : (h : Head) (e : Earlier) (p w : ℕ) → Counts h → faultAt h e p w ≡ Nothing → isKind 3 w ≡ true → payload w < mostFacts
-set-low h e p w counts none sets =
-    let fact : isFact w ≡ true = or-left (isKind 2 w || isKind 3 w) (isKind 4 w) (or-right (isKind 2 w) (isKind 3 w) sets) in
-    omega (arith, payloads h e w (fine h e p w none .pays) .fact fact, counts .facts)

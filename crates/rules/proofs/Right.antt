@@ -12,8 +12,8 @@ use borrow.Author.Tests.{eqb-true, ne-eqb, eq-eqb, ltb-true, lt-ltb}
 use mir.Val.{boolByte}
 use Rattle.column.specs.Sets.{inColumn}
 use Rattle.image.specs.Word.{kind, payload, isKind, isFact, isEntry}
-use Rattle.rules.specs.Rules.{whereKind, setsAfter, faultAt}
-use Rattle.rules.specs.Quick.{entryCounted, entryRight, alternativeRight, bodyRight, insideRight, Counts, stepRight, sequenceRight, FactFollows, after, further, withLast, inAlternative}
+use Rattle.rules.specs.Rules.{whereKind, faultAt}
+use Rattle.rules.specs.Quick.{entryCounted, entryRight, alternativeRight, bodyRight, insideRight, Counts, stepRight, sequenceRight, FactFollows, passed, withLast, seen, inAlternative}
 use Rattle.image.specs.declared.answer.Head.{Head}
 use Rattle.rules.specs.declared.rules.Earlier.{Earlier}
 use Rattle.rules.specs.declared.rules.Fault.the-variants.{Nothing}
@@ -46,64 +46,51 @@ counted-cases h w counted =
     both : (k n : ℕ) → isKind k w && ltb (payload w) n ≡ true → EntryOf w k n
     both k n s = (eqb-true (kind w) k (and-left (isKind k w) (ltb (payload w) n) s), and-right (isKind k w) (ltb (payload w) n) s)
 
-module _ (h : Head) (e : Earlier) (p w : ℕ) where
-  pub entry-faultless : entryRight h (e .last) w ≡ true → Nothing ≡ faultAt h e p w
+module _ (h : Head) (e : Earlier) (sets p w : ℕ) where
+  pub entry-faultless : entryRight h (e .last) w ≡ true → Nothing ≡ faultAt h (seen e sets) p w
   entry-faultless right =
       let after-one = and-left (isKind 7 (e .last) || isEntry (e .last)) _ right in
       go after-one (counted-cases h w (and-right (isKind 7 (e .last) || isEntry (e .last)) _ right))
     where
       go : isKind 7 (e .last) || isEntry (e .last) ≡ true
-          → EntryOf w 8 (h .steps) ⊎ EntryOf w 9 (h .sequences) ⊎ EntryOf w 13 (h .facts) → Nothing ≡ faultAt h e p w
+          → EntryOf w 8 (h .steps) ⊎ EntryOf w 9 (h .sequences) ⊎ EntryOf w 13 (h .facts) → Nothing ≡ faultAt h (seen e sets) p w
       go after-one (inl entry) = rw (entry .0, after-one, entry .1)
       go after-one (inr (inl entry)) = rw (entry .0, after-one, entry .1)
       go after-one (inr (inr entry)) = rw (entry .0, after-one, entry .1)
 
-  pub alternative-faultless : alternativeRight e w ≡ true → Nothing ≡ faultAt h e p w
+  pub alternative-faultless : alternativeRight e w ≡ true → Nothing ≡ faultAt h (seen e sets) p w
   alternative-faultless right =
       let whole = eqb-true w (7 * 2 ^ 28) (and-left (eqb w (7 * 2 ^ 28)) (ltb 0 (e .sequences)) right) in
       let inside = and-right (eqb w (7 * 2 ^ 28)) (ltb 0 (e .sequences)) right in
       rw (whole, inside)
 
-  pub step-faultless : stepRight h e w ≡ true → Nothing ≡ faultAt h e p w
+  pub step-faultless : stepRight h e w ≡ true → Nothing ≡ faultAt h (seen e sets) p w
   step-faultless right =
       let t = and-six true true (isKind 5 w) (eqb (e .sequences) 0) (eqb (payload w) (e .steps)) (ltb (payload w) (h .steps)) right in
       rw (eqb-true (kind w) 5 (t .2), t .3, t .4, t .5)
 
-  pub sequence-faultless : sequenceRight h e w ≡ true → Nothing ≡ faultAt h e p w
+  pub sequence-faultless : sequenceRight h e w ≡ true → Nothing ≡ faultAt h (seen e sets) p w
   sequence-faultless right =
       let t = and-six true true (isKind 6 w) (leb (h .steps) (e .steps)) (eqb (payload w) (e .sequences)) (ltb (payload w) (h .sequences)) right in
       rw (eqb-true (kind w) 6 (t .2), t .3, t .4, t .5)
 
 -- ---- words that a reader passes by
 
--- the next step's opener, and what the rules ask of the words up to it
+-- the next step's opener
 pub step-opens : (h : Head) (e : Earlier) (w : ℕ) → stepRight h e w ≡ true → isKind 5 w ≡ true
 step-opens h e w right = and-six true true (isKind 5 w) (eqb (e .sequences) 0) (eqb (payload w) (e .steps)) (ltb (payload w) (h .steps)) right .2
 
-pub past-step : (e : Earlier) (w : ℕ) → isKind 5 w ≡ true
-    → record { steps = e .steps + 1; sequences = e .sequences; last = w; sets = 0 } ≡ after e w
-past-step e w five =
-    let k = eqb-true (kind w) 5 five in
-    let s : e .steps + 1 ≡ e .steps + boolByte (isKind 5 w) = omega (arith, ap boolByte five) in
-    let c : e .sequences ≡ e .sequences + boolByte (isKind 6 w) = omega (arith, ap boolByte (ne-eqb (kind w) 6 (λ q. omega arith))) in
-    let none : 0 ≡ setsAfter (e .sets) w = rw k in
-    λ i. record { steps = s i; sequences = c i; last = w; sets = none i }
-
--- a word that has no fault after the words before it, wherever it stands, and what the rules ask of the words up to it
-pub record Passing (h : Head) (e : Earlier) (w : ℕ) (then : Earlier) : Type 0 where
-  pub faultless : (p : ℕ) → Nothing ≡ faultAt h e p w
-  pub past : after e w ≡ then
+-- a word that has no fault after the words before it, wherever it stands, and what is carried past it
+pub record Passing (h : Head) (e : Earlier) (sets w : ℕ) (then : Earlier) : Type 0 where
+  pub faultless : (p : ℕ) → Nothing ≡ faultAt h (seen e sets) p w
+  pub past : passed e w ≡ then
 
 -- a word that opens neither a step nor a sequence
-opens-nothing : (e : Earlier) (w : ℕ) → (kind w ≡ 5 → ⊥) → (kind w ≡ 6 → ⊥) → after e w ≡ further e w (setsAfter (e .sets) w)
+opens-nothing : (e : Earlier) (w : ℕ) → (kind w ≡ 5 → ⊥) → (kind w ≡ 6 → ⊥) → passed e w ≡ withLast e w
 opens-nothing e w five six =
     let s : e .steps + boolByte (isKind 5 w) ≡ e .steps = omega (arith, ap boolByte (ne-eqb (kind w) 5 five)) in
     let c : e .sequences + boolByte (isKind 6 w) ≡ e .sequences = omega (arith, ap boolByte (ne-eqb (kind w) 6 six)) in
-    λ i. record { steps = s i; sequences = c i; last = w; sets = setsAfter (e .sets) w }
-
--- a word that neither sets a fact nor opens a step
-sets-nothing : (sets w : ℕ) → (kind w ≡ 3 → ⊥) → (kind w ≡ 5 → ⊥) → setsAfter sets w ≡ sets
-sets-nothing sets w three five = rw (ne-eqb (kind w) 3 three, ne-eqb (kind w) 5 five)
+    λ i. record { steps = s i; sequences = c i; last = w }
 
 -- a word of a sequence's body
 module _ (h : Head) (e : Earlier) (last w : ℕ) (right : bodyRight h e last w ≡ true) where
@@ -119,16 +106,14 @@ module _ (h : Head) (e : Earlier) (last w : ℕ) (right : bodyRight h e last w �
   body-high : 7 ≤ kind w
   body-high = ⊎-elim (λ k. omega arith) (λ k. omega (arith, entry-high w k)) body-kind
 
-  pub body-passing : Passing h (withLast e last) w (withLast e w)
-  body-passing =
+  pub body-passing : (sets : ℕ) → Passing h (withLast e last) sets w (withLast e w)
+  body-passing sets =
       let high = body-high in
       record {
         faultless = λ p.
-            ⊎-elim (entry-faultless h (withLast e last) p w) (alternative-faultless h (withLast e last) p w)
+            ⊎-elim (entry-faultless h (withLast e last) sets p w) (alternative-faultless h (withLast e last) sets p w)
             (or-cases (entryRight h last w) (alternativeRight e w) right);
-        past =
-            opens-nothing (withLast e last) w (λ q. omega arith) (λ q. omega arith)
-            ∙ ap (further e w) (sets-nothing (e .sets) w (λ q. omega arith) (λ q. omega arith));
+        past = opens-nothing (withLast e last) w (λ q. omega arith) (λ q. omega arith);
       }
 
   pub body-follows : inAlternative w ≡ true
@@ -189,14 +174,14 @@ module _ (h : Head) (k last w : ℕ) (low : 2 ≤ k) (high : k ≤ 4) (is : kind
   other j more = ne-eqb (kind w) j (λ same. omega arith)
 
   pub fact-passing : (e : Earlier) (sets : ℕ) → (k ≡ 4 → inColumn sets (payload w) ≡ false)
-      → Passing h (further e last sets) w (further e w (setsAfter sets w))
+      → Passing h (withLast e last) sets w (withLast e w)
   fact-passing e sets unset =
       record {
-        faultless = λ p. none-found h (further e last sets) p w fine;
-        past = opens-nothing (further e last sets) w (λ q. omega arith) (λ q. omega arith);
+        faultless = λ p. none-found h (seen (withLast e last) sets) p w fine;
+        past = opens-nothing (withLast e last) w (λ q. omega arith) (λ q. omega arith);
       }
     where
-      fine : Fine h (further e last sets) w
+      fine : Fine h (seen (withLast e last) sets) w
       fine =
           record {
             stands = rw (fact, may-stand);

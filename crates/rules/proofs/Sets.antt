@@ -1,12 +1,15 @@
 -- What the column of the facts that a step sets says: a fact is in it exactly where an earlier word of the same step sets it.
 -- Assumes nothing.
-use Prim.Native.Nat.{ℕ, _+_}
+use Prim.Native.Nat.{ℕ, _+_, _-_, _≤_, _<_}
+use native.Mathlib.Numerals.{add-one}
 use native.Mathlib.Omega.{arith}
 use mathlib.Core.Path.{_≡_, refl, sym, ap, _∙_}
-use mathlib.Core.Bool.{Bool, true, false, cond, false≢true}
+use mathlib.Core.Bool.{Bool, true, false, cond, _&&_, false≢true}
 use mathlib.Core.Logic.{_⊎_, inl, inr, ⊎-elim, _↔_}
 use mathlib.Core.List.{List, [], _∷_, _++_}
 use lib.Dec.{eqb}
+use lib.ListN.{length, getD, take}
+use lib.Seq.{take-suc}
 use mir.Val.{boolByte}
 use borrow.Author.Tests.{eqb-true, eq-eqb}
 use Rattle.column.specs.Column.{withFact}
@@ -14,12 +17,12 @@ use Rattle.column.specs.Sets.{inColumn}
 use Rattle.column.proofs.Operations.{in-with, in-own, in-more, in-none}
 use Rattle.image.specs.Word.{kind, payload, isKind}
 use Rattle.rules.specs.Rules.{opened, setsAfter, setsOf, SetBefore, earlier}
-use Rattle.general.proofs.Bools.{or-cases}
+use Rattle.general.proofs.Bools.{or-cases, both-ways}
 
 -- ---- one word
 
 -- a fact that is set after a word: the word sets it, or it was set before and the word opens no step
-set-by : (sets f w : ℕ) → inColumn (setsAfter sets w) f ≡ true
+pub set-by : (sets f w : ℕ) → inColumn (setsAfter sets w) f ≡ true
     → ((kind w ≡ 3) × (payload w ≡ f)) ⊎ ((inColumn sets f ≡ true) × (kind w ≡ 5 → ⊥))
 set-by sets f w = go (isKind 3 w) (isKind 5 w) refl refl
   where
@@ -45,12 +48,41 @@ set-stays sets f w other e = go (isKind 3 w) (isKind 5 w) refl
     go false true five = absurd (other (eqb-true (kind w) 5 five))
     go false false five = e
 
+-- after a step's opener nothing is set
+pub set-none : (sets f w : ℕ) → kind w ≡ 5 → inColumn (setsAfter sets w) f ≡ false
+set-none sets f w five = rw five (in-none f)
+
+-- a word that neither sets the fact nor opens a step changes nothing
+pub set-same : (sets f w : ℕ) → isKind 3 w && eqb (payload w) f ≡ false → (kind w ≡ 5 → ⊥) → inColumn (setsAfter sets w) f ≡ inColumn sets f
+set-same sets f w other no-step =
+    both-ways _ _ (λ e. ⊎-elim (λ own. absurd (false≢true (sym other ∙ named own))) (λ old. old .0) (set-by sets f w e)) (set-stays sets f w no-step)
+  where
+    named : (kind w ≡ 3) × (payload w ≡ f) → isKind 3 w && eqb (payload w) f ≡ true
+    named own = rw (eq-eqb (kind w) 3 (own .0), eq-eqb (payload w) f (own .1))
+
 -- ---- all the words
 
 pub sets-append : (sets : ℕ) (ws vs : List ℕ) → setsOf sets (ws ++ vs) ≡ setsOf (setsOf sets ws) vs
 unfolding setsOf
 sets-append sets [] vs = refl
 sets-append sets (w ∷ ws) vs = sets-append (setsAfter sets w) ws vs
+
+-- and one word more
+pub sets-next : (ws : List ℕ) (i : ℕ) → i < length ws → setsOf 0 (take (i + 1) ws) ≡ setsAfter (setsOf 0 (take i ws)) (getD ws i 0)
+unfolding setsOf
+sets-next ws i l = rw (add-one i) (ap (setsOf 0) (take-suc ws i 0 l) ∙ sets-append 0 (take i ws) (getD ws i 0 ∷ []))
+
+-- nothing is set before the first word
+pub sets-first : (ws : List ℕ) (f : ℕ) → inColumn (setsOf 0 (take 0 ws)) f ≡ false
+unfolding setsOf
+sets-first ws f = in-none f
+
+-- which facts are set before an index, by the word right before it and what is set before that
+pub sets-back : (ws : List ℕ) (i f : ℕ) → 0 < i → i ≤ length ws
+    → inColumn (setsOf 0 (take i ws)) f ≡ inColumn (setsAfter (setsOf 0 (take (i - 1) ws)) (getD ws (i - 1) 0)) f
+sets-back ws i f low high =
+    let one : i ≡ i - 1 + 1 = omega arith in
+    ap (λ (n : ℕ). inColumn (setsOf 0 (take n ws)) f) one ∙ ap (λ (s : ℕ). inColumn s f) (sets-next ws (i - 1) (omega arith))
 
 opens-no-step : (w : ℕ) (ws : List ℕ) → (opened 5 (w ∷ ws) ≡ 0) ↔ ((kind w ≡ 5 → ⊥) × (opened 5 ws ≡ 0))
 unfolding opened

@@ -3,10 +3,12 @@ use Prim.Native.Nat.{ℕ, _+_, _*_, _^_, _≤_, _<_}
 use mathlib.Core.Path.{_≡_}
 use mathlib.Core.Logic.{_⊎_}
 use mathlib.Core.Bool.{Bool, _&&_, _||_}
+use mathlib.Core.List.{List}
+use lib.ListN.{take}
 use lib.Dec.{leb, ltb, eqb}
 use mir.Val.{boolByte}
-use Rattle.image.specs.Word.{mostFacts, kind, payload, isKind, isEntry}
-use Rattle.rules.specs.Rules.{setsAfter}
+use Rattle.image.specs.Word.{kind, payload, isKind, isEntry}
+use Rattle.rules.specs.Rules.{setsAfter, setsOf, Before}
 use Rattle.image.specs.declared.answer.Head.{Head}
 use Rattle.rules.specs.declared.rules.Earlier.{Earlier}
 
@@ -41,14 +43,14 @@ FactFollows last k = (kind last ≡ 5) ⊎ ((2 ≤ kind last) × (kind last < k)
 abbrev pub insideRight : Head → ℕ → Bool
 insideRight h w = entryCounted h w || eqb w (7 * 2 ^ 28)
 
--- what the head counts: no more facts than a column holds, and fewer steps and sequences than a payload may be
+-- what the head counts is below what a payload may be
 pub record Counts (h : Head) : Type 0 where
-  pub facts : h .facts ≤ mostFacts
+  pub facts : h .facts < 2 ^ 28
   pub steps : h .steps < 2 ^ 28
   pub sequences : h .sequences < 2 ^ 28
 
 -- what the rules ask of the words before the next word
-abbrev pub after : Earlier → ℕ → Earlier
+abbrev pub after : Before → ℕ → Before
 after e w =
     record {
       steps = e .steps + boolByte (isKind 5 w);
@@ -57,13 +59,22 @@ after e w =
       sets = setsAfter (e .sets) w;
     }
 
--- the words before, where words that open neither a step nor a sequence follow them: the last of these, and what the step sets with them
-abbrev pub further : Earlier → ℕ → ℕ → Earlier
-further e last sets = record { steps = e .steps; sequences = e .sequences; last = last; sets = sets }
+-- of this the loops carry all but what the step sets, which may be more facts than a word has bits
+abbrev pub passed : Earlier → ℕ → Earlier
+passed e w = record { steps = e .steps + boolByte (isKind 5 w); sequences = e .sequences + boolByte (isKind 6 w); last = w }
 
--- and where these are no fact words
+-- where words that open neither a step nor a sequence follow, the last of these
 abbrev pub withLast : Earlier → ℕ → Earlier
-withLast e last = further e last (e .sets)
+withLast e last = record { steps = e .steps; sequences = e .sequences; last = last }
+
+-- what the rules ask, by what the loops carry and the column of what the step sets
+abbrev pub seen : Earlier → ℕ → Before
+seen e sets = record { steps = e .steps; sequences = e .sequences; last = e .last; sets = sets }
+
+-- that column is the one of the part's words before index i: what was set before the part began, after the head or at a sequence's opener,
+-- is asked for nowhere in it (proofs/Middle)
+abbrev pub upTo : List ℕ → Earlier → ℕ → Before
+upTo part e i = seen e (setsOf 0 (take i part))
 
 -- an alternative's opener or an entry: what an entry may follow
 abbrev pub inAlternative : ℕ → Bool

@@ -1,6 +1,4 @@
 // The rules for a word between head and sum word: refusals 4, 5, 6 and 13.
-use column::sets::holds;
-use column::with_fact;
 use image::answer::Head;
 use image::answer::Refusal;
 use image::word::ALTERNATIVE_WORD;
@@ -13,14 +11,15 @@ use image::word::KIND_SEQUENCE_ENTRY;
 use image::word::KIND_SETS;
 use image::word::KIND_STEP;
 use image::word::KIND_STEP_ENTRY;
-use image::word::MOST_FACTS;
 use image::word::PAYLOADS;
 ghost use mathlib.Core.Path.{_≡_};
 ghost use mathlib.Core.Bool.{true};
-ghost use Prim.Native.Nat.{_+_, _<_};
-ghost use Rattle.image.specs.Word.{mostFacts, payload, isKind};
-ghost use Rattle.rules.specs.Rules.{mayStand, payloadRight, inOrder, setsAfter, clearsUnset, faultAt};
-ghost use Rattle.rules.specs.Quick.{entryRight, alternativeRight, bodyRight, insideRight, Counts, stepRight, sequenceRight, after};
+ghost use Prim.Native.Nat.{_+_, _≤_, _<_};
+ghost use lib.ListN.{length, getD, take};
+ghost use Rattle.column.specs.Sets.{inColumn};
+ghost use Rattle.image.specs.Word.{mostWords};
+ghost use Rattle.rules.specs.Rules.{setsOf, mayStand, payloadRight, inOrder, clearsUnset, faultAt};
+ghost use Rattle.rules.specs.Quick.{entryRight, alternativeRight, bodyRight, insideRight, Counts, stepRight, sequenceRight, passed, seen, upTo};
 
 // Added with wrap, these take 8, 9 and 13 × 2^28 away: what is left of an entry is its payload.
 const LESS_STEP_ENTRY: u32 = 0x80000000;
@@ -29,13 +28,12 @@ const LESS_SEQUENCE_ENTRY: u32 = 0x70000000;
 
 const LESS_CHECK: u32 = 0x30000000;
 
-// What the rules ask of the words before a word: how many steps and sequences they open, the word right before it, and the column of
-// the facts that the step sets that they opened last.
+// What is carried of the words before a word: how many steps and sequences they open, and the word right before it. What the step sets
+// that they opened last is looked up in its words where refusal 13 asks for it.
 pub struct Earlier {
     pub steps: u32,
     pub sequences: u32,
     pub last: u32,
-    pub sets: u64,
 }
 
 // What is wrong with a word: refusal 4, 5, 6 or 13 with its position, or nothing.
@@ -46,7 +44,7 @@ pub enum Fault {
 
 // Refusal 4: whether a word of this kind may stand here.
 fn may_stand(h: Head, e: Earlier, w: u32) -> bool
-    ensures { λ r. ⌜ r ≡ mayStand h e w ⌝ }
+    ensures { λ r. ⌜ r ≡ mayStand h (seen e 0) w ⌝ }
 {
     let k = w / PAYLOADS;
     let l = e.last / PAYLOADS;
@@ -62,7 +60,7 @@ fn may_stand(h: Head, e: Earlier, w: u32) -> bool
 
 // Refusal 5: whether the payload keeps the rule of its kind.
 fn payload_right(h: Head, e: Earlier, w: u32) -> bool
-    ensures { λ r. ⌜ r ≡ payloadRight h e w ⌝ }
+    ensures { λ r. ⌜ r ≡ payloadRight h (seen e 0) w ⌝ }
 {
     let k = w / PAYLOADS;
     let p = w % PAYLOADS;
@@ -77,7 +75,7 @@ fn payload_right(h: Head, e: Earlier, w: u32) -> bool
 
 // Refusal 6: whether a fact word is greater than the fact word right before it.
 fn in_order(e: Earlier, w: u32) -> bool
-    ensures { λ r. ⌜ r ≡ inOrder e w ⌝ }
+    ensures { λ r. ⌜ r ≡ inOrder (seen e 0) w ⌝ }
 {
     let k = w / PAYLOADS;
     let l = e.last / PAYLOADS;
@@ -86,16 +84,36 @@ fn in_order(e: Earlier, w: u32) -> bool
         | (e.last < w)
 }
 
-// Refusal 13: whether a clear word names a fact that is not in the column of those that its step sets. No fact from 64 on is in one.
-fn clears_unset(sets: u64, w: u32) -> bool
-    ensures { λ r. ⌜ r ≡ clearsUnset sets w ⌝ }
+// Whether a word of the step sets the fact `f`, among the words before index `i`: these are looked at from the last one back to the step's
+// opener.
+fn set_before(part: &[u32], i: usize, f: u32) -> bool
+    requires { ⌜ i ≤ length (now part) ⌝ }
+    ensures { λ r. ⌜ r ≡ inColumn (setsOf 0 (take i (now (part .entry)))) f ⌝ }
 {
-    let p = w % PAYLOADS;
-    if MOST_FACTS <= p {
-        return true;
+    let mut j = i;
+    while 0 < j {
+        j -= 1;
+        let w = part[j];
+        if (w / PAYLOADS == KIND_SETS) & (w % PAYLOADS == f) {
+            return true;
+        }
+        if w / PAYLOADS == KIND_STEP {
+            return false;
+        }
     }
-    let set = holds(sets, p);
-    !(w / PAYLOADS == KIND_CLEARS) | !set
+    false
+}
+
+// Refusal 13: whether the word at index `i`, if it is a clear word, names a fact that no word of its step sets before it.
+fn clears_unset(part: &[u32], i: usize) -> bool
+    requires { ⌜ i < length (now part) ⌝ }
+    ensures { λ r. ⌜ r ≡ clearsUnset (setsOf 0 (take i (now (part .entry)))) (getD (now (part .entry)) i 0) ⌝ }
+{
+    let w = part[i];
+    if w / PAYLOADS == KIND_CLEARS {
+        return !set_before(part, i, w % PAYLOADS);
+    }
+    true
 }
 
 // Whether a word of kind 8, 9 or 13 is right: an entry after a kind 7 or another entry that names what the head counts.
@@ -138,7 +156,7 @@ pub fn step_right(h: Head, e: Earlier, w: u32) -> bool
 }
 
 // Whether a word of kind 6 is right.
-fn sequence_right(h: Head, e: Earlier, w: u32) -> bool
+pub fn sequence_right(h: Head, e: Earlier, w: u32) -> bool
     ensures { λ r. ⌜ r ≡ sequenceRight h e w ⌝ }
 {
     let k = w / PAYLOADS;
@@ -157,10 +175,13 @@ pub fn inside_right(h: Head, w: u32) -> bool
     (step < h.steps) | (sequence < h.sequences) | (check < h.facts) | (w == ALTERNATIVE_WORD)
 }
 
-// The first refusal of 4, 5, 6 and 13 that a word at position `p` meets, by each rule.
-pub fn first_fault(h: Head, e: Earlier, p: u32, w: u32) -> Fault
-    ensures { λ r. ⌜ r ≡ faultAt h e p w ⌝ }
+// The first refusal of 4, 5, 6 and 13 that the word at index `i` meets, by each rule, in a part that begins at position `at`.
+pub fn first_fault(h: Head, e: Earlier, at: usize, part: &[u32], i: usize) -> Fault
+    requires { ⌜ (i < length (now part)) × (at + length (now part) ≤ mostWords) ⌝ }
+    ensures { λ r. ⌜ r ≡ faultAt h (upTo (now (part .entry)) e i) (at + i) (getD (now (part .entry)) i 0) ⌝ }
 {
+    let w = part[i];
+    let p = (at + i) as u32;
     if !may_stand(h, e, w) {
         return Fault::Found(Refusal::Kind(p));
     }
@@ -170,58 +191,20 @@ pub fn first_fault(h: Head, e: Earlier, p: u32, w: u32) -> Fault
     if !in_order(e, w) {
         return Fault::Found(Refusal::FactOrder(p));
     }
-    if !clears_unset(e.sets, w) {
+    if !clears_unset(part, i) {
         return Fault::Found(Refusal::SetAndCleared(p));
     }
     Fault::Nothing
 }
 
-// The first refusal of 4, 5, 6 and 13 that a word at position `p` meets, quickly where it opens the next sequence.
-pub fn sequence_fault(h: Head, e: Earlier, p: u32, w: u32) -> Fault
-    ensures { λ r. ⌜ r ≡ faultAt h e p w ⌝ }
-{
-    if sequence_right(h, e, w) {
-        return Fault::Nothing;
-    }
-    first_fault(h, e, p, w)
-}
-
-// The column of the facts that a step sets, with one word more.
-fn sets_after(sets: u64, w: u32) -> u64
-    requires { ⌜ (isKind 3 w ≡ true → payload w < mostFacts) ⌝ }
-    ensures { λ r. ⌜ r ≡ setsAfter sets w ⌝ }
-{
-    if w / PAYLOADS == KIND_SETS {
-        return with_fact(sets, w % PAYLOADS);
-    }
-    if w / PAYLOADS == KIND_STEP {
-        return 0;
-    }
-    sets
-}
-
-// What the rules ask of the words up to and with `w`.
+// What is carried of the words up to and with `w`.
 pub fn past(e: Earlier, w: u32) -> Earlier
-    requires { ⌜ (e .steps + 1 < 4294967296) × (e .sequences + 1 < 4294967296) × (isKind 3 w ≡ true → payload w < mostFacts) ⌝ }
-    ensures { λ r. ⌜ r ≡ after e w ⌝ }
+    requires { ⌜ (e .steps + 1 < 4294967296) × (e .sequences + 1 < 4294967296) ⌝ }
+    ensures { λ r. ⌜ r ≡ passed e w ⌝ }
 {
     Earlier {
         steps: e.steps + ((w / PAYLOADS == KIND_STEP) as u32),
         sequences: e.sequences + ((w / PAYLOADS == KIND_SEQUENCE) as u32),
         last: w,
-        sets: sets_after(e.sets, w),
-    }
-}
-
-// The same where `w` opens a step.
-pub fn past_opener(e: Earlier, w: u32) -> Earlier
-    requires { ⌜ (e .steps + 1 < 4294967296) × (isKind 5 w ≡ true) ⌝ }
-    ensures { λ r. ⌜ r ≡ after e w ⌝ }
-{
-    Earlier {
-        steps: e.steps + 1,
-        sequences: e.sequences,
-        last: w,
-        sets: 0,
     }
 }

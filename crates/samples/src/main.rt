@@ -2,9 +2,9 @@
 // answer. The file `stdout` has what must be printed.
 use libc::STDOUT_FILENO;
 
-// Library L, as document 01 prints it, with the sum word of document 02, request 6.
+// Library L, as document 01 prints it, with the head of document 02, request 8, and the sum word of request 6.
 const L: [u32; 20] = [
-    0x100c0183,
+    0x10180603,
     0x50000000,
     0x30000000,
     0x50000001,
@@ -23,13 +23,13 @@ const L: [u32; 20] = [
     0x60000002,
     0x70000000,
     0x90000002,
-    0xf0f20910,
+    0xf1d65e90,
 ];
 
-// Heads with F = 64 and F = 65, A = C = 0. There is one running sum, what the head counts as: 0x40 + 1024 = 0x440, 0x41 + 1024 = 0x441.
-const FACTS_64: [u32; 2] = [0x10000040, 0xf0000440];
+// Heads with F = 256 and F = 257, A = C = 0. There is one running sum, what the head counts as: 0x100 + 1024 = 0x500, 0x101 + 1024 = 0x501.
+const FACTS_256: [u32; 2] = [0x10000100, 0xf0000500];
 
-const FACTS_65: [u32; 2] = [0x10000041, 0xf0000441];
+const FACTS_257: [u32; 2] = [0x10000101, 0xf0000501];
 
 // An answer is the number that the C side gets: N × 2^32 + P for refusal N at position P, below 2^32 what the call is for.
 fn show(sample: &[u8], answer: u64) {
@@ -44,16 +44,16 @@ fn show(sample: &[u8], answer: u64) {
 }
 
 // "L: card area 20 words gets 8, 21 suffices"; document 02, request 4: "in L's sample the areas become one word too few and just enough", since
-// request 5 38 and 39: refused 8 at 0, and C = 3.
+// request 8 146 and 147: refused 8 at 0, and C = 3.
 fn card_areas() {
-    let mut short = [0u64; 38];
-    let mut enough = [0u64; 39];
+    let mut short = [0u64; 146];
+    let mut enough = [0u64; 147];
     show(
-        b"L, card area 38 words: ",
+        b"L, card area 146 words: ",
         dulimoven::dulimoven_cards(&L, &mut short),
     );
     show(
-        b"L, card area 39 words: ",
+        b"L, card area 147 words: ",
         dulimoven::dulimoven_cards(&L, &mut enough),
     );
 }
@@ -71,10 +71,10 @@ fn questions() {
     );
 }
 
-// "F = 64 is read, 65 gets 3.": the head's payload, 64, and refused 3 at 0.
+// "F = 64 is read, 65 gets 3."; document 02, request 8: "256 and 257 replace the sample of 64 and 65": the head's payload, 256, and refused 3 at 0.
 fn facts() {
-    show(b"F = 64: ", dulimoven::dulimoven_check(&FACTS_64));
-    show(b"F = 65: ", dulimoven::dulimoven_check(&FACTS_65));
+    show(b"F = 256: ", dulimoven::dulimoven_check(&FACTS_256));
+    show(b"F = 257: ", dulimoven::dulimoven_check(&FACTS_257));
 }
 
 fn main() {

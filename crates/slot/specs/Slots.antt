@@ -12,6 +12,7 @@ use Rattle.image.specs.Word.{mostFacts, kind, payload, isKind}
 use Rattle.library.specs.Library.{Item, step, check, Entry, item, call}
 use Rattle.library.specs.Accepted.{HighEntry}
 use Rattle.chains.specs.Ranks.{Ranks}
+use Rattle.question.specs.Asked.{factBit}
 use Rattle.question.specs.declared.asked.Asked.{Asked}
 use Rattle.slot.specs.declared.entry.Traits.{Traits}
 
@@ -62,15 +63,15 @@ pub record RankWithin (none : ℕ) (T : List ℕ) (w : ℕ) : Type 0 where
 
 -- ---- the ranks of the items
 
--- the mark that two columns give fact f, as a number: 0 by the first, otherwise 1 by the second, otherwise 2 for untouched
+-- the mark that two columns give the fact that has bit b in them, as a number: 0 by the first, otherwise 1 by the second, otherwise 2 for untouched
 abbrev pub markOf : ℕ → ℕ → ℕ → ℕ
-markOf f one other = cond (inColumn one f) 0 (cond (inColumn other f) 1 2)
+markOf b one other = cond (inColumn one b) 0 (cond (inColumn other b) 1 2)
 
--- what a step needs and sets decides on the first side, what it sets and clears on the last
+-- what a step needs and sets decides on the first side, what it sets and clears on the last; the masks are of the block of the fact asked about
 abbrev pub stepMark : Asked → List ℕ → ℕ → ℕ
 stepMark q masks a =
-    cond (q .first) (markOf (q .fact) (getD masks (3 * a) 0) (getD masks (3 * a + 1) 0))
-    (markOf (q .fact) (getD masks (3 * a + 1) 0) (getD masks (3 * a + 2) 0))
+    cond (q .first) (markOf (factBit q) (getD masks (3 * a) 0) (getD masks (3 * a + 1) 0))
+    (markOf (factBit q) (getD masks (3 * a + 1) 0) (getD masks (3 * a + 2) 0))
 
 -- "On the first side a check counts as a need": a check of fact f touches that fact there; otherwise it leaves the fact asked about untouched
 abbrev pub checkMark : Asked → ℕ → ℕ
@@ -93,10 +94,10 @@ pub record Written (from to : ℕ) (rank : ℕ → ℕ) (before after : List ℕ
   pub stays : (i : ℕ) → i < from → (past : ℕ) → getD after i past ≡ getD before i past
   pub ranked : (j : ℕ) → from + j < to → getD after (from + j) 0 ≡ rank j
 
--- the words of the items are their ranks by the question, and those of the sequences stay
+-- the words of the items are their ranks by the question, and no sequence has a rank
 pub record ItemsRanked (all : Bool) (q : Asked) (masks before after : List ℕ) : Type 0 where
   pub long : length after ≡ length before
-  pub stays : (d : ℕ) → d < q .none → getD after d (q .none) ≡ getD before d (q .none)
+  pub unranked : (d : ℕ) → d < q .none → getD after d (q .none) ≡ q .none
   pub checks : (f : ℕ) → f < mostFacts → getD after (q .none + f) 0 ≡ checkRank all q f
   pub steps : (a : ℕ) → firstStep (q .none) + a < length before → getD after (firstStep (q .none) + a) 0 ≡ stepRank all q masks a
 

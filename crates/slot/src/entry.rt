@@ -10,6 +10,7 @@ use question::asked::ABSENT_MARK;
 use question::asked::Asked;
 use question::asked::PRESENT_MARK;
 use question::asked::UNTOUCHED_MARK;
+use question::asked::fact_bit;
 use walk::sequence::selected_index;
 ghost use mathlib.Core.Path.{_≡_};
 ghost use mathlib.Core.Bool.{true, cond};
@@ -18,7 +19,7 @@ ghost use lib.ListN.{length};
 ghost use Rattle.library.specs.Tables.{maskWords};
 ghost use Rattle.image.specs.Word.{isEntry, mostFacts};
 ghost use Rattle.library.specs.Library.{entryOf};
-ghost use Rattle.slot.specs.Slots.{firstStep, slotOf, rankIn, passIn, traitsIn, RankWithin, markOf, stepMark, checkMark, markRank, checkRank, stepRank, Written, ItemsRankable, ItemsRanked};
+ghost use Rattle.slot.specs.Slots.{firstStep, slotOf, rankIn, passIn, traitsIn, RankWithin, markOf, stepMark, markRank, checkRank, stepRank, Written, ItemsRankable, ItemsRanked};
 
 // An entry's rank, and whether it passes as one ahead of the position and as one behind it.
 pub struct Traits {
@@ -37,32 +38,25 @@ pub fn choose(test: bool, x: u32, other: u32) -> u32
     other
 }
 
-// The mark that two columns give the fact.
-fn mark_of(f: u32, one: u64, other: u64) -> u32
-    requires { ⌜ f < mostFacts ⌝ }
-    ensures { λ r. ⌜ r ≡ markOf f one other ⌝ }
+// The mark that two columns give the fact that has bit `b` in them.
+fn mark_of(b: u32, one: u64, other: u64) -> u32
+    requires { ⌜ b < 64 ⌝ }
+    ensures { λ r. ⌜ r ≡ markOf b one other ⌝ }
 {
     choose(
-        holds(one, f),
+        holds(one, b),
         PRESENT_MARK,
-        choose(holds(other, f), ABSENT_MARK, UNTOUCHED_MARK),
+        choose(holds(other, b), ABSENT_MARK, UNTOUCHED_MARK),
     )
 }
 
-// The mark of step `a` on the question's side.
+// The mark of step `a` on the question's side, by the masks of the block of the fact asked about.
 fn step_mark(q: Asked, masks: &[u64], a: usize) -> u32
-    requires { ⌜ (q .fact < mostFacts) × (maskWords * a + maskWords ≤ length (now masks)) ⌝ }
+    requires { ⌜ maskWords * a + maskWords ≤ length (now masks) ⌝ }
     ensures { λ r. ⌜ r ≡ stepMark q (now (masks .entry)) a ⌝ }
 {
     let at = MASK_WORDS * a + choose(q.first, 0, 1) as usize;
-    mark_of(q.fact, masks[at], masks[at + 1])
-}
-
-// The mark of a check of fact `f` on the question's side.
-fn check_mark(q: Asked, f: u32) -> u32
-    ensures { λ r. ⌜ r ≡ checkMark q f ⌝ }
-{
-    choose(q.first & (f == q.fact), PRESENT_MARK, UNTOUCHED_MARK)
+    mark_of(fact_bit(q), masks[at], masks[at + 1])
 }
 
 // The rank of an item by its mark: 0 where it is the mark asked for, or where any will do.
@@ -72,17 +66,36 @@ fn mark_rank(all: bool, q: Asked, mark: u32) -> u32
     choose(all | (mark == q.mark), 0, q.none)
 }
 
-// Writes the ranks of the checks into a table: those of all facts that there may be stand from word `none` on.
+// Writes one rank into so many words of a table, from index `from` on.
+fn fill(ranks: &mut [u32], from: usize, count: usize, rank: u32)
+    requires { ⌜ from + count ≤ length (now ranks) ⌝ }
+    ensures { λ _. ⌜ Written from (from + count) (λ _. rank) (now (ranks .entry)) (now (ranks .exit)) ⌝ }
+{
+    let mut j = 0;
+    while j < count {
+        ranks[from + j] = rank;
+        j += 1;
+    }
+}
+
+// Writes the ranks of the checks into a table: those of all facts that there may be stand from word `none` on. They are alike but for that of
+// the fact asked about, since every other check leaves the fact untouched.
 fn write_check_ranks(all: bool, q: Asked, ranks: &mut [u32])
-    requires { ⌜ firstStep (q .none) ≤ length (now ranks) ⌝ }
+    requires { ⌜ (q .fact < mostFacts) × (firstStep (q .none) ≤ length (now ranks)) ⌝ }
     ensures { λ _. ⌜ Written (q .none) (firstStep (q .none)) (checkRank all q) (now (ranks .entry)) (now (ranks .exit)) ⌝ }
 {
     let base = q.none as usize;
-    let mut f = 0;
-    while f < MOST_FACTS {
-        ranks[base + f as usize] = mark_rank(all, q, check_mark(q, f));
-        f += 1;
-    }
+    fill(
+        ranks,
+        base,
+        MOST_FACTS as usize,
+        mark_rank(all, q, UNTOUCHED_MARK),
+    );
+    ranks[base + q.fact as usize] = mark_rank(
+        all,
+        q,
+        choose(q.first, PRESENT_MARK, UNTOUCHED_MARK),
+    );
 }
 
 // Writes the ranks of the steps into a table: they stand after those of the checks.
@@ -98,11 +111,12 @@ fn write_step_ranks(all: bool, q: Asked, masks: &[u64], ranks: &mut [u32])
     }
 }
 
-// Writes the ranks of the items into a table.
+// Writes the ranks of the items into a table, and that no sequence has a rank yet.
 pub fn write_item_ranks(all: bool, q: Asked, masks: &[u64], ranks: &mut [u32])
     requires { ⌜ ItemsRankable q (now masks) (now ranks) ⌝ }
     ensures { λ _. ⌜ ItemsRanked all q (now (masks .entry)) (now (ranks .entry)) (now (ranks .exit)) ⌝ }
 {
+    fill(ranks, 0, q.none as usize, q.none);
     write_check_ranks(all, q, ranks);
     write_step_ranks(all, q, masks, ranks);
 }

@@ -12,6 +12,7 @@ use lib.Seq.{getD-drop}
 use lib.Dec.{leb}
 use borrow.Author.Tests.{leb-true}
 use Rattle.general.proofs.Bools.{and-parts}
+use Rattle.image.specs.Word.{mostSteps}
 use Rattle.image.specs.declared.answer.Head.{Head}
 use Rattle.rules.specs.Checked.{accepts}
 use Rattle.rules.specs.Rules.{opened}
@@ -24,7 +25,7 @@ use Rattle.general.specs.Numbers.{Zeros, Complete}
 use Rattle.callers.specs.Callers.{CallersAsked, CallersWritten}
 use Rattle.settling.specs.Settling.{Scheduled}
 use Rattle.general.proofs.Numbers.{zeros}
-use Rattle.tables.specs.Tables.{smallSteps, smallSequences, isSmall, TablesAsked, Prepared}
+use Rattle.tables.specs.Tables.{smallSteps, smallSequences, isSmall, MasksAsked, TablesAsked, Prepared}
 
 -- ---- the size of an image
 
@@ -38,7 +39,7 @@ module _ (image : List ℕ) (h : Head) (accepted : accepts image h) where
   pub image-long : 2 ≤ length image
   image-long = faultless image h accepted .low
 
-  pub few-steps : h .steps ≤ 1024
+  pub few-steps : h .steps ≤ mostSteps
   few-steps = faultless image h accepted .steps-high
 
   pub few-sequences : h .sequences ≤ 256
@@ -46,16 +47,17 @@ module _ (image : List ℕ) (h : Head) (accepted : accepts image h) where
 
   -- areas of zeros for so many steps and sequences
   pub areas-asked : (steps sequences : ℕ) → h .steps ≤ steps → h .sequences ≤ sequences
-      → TablesAsked h image (replicate (3 * steps) 0) (replicate sequences 0) (replicate (4 * sequences) 0) (replicate sequences 0)
-  areas-asked steps sequences a c =
-      record {
-        accepted = accepted;
-        masks-room = omega (arith, length-replicate {A = ℕ} (3 * steps) 0);
-        places-room = omega (arith, length-replicate {A = ℕ} sequences 0);
-        callers-room = omega (arith, length-replicate {A = ℕ} (4 * sequences) 0);
-        callers-blank = zeros (4 * sequences);
-        order-room = omega (arith, length-replicate {A = ℕ} sequences 0);
-      }
+      → MasksAsked h image (replicate (3 * steps) 0) × TablesAsked h image (replicate sequences 0) (replicate (4 * sequences) 0) (replicate sequences 0)
+  areas-asked steps sequences a c = (
+    record { accepted = accepted; room = omega (arith, length-replicate {A = ℕ} (3 * steps) 0) },
+    record {
+      accepted = accepted;
+      places-room = omega (arith, length-replicate {A = ℕ} sequences 0);
+      callers-room = omega (arith, length-replicate {A = ℕ} (4 * sequences) 0);
+      callers-blank = zeros (4 * sequences);
+      order-room = omega (arith, length-replicate {A = ℕ} sequences 0);
+    },
+  )
 
 -- ---- the places
 
@@ -91,19 +93,20 @@ module _ (image : List ℕ) (h : Head) (accepted : accepts image h) {part : List
 
 -- ---- what the makers ask, and what they have made
 
-module _ {h : Head} {image ms₀ ps₀ callers₀ order₀ : List ℕ} (asked : TablesAsked h image ms₀ ps₀ callers₀ order₀) where
+module _ {h : Head} {image ms₀ : List ℕ} (asked : MasksAsked h image ms₀) where
   pub steps-asked : {first : List ℕ} → first ≡ stepsPart image → StepsAsked h first ms₀
   steps-asked e =
       let p = parts image h (asked .accepted) in
       subst (λ (x : List ℕ). StepsAsked h x ms₀) (sym e)
-      (record {
-        facts = faultless image h (asked .accepted) .facts-high;
-        words = p .steps;
-        numbered = p .steps-numbered;
-        opened = p .steps-opened;
-        room = asked .masks-room;
-      })
+      (record { words = p .steps; numbered = p .steps-numbered; opened = p .steps-opened; room = asked .room })
 
+  pub masked : (k : ℕ) {first ms : List ℕ} → first ≡ stepsPart image → ms ≡ masks k (stepsFrom first) ++ drop (3 * h .steps) ms₀
+      → ms ≡ masks k (libraryOf image .steps) ++ drop (3 * h .steps) ms₀
+  masked k first made =
+      made
+      ∙ ap (λ (x : List Step). masks k x ++ drop (3 * h .steps) ms₀) (ap stepsFrom first ∙ ap (λ (L : Library). L .steps) (sym (library-is image h (asked .accepted))))
+
+module _ {h : Head} {image ps₀ callers₀ order₀ : List ℕ} (asked : TablesAsked h image ps₀ callers₀ order₀) where
   pub sequences-asked : {part : List ℕ} → part ≡ sequencesPart image → SequencesAsked h part ps₀
   sequences-asked e = places-asked image h (asked .accepted) e (asked .places-room)
 
@@ -117,12 +120,10 @@ module _ {h : Head} {image ms₀ ps₀ callers₀ order₀ : List ℕ} (asked : 
         zeros = asked .callers-blank;
       }
 
-  pub prepared : {first part ms ps callers order : List ℕ} → first ≡ stepsPart image → part ≡ sequencesPart image
-      → ms ≡ masks (stepsFrom first) ++ drop (3 * h .steps) ms₀ → ps ≡ placesFrom 0 part ++ drop (h .sequences) ps₀
-      → CallersWritten (h .sequences) part ps callers → Complete (take (h .sequences) order) (h .sequences) → Prepared h image ms₀ ps₀ ms ps callers order
-  prepared {ps = ps} {callers = callers} first part masked placed called complete =
+  pub prepared : {part ps callers order : List ℕ} → part ≡ sequencesPart image → ps ≡ placesFrom 0 part ++ drop (h .sequences) ps₀
+      → CallersWritten (h .sequences) part ps callers → Complete (take (h .sequences) order) (h .sequences) → Prepared h image ps₀ ps callers order
+  prepared {ps = ps} {callers = callers} part placed called complete =
       record {
-        masked = masked ∙ ap (λ (x : List Step). masks x ++ drop (3 * h .steps) ms₀) (ap stepsFrom first ∙ ap (λ (L : Library). L .steps) (sym (library-is image h (asked .accepted))));
         placed = placed ∙ ap (λ (x : List ℕ). placesFrom 0 x ++ drop (h .sequences) ps₀) part;
         called = subst (λ (x : List ℕ). CallersWritten (h .sequences) x ps callers) part called;
         complete = complete;
@@ -136,22 +137,21 @@ past-blank [] rest blank k = blank k
 past-blank (x ∷ xs) rest blank zero = refl
 past-blank (x ∷ xs) rest blank (suc k) = past-blank xs rest blank k
 
-blank-drop : (n : ℕ) (area : List ℕ) → Zeros area → Zeros (drop n area)
+pub blank-drop : (n : ℕ) (area : List ℕ) → Zeros area → Zeros (drop n area)
 blank-drop n area blank k = getD-drop n area k 0 ∙ blank (n + k)
 
-module _ {h : Head} {image ms₀ ps₀ ms ps callers order : List ℕ} (accepted : accepts image h) (made : Prepared h image ms₀ ps₀ ms ps callers order) where
-  -- the masks of step a, by a blank area; past the steps, those of one that names no fact
-  pub step-masks : Zeros ms₀ → (a : ℕ)
-      → (getD ms (3 * a) 0 ≡ maskOf (getD (libraryOf image .steps) a noFacts .needs))
-      × (getD ms (3 * a + 1) 0 ≡ maskOf (getD (libraryOf image .steps) a noFacts .sets))
-      × (getD ms (3 * a + 2) 0 ≡ maskOf (getD (libraryOf image .steps) a noFacts .clears))
-  step-masks blank a =
-      let ss = libraryOf image .steps in
-      let word : (k : ℕ) → getD ms k 0 ≡ getD (masks ss) k 0 =
-      λ k. ap (λ (x : List ℕ). getD x k 0) (made .masked) ∙ past-blank (masks ss) _ (blank-drop (3 * h .steps) ms₀ blank) k in
-      let words = words-at ss a in
-      (word (3 * a) ∙ words .0, word (3 * a + 1) ∙ words .1, word (3 * a + 2) ∙ words .2)
+-- the masks of step a, where words past the masks are 0; past the steps, those of one that names no fact
+pub step-masks : (h : Head) (k : ℕ) (ss : List Step) (ms₀ : List ℕ) {ms : List ℕ} → ms ≡ masks k ss ++ drop (3 * h .steps) ms₀ → Zeros (drop (3 * h .steps) ms₀) → (a : ℕ)
+    → (getD ms (3 * a) 0 ≡ maskOf k (getD ss a noFacts .needs))
+    × (getD ms (3 * a + 1) 0 ≡ maskOf k (getD ss a noFacts .sets))
+    × (getD ms (3 * a + 2) 0 ≡ maskOf k (getD ss a noFacts .clears))
+step-masks h k ss ms₀ {ms} made blank a =
+    let word : (i : ℕ) → getD ms i 0 ≡ getD (masks k ss) i 0 =
+    λ i. ap (λ (x : List ℕ). getD x i 0) made ∙ past-blank (masks k ss) _ blank i in
+    let words = words-at k ss a in
+    (word (3 * a) ∙ words .0, word (3 * a + 1) ∙ words .1, word (3 * a + 2) ∙ words .2)
 
+module _ {h : Head} {image ps₀ ps callers order : List ℕ} (accepted : accepts image h) (made : Prepared h image ps₀ ps callers order) where
   module _ {part : List ℕ} (sequences : part ≡ sequencesPart image) where
     -- the library's sequences stand in the part
     pub sequences-are : libraryOf image .sequences ≡ sequencesFrom part

@@ -1,19 +1,20 @@
--- Numerals: one digit, one digit more, and how many there are; and a numeral written from its last digit to its first.
+-- Numerals: one digit, one digit more, how many there are, and a number in two pieces; a numeral, and so many digits, written from the last digit
+-- to the first.
 -- Assumes nothing.
-use Prim.Native.Nat.{ℕ, zero, suc, _+_, _*_, _/_, _%_, _^_, _≤_, _<_}
-use native.Mathlib.Nat.{one-mul, pow-zero, pow-suc, div-lt-self, div-le-self, div-lt-iff-lt-mul}
+use Prim.Native.Nat.{ℕ, zero, suc, _+_, _*_, _-_, _/_, _%_, _^_, _≤_, _<_}
+use native.Mathlib.Nat.{one-mul, mul-assoc, mul-pos, le-mul-of-pos-right, pow-zero, pow-suc, pow-succ', one-le-pow, div-lt-self, div-le-self, div-lt-iff-lt-mul}
+use native.Mathlib.Nat.{add-mul-div-left, add-mul-mod-self-left}
 use native.Mathlib.Decide.{le-ind, decLt}
 use native.Mathlib.Omega.{arith}
-use mathlib.Core.Path.{_≡_, refl, sym, ap, _∙_, subst}
+use mathlib.Core.Path.{_≡_, refl, sym, ap, ap₂, _∙_, subst}
 use mathlib.Core.Logic.{_⊎_, inl, inr, ⊎-elim}
 use mathlib.Core.Bool.{Bool, cond}
-use mathlib.Core.List.{List, [], _∷_, _++_, append-assoc}
+use mathlib.Core.List.{List, [], _∷_, _++_, append-nil, append-assoc}
 use lib.ListN.{length, drop, length-append}
 use lib.Dec.{ltb}
 use borrow.Author.Tests.{lt-ltb, le-ltb}
-use Rattle.text.specs.Text.{InFront}
-use Rattle.text.specs.Number.{digit, numeralIn, numeral}
-use Rattle.text.specs.Text.{NumeralAsked}
+use Rattle.text.specs.Text.{InFront, DigitsAsked}
+use Rattle.text.specs.Number.{digit, numeralIn, numeral, digitsIn}
 
 below-or-not : (n b : ℕ) → (n < b) ⊎ (b ≤ n)
 below-or-not n b = elim (decLt n b) [ yes p ↦ inl p | no p ↦ inr (omega arith) ]
@@ -64,6 +65,28 @@ module _ (b : ℕ) (two : 2 ≤ b) where
       let front = numeral-length k (n / b) less in
       ⊎-elim (λ s. omega (arith, ap length (numeral-digit n s))) (λ s. omega (arith, length-more n s)) (below-or-not n b)
 
+  -- a number in two pieces: the numeral of the higher one, if it is not 0, and then the digits of the lower one
+  pub numeral-digits : (k w y : ℕ) → w < b ^ k → 0 < y → numeral b (w + b ^ k * y) ≡ numeral b y ++ digitsIn b k w
+  unfolding digitsIn
+  numeral-digits zero w y l some =
+      let none : w ≡ 0 = omega (arith, subst (λ (p : ℕ). w < p) (pow-zero b) l) in
+      let all : w + b ^ 0 * y ≡ y = ap₂ (λ (v p : ℕ). v + p * y) none (pow-zero b) ∙ omega arith in
+      ap (numeral b) all ∙ sym (append-nil (numeral b y))
+  numeral-digits (suc k) w y l some =
+      let high = b ^ k * y in
+      let whole : w + b ^ suc k * y ≡ w + b * high = ap (λ (p : ℕ). w + p) (ap (λ (p : ℕ). p * y) (pow-succ' b k) ∙ mul-assoc b (b ^ k) y) in
+      let large : b ≤ b * high = le-mul-of-pos-right b (mul-pos (one-le-pow k b (omega arith)) some) in
+      let less : w / b < b ^ k = div-lt-iff-lt-mul {k = b} (omega arith) .1 (subst (λ (p : ℕ). w < p) (pow-suc b k) l) in
+      ap (numeral b) whole ∙ numeral-more (w + b * high) (omega arith)
+      ∙ ap₂ (λ (q r : ℕ). numeral b q ++ (digit r ∷ [])) (add-mul-div-left w high (omega arith)) (add-mul-mod-self-left w b high)
+      ∙ ap (λ (front : List ℕ). front ++ (digit (w % b) ∷ [])) (numeral-digits k (w / b) y less some)
+      ∙ append-assoc (numeral b y) (digitsIn b k (w / b)) (digit (w % b) ∷ [])
+
+pub length-digits : (b k n : ℕ) → length (digitsIn b k n) ≡ k
+unfolding digitsIn
+length-digits b zero n = refl
+length-digits b (suc k) n = omega (arith, length-append (digitsIn b k (n / b)) (digit (n % b) ∷ []), length-digits b k (n / b))
+
 -- ---- a numeral put digit by digit
 
 -- what is left of the numeral, and what stands behind it, make the whole
@@ -73,7 +96,7 @@ pub record DigitsAt (area₀ : List ℕ) (at b n : ℕ) (area : List ℕ) (rest 
   pub room : start + length (numeral b n) ≡ at + length (numeral b rest)
   pub whole : numeral b rest ++ drop start area ≡ numeral b n ++ drop at area₀
 
-module _ (area₀ : List ℕ) (at b n : ℕ) (asked : NumeralAsked area₀ at b n) where
+module _ (area₀ : List ℕ) (at b n : ℕ) (asked : DigitsAsked area₀ at b (length (numeral b n))) where
   pub digits-start : DigitsAt area₀ at b n area₀ n at
   digits-start = record { long = refl; within = omega arith; room = refl; whole = refl }
 
@@ -105,4 +128,49 @@ module _ (area₀ : List ℕ) (at b n : ℕ) (asked : NumeralAsked area₀ at b 
           long = q .long ∙ p .long;
           room = omega (arith, p .room, q .room, ap length last);
           text = q .text ∙ ap (λ (t : List ℕ). t ++ drop start area) (sym last) ∙ p .whole;
+        }
+
+-- ---- so many digits put one by one
+
+-- the digits that are left, and what stands behind them, make all of them
+pub record CountedAt (area₀ : List ℕ) (at b k n : ℕ) (area : List ℕ) (left rest start : ℕ) : Type 0 where
+  pub long : length area ≡ length area₀
+  pub within : start ≤ at
+  pub room : start + k ≡ at + left
+  pub whole : digitsIn b left rest ++ drop start area ≡ digitsIn b k n ++ drop at area₀
+
+module _ (area₀ : List ℕ) (at b k n : ℕ) where
+  pub counted-start : CountedAt area₀ at b k n area₀ k n at
+  counted-start = record { long = refl; within = omega arith; room = refl; whole = refl }
+
+  module _ (area : List ℕ) (left rest start : ℕ) (p : CountedAt area₀ at b k n area left rest start) where
+    pub counted-room : DigitsAsked area₀ at b k → 0 < left → (0 < start) × (start ≤ length area)
+    counted-room asked l = omega (arith, asked .room, asked .within, p .long, p .within, p .room)
+
+    pub counted-next : 0 < left → (d : ℕ) → d ≡ digit (rest % b) → (area′ : List ℕ) (start′ : ℕ) → InFront area start area′ start′ (d ∷ [])
+        → CountedAt area₀ at b k n area′ (left - 1) (rest / b) start′
+    unfolding digitsIn
+    counted-next l d e area′ start′ put =
+        let q = subst (λ (x : ℕ). InFront area start area′ start′ (x ∷ [])) e put in
+        let front = digitsIn b (left - 1) (rest / b) in
+        let back : suc (left - 1) ≡ left = omega arith in
+        record {
+          long = q .long ∙ p .long;
+          within = omega (arith, p .within, q .room);
+          room = omega (arith, p .room, q .room);
+          whole =
+              ap (λ (t : List ℕ). front ++ t) (q .text)
+              ∙ sym (append-assoc front (digit (rest % b) ∷ []) (drop start area))
+              ∙ ap (λ (j : ℕ). digitsIn b j rest ++ drop start area) back
+              ∙ p .whole;
+        }
+
+    pub counted-end : left ≤ 0 → InFront area₀ at area start (digitsIn b k n)
+    unfolding digitsIn
+    counted-end none =
+        let zero-left : 0 ≡ left = omega arith in
+        record {
+          long = p .long;
+          room = omega (arith, p .room, length-digits b k n);
+          text = ap (λ (j : ℕ). digitsIn b j rest ++ drop start area) zero-left ∙ p .whole;
         }

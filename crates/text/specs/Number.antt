@@ -19,3 +19,8 @@ numeralIn b (suc k) n =
 -- the numeral of n in base b: n has no more than n + 1 digits
 unfoldable pub numeral : ℕ → ℕ → List ℕ
 numeral b n = numeralIn b n n
+
+-- the k digits of n in base b, zeros in front of it among them: the last of them is the digit of n % b
+unfoldable pub digitsIn : ℕ → ℕ → ℕ → List ℕ
+digitsIn b zero n = []
+digitsIn b (suc k) n = digitsIn b k (n / b) ++ (digit (n % b) ∷ [])

@@ -3,7 +3,6 @@ use Prim.Native.Nat.{ℕ, _+_, _≤_}
 use mathlib.Core.Path.{_≡_}
 use mathlib.Core.List.{List, _++_}
 use lib.ListN.{length, drop}
-use Rattle.text.specs.Number.{numeral}
 
 -- In area₀ a text begins at `at`. In `area` it begins at `start`, with `new` in front of what there was.
 pub record InFront (area₀ : List ℕ) (at : ℕ) (area : List ℕ) (start : ℕ) (new : List ℕ) : Type 0 where
@@ -16,9 +15,9 @@ pub record PutWithin (most : ℕ) (area₀ : List ℕ) (at : ℕ) (area : List �
   pub put : InFront area₀ at area start new
   pub within : at ≤ start + most
 
--- what the writer of a numeral asks: a base with digits, and room in front of the text that begins at `at`
-pub record NumeralAsked (area : List ℕ) (at b n : ℕ) : Type 0 where
+-- what a writer of k digits asks: a base with digits, and room in front of the text that begins at `at`
+pub record DigitsAsked (area : List ℕ) (at b k : ℕ) : Type 0 where
   pub low : 2 ≤ b
   pub high : b ≤ 16
-  pub room : length (numeral b n) ≤ at
+  pub room : k ≤ at
   pub within : at ≤ length area

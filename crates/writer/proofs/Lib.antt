@@ -1,1 +1,3 @@
-pub mod Cards
+pub mod Loops
+pub mod Blocks
+pub mod Below

@@ -1,13 +1,13 @@
--- Cards in the form that the code follows: each word of a card from the words of the sequence's row of the outcome table.
-use Prim.Native.Nat.{ℕ, zero, suc, _+_, _*_, _%_}
-use mathlib.Core.List.{List, [], _∷_, _++_}
-use lib.ListN.{getD, set, take, drop}
+-- The numbers of a block of 64 facts in the form that the code follows: the flags and the word of each column, from the words of the sequence's
+-- row of the outcome table.
+use Prim.Native.Nat.{ℕ, _+_, _*_, _%_}
+use mathlib.Core.List.{List, [], _∷_}
+use lib.ListN.{getD, set}
 use lib.Bits.{bitOr}
 use lib.Count.{ones}
 use Rattle.column.specs.Sets.{difference}
 use Rattle.runs.specs.Touch.{Mark, present, absent, untouched, Side, last, first}
 use Rattle.runs.specs.Rows.{columnNumber, clearedColumn, unmentionedColumn}
-use Rattle.row.specs.Words.{rowWords}
 
 -- the flags from the columns "a run exists", "an empty run exists", "last set" and "last cleared"
 abbrev pub flagsOf : ℕ → ℕ → ℕ → ℕ → ℕ
@@ -30,7 +30,7 @@ clearedWord row = getD row clearedColumn 0
 abbrev pub unmentionedWord : List ℕ → ℕ
 unmentionedWord row = getD row unmentionedColumn 0
 
--- a part with the flags, "always needed" and the three "may" columns of document 01 written
+-- numbers with the flags, "always needed" and the three "may" columns of document 01 written
 abbrev pub withMay : List ℕ → List ℕ → List ℕ
 withMay row part =
     set
@@ -59,21 +59,12 @@ withRest row part =
     11 (clearedWord row))
     12 (unmentionedWord row)
 
--- the card of a row
-unfoldable pub rowCard : List ℕ → List ℕ
-rowCard row =
+-- the numbers of a row
+unfoldable pub rowNumbers : List ℕ → List ℕ
+rowNumbers row =
     flagsOf (runWord row) (getD row 1 0) (sideWord row last present) (sideWord row last absent)
     ∷ alwaysOf (runWord row) (sideWord row first absent) (sideWord row first untouched) ∷ sideWord row first present ∷ sideWord row last present
     ∷ sideWord row last absent ∷ alwaysOf (runWord row) (sideWord row last absent) (sideWord row last untouched)
     ∷ alwaysOf (runWord row) (sideWord row last present) (sideWord row last untouched)
     ∷ alwaysOf (runWord row) (clearedWord row) (unmentionedWord row) ∷ sideWord row first absent ∷ sideWord row first untouched
     ∷ sideWord row last untouched ∷ clearedWord row ∷ unmentionedWord row ∷ []
-
--- row c of a table
-abbrev pub rowAt : List ℕ → ℕ → List ℕ
-rowAt table c = take rowWords (drop (rowWords * c) table)
-
--- the cards of n rows from row c on
-unfoldable pub tableCards : List ℕ → ℕ → ℕ → List ℕ
-tableCards table c zero = []
-tableCards table c (suc n) = rowCard (rowAt table c) ++ tableCards table (suc c) n

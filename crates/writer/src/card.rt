@@ -1,8 +1,7 @@
-// The card writer: a card from a row of the outcome table, and the cards of all sequences.
+// The numbers of a card: the flags and the columns, each of them a word for a block of 64 facts, from a row of the block's outcome table.
 use column::sets::count;
 use column::sets::union;
 use column::sets::without;
-use image::word::MOST_SEQUENCES;
 use row::words::CLEARED;
 use row::words::EMPTY_RUN;
 use row::words::FIRST_NEEDED;
@@ -11,18 +10,15 @@ use row::words::FIRST_UNTOUCHED;
 use row::words::LAST_CLEARED;
 use row::words::LAST_SET;
 use row::words::LAST_UNTOUCHED;
-use row::words::ROW_WORDS;
 use row::words::RUN;
 use row::words::UNMENTIONED;
 ghost use mathlib.Core.Path.{_≡_};
-ghost use mathlib.Core.List.{_++_};
-ghost use Prim.Native.Nat.{_*_, _≤_};
-ghost use lib.ListN.{length, drop};
-ghost use Rattle.cards.specs.Layout.{cardWords};
+ghost use lib.ListN.{length};
+ghost use Rattle.cards.specs.Layout.{cardNumbers};
 ghost use Rattle.row.specs.Words.{rowWords};
-ghost use Rattle.writer.specs.Card.{flagsOf, alwaysOf, withMay, withLeft, withRest, rowCard, tableCards};
+ghost use Rattle.writer.specs.Card.{flagsOf, alwaysOf, withMay, withLeft, withRest, rowNumbers};
 
-// The words of a card, in their order.
+// The numbers of a card, in their order.
 pub const FLAGS: usize = 0;
 
 pub const ALWAYS_NEEDED: usize = 1;
@@ -50,17 +46,16 @@ pub const MAY_END_CLEARED: usize = 11;
 
 pub const MAY_END_UNMENTIONED: usize = 12;
 
-pub const CARD_WORDS: usize = 13;
+pub const COLUMNS: usize = 12;
 
-// The words of all cards, for every image.
-pub const MOST_CARD_WORDS: usize = CARD_WORDS * MOST_SEQUENCES as usize;
+pub const CARD_NUMBERS: usize = 1 + COLUMNS;
 
 // In the flags, "an empty run exists" is bit 1, and the number of changeable facts stands from bit 8 on.
-const EMPTY_FROM: u64 = 0x2;
+pub const EMPTY_FROM: u64 = 0x2;
 
-const COUNT_FROM: u64 = 0x100;
+pub const COUNT_FROM: u64 = 0x100;
 
-// The flags word: a run exists, an empty run exists, and the number of facts that some run sets or clears last.
+// The flags: a run exists, an empty run exists, and the number of facts that some run sets or clears last.
 pub fn flags(run: u64, empty: u64, set: u64, cleared: u64) -> u64
     ensures { λ r. ⌜ r ≡ flagsOf run empty set cleared ⌝ }
 {
@@ -76,66 +71,50 @@ fn always(run: u64, rival: u64, untouched: u64) -> u64
 }
 
 // Writes the flags, "always needed" and the three "may" columns of document 01.
-fn write_may(row: &[u64], part: &mut [u64])
-    requires { ⌜ (length (now row) ≡ rowWords) × (length (now part) ≡ cardWords) ⌝ }
-    ensures { λ _. ⌜ now (part .exit) ≡ withMay (now (row .entry)) (now (part .entry)) ⌝ }
+fn write_may(row: &[u64], numbers: &mut [u64])
+    requires { ⌜ (length (now row) ≡ rowWords) × (length (now numbers) ≡ cardNumbers) ⌝ }
+    ensures { λ _. ⌜ now (numbers .exit) ≡ withMay (now (row .entry)) (now (numbers .entry)) ⌝ }
 {
     let run = row[RUN];
     let set = row[LAST_SET];
     let cleared = row[LAST_CLEARED];
-    part[FLAGS] = flags(run, row[EMPTY_RUN], set, cleared);
-    part[ALWAYS_NEEDED] = always(run, row[FIRST_SET], row[FIRST_UNTOUCHED]);
-    part[MAY_NEED] = row[FIRST_NEEDED];
-    part[MAY_SET] = set;
-    part[MAY_CLEAR] = cleared;
+    numbers[FLAGS] = flags(run, row[EMPTY_RUN], set, cleared);
+    numbers[ALWAYS_NEEDED] = always(run, row[FIRST_SET], row[FIRST_UNTOUCHED]);
+    numbers[MAY_NEED] = row[FIRST_NEEDED];
+    numbers[MAY_SET] = set;
+    numbers[MAY_CLEAR] = cleared;
 }
 
 // Writes the "always" columns that say how a fact is left.
-fn write_left(row: &[u64], part: &mut [u64])
-    requires { ⌜ (length (now row) ≡ rowWords) × (length (now part) ≡ cardWords) ⌝ }
-    ensures { λ _. ⌜ now (part .exit) ≡ withLeft (now (row .entry)) (now (part .entry)) ⌝ }
+fn write_left(row: &[u64], numbers: &mut [u64])
+    requires { ⌜ (length (now row) ≡ rowWords) × (length (now numbers) ≡ cardNumbers) ⌝ }
+    ensures { λ _. ⌜ now (numbers .exit) ≡ withLeft (now (row .entry)) (now (numbers .entry)) ⌝ }
 {
     let run = row[RUN];
     let untouched = row[LAST_UNTOUCHED];
-    part[ALWAYS_SET] = always(run, row[LAST_CLEARED], untouched);
-    part[ALWAYS_CLEARED] = always(run, row[LAST_SET], untouched);
-    part[ALWAYS_STANDS] = always(run, row[CLEARED], row[UNMENTIONED]);
+    numbers[ALWAYS_SET] = always(run, row[LAST_CLEARED], untouched);
+    numbers[ALWAYS_CLEARED] = always(run, row[LAST_SET], untouched);
+    numbers[ALWAYS_STANDS] = always(run, row[CLEARED], row[UNMENTIONED]);
 }
 
-// Writes the five columns by which cards are put together: those of the row that no word before has.
-fn write_rest(row: &[u64], part: &mut [u64])
-    requires { ⌜ (length (now row) ≡ rowWords) × (length (now part) ≡ cardWords) ⌝ }
-    ensures { λ _. ⌜ now (part .exit) ≡ withRest (now (row .entry)) (now (part .entry)) ⌝ }
+// Writes the five columns by which cards are put together: those of the row that no column before has.
+fn write_rest(row: &[u64], numbers: &mut [u64])
+    requires { ⌜ (length (now row) ≡ rowWords) × (length (now numbers) ≡ cardNumbers) ⌝ }
+    ensures { λ _. ⌜ now (numbers .exit) ≡ withRest (now (row .entry)) (now (numbers .entry)) ⌝ }
 {
-    part[MAY_FIRST_SET] = row[FIRST_SET];
-    part[MAY_FIRST_UNTOUCHED] = row[FIRST_UNTOUCHED];
-    part[MAY_LAST_UNTOUCHED] = row[LAST_UNTOUCHED];
-    part[MAY_END_CLEARED] = row[CLEARED];
-    part[MAY_END_UNMENTIONED] = row[UNMENTIONED];
+    numbers[MAY_FIRST_SET] = row[FIRST_SET];
+    numbers[MAY_FIRST_UNTOUCHED] = row[FIRST_UNTOUCHED];
+    numbers[MAY_LAST_UNTOUCHED] = row[LAST_UNTOUCHED];
+    numbers[MAY_END_CLEARED] = row[CLEARED];
+    numbers[MAY_END_UNMENTIONED] = row[UNMENTIONED];
 }
 
-// Writes a sequence's card into its own part of the card area, from its row of the outcome table.
-pub fn write_card(row: &[u64], part: &mut [u64])
-    requires { ⌜ (length (now row) ≡ rowWords) × (length (now part) ≡ cardWords) ⌝ }
-    ensures { λ _. ⌜ now (part .exit) ≡ rowCard (now (row .entry)) ⌝ }
+// Writes the numbers of a sequence, from its row of the outcome table.
+pub fn write_numbers(row: &[u64], numbers: &mut [u64])
+    requires { ⌜ (length (now row) ≡ rowWords) × (length (now numbers) ≡ cardNumbers) ⌝ }
+    ensures { λ _. ⌜ now (numbers .exit) ≡ rowNumbers (now (row .entry)) ⌝ }
 {
-    write_may(row, part);
-    write_left(row, part);
-    write_rest(row, part);
-}
-
-// Writes the cards of the first `n` sequences, sequence 0 first. Words past them stay.
-pub fn write_cards(n: usize, table: &[u64], area: &mut [u64])
-    requires { ⌜ (rowWords * n ≤ length (now table)) × (cardWords * n ≤ length (now area)) ⌝ }
-    ensures { λ _. ⌜ now (area .exit) ≡ tableCards (now (table .entry)) 0 n ++ drop (cardWords * n) (now (area .entry)) ⌝ }
-{
-    let mut c = 0;
-    while c < n {
-        let row = ROW_WORDS * c;
-        let row_end = row + ROW_WORDS;
-        let at = CARD_WORDS * c;
-        let end = at + CARD_WORDS;
-        write_card(&table[row..row_end], &mut area[at..end]);
-        c += 1;
-    }
+    write_may(row, numbers);
+    write_left(row, numbers);
+    write_rest(row, numbers);
 }

@@ -6,18 +6,20 @@ use native.Mathlib.Nat.{one-mul}
 use native.Mathlib.Omega.{arith}
 use mathlib.Core.Path.{_≡_, sym, ap, _∙_}
 use lib.Pow.{shl-exact, pow-pos}
-use Rattle.column.specs.Column.{columnWidth}
 use Rattle.column.proofs.all_below.Statement.{statement}
 use Rattle.column.proofs.all_below.Tie as tie
 use Rattle.column.proofs.all_below.Reads as reads
 use Rattle.column.proofs.all_below.Lts as lts
 
-shifted : (f : ℕ) → f < columnWidth → 1 * 2 ^ f % 2 ^ columnWidth ≡ 2 ^ f
+shifted : (f : ℕ) → f < 64 → 1 * 2 ^ f % 2 ^ 64 ≡ 2 ^ f
 shifted f l = shl-exact {a = 1} 1 f 64 (omega arith) (omega arith) ∙ one-mul _
+
+cast-if1 : tie.Need-cast-if1
+cast-if1 c = search needs
 
 returns : tie.Need-returns
 returns c =
-    let wide : min (c .before .args .facts) columnWidth ≡ columnWidth = omega (arith, c .if1 .taken) in
+    let wide : min (c .before .args .facts) 64 ≡ 64 = omega (arith, c .if1 .taken) in
     ap (λ (n : ℕ). 2 ^ n - 1) (sym wide)
 
 cast-result : tie.Need-cast-result
@@ -35,9 +37,9 @@ sub-result c = let f = c .before .args .facts in omega (arith, shifted f (c .if1
 returns-2 : tie.Need-returns-2
 returns-2 c =
     let f = c .before .args .facts in
-    let low : f ≡ min f columnWidth = omega (arith, c .if1 .left) in
+    let low : f ≡ min f 64 = omega (arith, c .if1 .left) in
     ap (λ (n : ℕ). n - 1) (shifted f (c .if1 .left)) ∙ ap (λ (n : ℕ). 2 ^ n - 1) low
 
 pub all-below-spec : {M : Type 1} → statement M
 all-below-spec =
-    tie.close (tie.spec returns cast-result cast-result-2 shl-result sub-result returns-2)
+    tie.close (tie.spec cast-if1 returns cast-result cast-result-2 shl-result sub-result returns-2)

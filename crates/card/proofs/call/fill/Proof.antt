@@ -1,6 +1,7 @@
 -- `card::call::fill` meets its contract: too little room, or the cards.
 -- Assumes nothing.
 use borrow.Author.Needs.{needs}
+use native.Mathlib.Omega.{arith}
 use mathlib.Core.Path.{sym, _∙_}
 use Rattle.card.proofs.Filled.{call-short, call-filled}
 use Rattle.card.proofs.call.fill.Statement.{statement}
@@ -18,7 +19,7 @@ mul-if1 : tie.Need-mul-if1
 mul-if1 c = search needs
 
 returns : tie.Need-returns
-returns c = let start = c .before .before .before .before in let a = start .args in call-short (a .image .now) (a .area .now) (a .h) (start .pre) (c .if1 .taken)
+returns c = let start = c .before .before .before .before in let a = start .args in call-short (a .image .now) (a .area .now) (a .h) (start .pre) (omega (arith, c .if1 .taken))
 
 is-small-requires : tie.Need-is-small-requires
 is-small-requires c κs = search needs

@@ -5,7 +5,6 @@ use Prim.Native.Nat.{ℕ, _/_}
 use mathlib.Core.Path.{refl, sym, ap, _∙_, subst}
 use mathlib.Core.List.{List}
 use lib.ListN.{length}
-use Rattle.rules.specs.Checked.{checked}
 use Rattle.text.specs.Text.{InFront}
 use Rattle.card_text.specs.Print.{imageText}
 use Rattle.card_text.proofs.Printed.{length-words, words-part}
@@ -42,7 +41,7 @@ returns c =
     let start = written .before .before .before .before in
     let bytes = start .args .bytes .now in
     subst (InFront (start .args .text .now) (length (start .args .text .now)) _ _)
-    (ap (λ (words : List ℕ). imageText (checked words) words) (words-part bytes _ _ (length bytes / 4) refl (written .write-words .ensures)))
+    (ap imageText (words-part bytes _ _ (length bytes / 4) refl (written .write-words .ensures)))
     (c .before .before .print-cards-of .ensures)
 
 pub print-words-spec : {M : Type 1} → statement M

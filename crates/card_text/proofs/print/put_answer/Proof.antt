@@ -6,7 +6,8 @@ use mathlib.Core.Path.{sym, ap, ap₂, _∙_, subst}
 use Rattle.card.specs.declared.answer.Cards.{Cards}
 use Rattle.text.specs.Text.{InFront}
 use Rattle.card_text.specs.Line.{refusalLine}
-use Rattle.card_text.specs.Writers.{answerText}
+use Rattle.card_text.specs.Print.{answerText}
+use Rattle.card_text.specs.Writers.{numbersOf}
 use Rattle.card_text.proofs.print.put_answer.Statement.{statement}
 use Rattle.card_text.proofs.print.put_answer.Tie as tie
 use Rattle.card_text.proofs.print.put_answer.Reads as reads
@@ -47,7 +48,7 @@ returns : tie.Need-returns
 returns c =
     let start = c .before .before .before .before .before .before .before .before .before in
     let found = sym (c .before .before .before .before .before .found .given .1) in
-    subst (InFront (start .args .text .now) (start .args .at) _ _) (ap (λ (f : Cards). answerText f (start .args .cards .now)) found)
+    subst (InFront (start .args .text .now) (start .args .at) _ _) (ap (λ (f : Cards). answerText f (numbersOf (start .args .cards .now))) found)
     (c .before .before .put-lines .ensures)
 
 same-length-2 : tie.Need-same-length-2
@@ -58,7 +59,7 @@ returns-2 c =
     let start = c .before .before .before .before .before .before .before .before .before .before .before in
     let found = sym (c .before .before .before .before .before .before .before .found2 .given .1) in
     subst (InFront (start .args .text .now) (start .args .at) _ _)
-    (ap₂ refusalLine (c .before .before .before .before .number .ensures .0) (c .before .before .before .position .ensures) ∙ ap (λ (f : Cards). answerText f (start .args .cards .now)) found)
+    (ap₂ refusalLine (c .before .before .before .before .number .ensures .0) (c .before .before .before .position .ensures) ∙ ap (λ (f : Cards). answerText f (numbersOf (start .args .cards .now))) found)
     (c .before .before .put-refusal .ensures)
 
 pub put-answer-spec : {M : Type 1} → statement M

@@ -5,18 +5,21 @@ use native.Mathlib.Omega.{arith}
 use mathlib.Core.Path.{sym}
 use lib.ListN.{length}
 use lib.Seq.{length-take-le}
+use Rattle.image.specs.Word.{mostSequences}
 use Rattle.question.specs.Answer as words
 use Rattle.link.proofs.Writing.{answered-same}
 use Rattle.general.proofs.Numbers.{zeros}
 use Rattle.tables.proofs.Tables.{image-long, few-sequences}
-use Rattle.chain.proofs.Finding.{ranks-long, ranks-unranked, tables-asked, masks-made, places-made, tables-findable, found-done}
+use Rattle.chain.proofs.Finding.{ahead-long, behind-long, links-long, masks-asked, tables-asked, masks-made, places-made, tables-findable, found-done}
 use Rattle.chain.proofs.call.find_in.Statement.{statement}
 use Rattle.chain.proofs.call.find_in.Tie as tie
 use Rattle.chain.proofs.call.find_in.Reads as reads
 use Rattle.chain.proofs.call.find_in.Lts as lts
 use Rattle.chain.proofs.call.find_by.Reads as find-by-reads
 use Rattle.library.proofs.parts.sequences_part.Reads as sequences-part-reads
+use Rattle.question.proofs.asked.fact_block.Reads as fact-block-reads
 use Rattle.tables.proofs.prepare.prepare.Reads as prepare-reads
+use Rattle.tables.proofs.prepare.prepare_masks.Reads as prepare-masks-reads
 
 cast-n : tie.Need-cast-n
 cast-n c = search needs
@@ -37,7 +40,17 @@ add-words-2 : tie.Need-add-words-2
 add-words-2 c = search needs
 
 sequences-part-requires : tie.Need-sequences-part-requires
-sequences-part-requires c κs = let start = c .before .before .before .before .before .before .before .before .before .before in image-long (start .args .image .now) (start .args .h) (start .pre .0 .accepted)
+sequences-part-requires c κs =
+    let start = c .before .before .before .before .before .before .before .before .before .before in
+    image-long (start .args .image .now) (start .args .h) (start .pre .0 .accepted)
+
+fact-block-requires : tie.Need-fact-block-requires
+fact-block-requires c κs = search needs
+
+prepare-masks-requires : tie.Need-prepare-masks-requires
+prepare-masks-requires c κs =
+    let start = c .before .before .before .before .before .before .before .before .before .before .before .before .before in
+    masks-asked (start .pre .1) (start .pre .0)
 
 slice-aggregate-prepare : tie.Need-slice-aggregate-prepare
 slice-aggregate-prepare c = search needs
@@ -46,46 +59,53 @@ slice-aggregate-prepare-2 : tie.Need-slice-aggregate-prepare-2
 slice-aggregate-prepare-2 c = search needs
 
 prepare-requires : tie.Need-prepare-requires
-prepare-requires c κs = let start = c .before .before .before .before .before .before .before .before .before .before .before .before .before .before .before in tables-asked (start .pre .0) (start .pre .1)
+prepare-requires c κs =
+    let start = c .before .before .before .before .before .before .before .before .before .before .before .before .before .before .before .before .before .before .before in
+    tables-asked (start .pre .1) (start .pre .0)
 
 slice-aggregate-find-by : tie.Need-slice-aggregate-find-by
 slice-aggregate-find-by c = search needs
 
 array-share-prefix-order : tie.Need-array-share-prefix-order
-array-share-prefix-order c = let start = c .before .before .before .before .before .before .before .before .before .before .before .before .before .before .before .before .before .before .before .before .before .before .before .before .before in omega (arith, c .before .before .before .before .before .before .before .before .before .prepare .kept, few-sequences (start .args .image .now) (start .args .h) (start .pre .0 .accepted))
+array-share-prefix-order c =
+    let made = c .before .before .before .before .before .before .before in
+    let start = made .before .before .before .before .before .before .before .before .before .before .before .before .before .before .before .before .before .before .before .before in
+    omega (arith, made .prepare .kept, few-sequences (start .args .image .now) (start .args .h) (start .pre .0 .accepted))
 
 slice-aggregate-find-by-2 : tie.Need-slice-aggregate-find-by-2
 slice-aggregate-find-by-2 c =
-    let start = c .before .before .before .before .before .before .before .before .before .before .before .before .before .before .before .before .before .before .before .before .before .before .before .before .before .before in
-    sym (length-take-le _ _ (omega (arith, c .before .before .before .before .before .before .before .before .before .before .prepare .kept, few-sequences (start .args .image .now) (start .args .h) (start .pre .0 .accepted))))
+    let made = c .before .before .before .before .before .before .before .before in
+    let start = made .before .before .before .before .before .before .before .before .before .before .before .before .before .before .before .before .before .before .before .before in
+    sym (length-take-le _ _ (omega (arith, made .prepare .kept, few-sequences (start .args .image .now) (start .args .h) (start .pre .0 .accepted))))
 
 slice-relend-prefix-find-by : tie.Need-slice-relend-prefix-find-by
-slice-relend-prefix-find-by c = c .before .before .before .before .before .before .before .before .before .before .before .before .before .before .before .before .before .before .before .before .before .before .before .before .before .before .pre .1 .ahead-asked .room
+slice-relend-prefix-find-by c = c .before .before .before .before .before .before .before .before .before .before .before .before .before .before .before .before .before .before .before .before .before .before .before .before .before .before .before .before .pre .1 .ahead-room
 
 slice-aggregate-find-by-3 : tie.Need-slice-aggregate-find-by-3
-slice-aggregate-find-by-3 c = ranks-long (c .before .before .before .before .before .before .before .before .before .before .before .before .before .before .before .before .before .before .before .before .before .before .before .before .before .before .before .pre .1 .ahead-asked)
+slice-aggregate-find-by-3 c = sym (ahead-long (c .before .before .before .before .before .before .before .before .before .before .before .before .before .before .before .before .before .before .before .before .before .before .before .before .before .before .before .before .before .pre .1))
 
 slice-relend-prefix-find-by-2 : tie.Need-slice-relend-prefix-find-by-2
-slice-relend-prefix-find-by-2 c = c .before .before .before .before .before .before .before .before .before .before .before .before .before .before .before .before .before .before .before .before .before .before .before .before .before .before .before .pre .1 .behind-asked .room
+slice-relend-prefix-find-by-2 c = c .before .before .before .before .before .before .before .before .before .before .before .before .before .before .before .before .before .before .before .before .before .before .before .before .before .before .before .before .before .pre .1 .behind-room
 
 slice-aggregate-find-by-4 : tie.Need-slice-aggregate-find-by-4
-slice-aggregate-find-by-4 c = ranks-long (c .before .before .before .before .before .before .before .before .before .before .before .before .before .before .before .before .before .before .before .before .before .before .before .before .before .before .before .before .pre .1 .behind-asked)
+slice-aggregate-find-by-4 c = sym (behind-long (c .before .before .before .before .before .before .before .before .before .before .before .before .before .before .before .before .before .before .before .before .before .before .before .before .before .before .before .before .before .before .pre .1))
 
 slice-relend-prefix-find-by-3 : tie.Need-slice-relend-prefix-find-by-3
-slice-relend-prefix-find-by-3 c = c .before .before .before .before .before .before .before .before .before .before .before .before .before .before .before .before .before .before .before .before .before .before .before .before .before .before .before .before .pre .1 .links-asked .room
+slice-relend-prefix-find-by-3 c = c .before .before .before .before .before .before .before .before .before .before .before .before .before .before .before .before .before .before .before .before .before .before .before .before .before .before .before .before .before .before .pre .1 .links-room
 
 slice-aggregate-find-by-5 : tie.Need-slice-aggregate-find-by-5
-slice-aggregate-find-by-5 c = ranks-long (c .before .before .before .before .before .before .before .before .before .before .before .before .before .before .before .before .before .before .before .before .before .before .before .before .before .before .before .before .before .pre .1 .links-asked)
+slice-aggregate-find-by-5 c = sym (links-long (c .before .before .before .before .before .before .before .before .before .before .before .before .before .before .before .before .before .before .before .before .before .before .before .before .before .before .before .before .before .before .before .pre .1))
 
 find-by-requires : tie.Need-find-by-requires
 find-by-requires c κs =
-    let made = c .before .before .before .before .before .before .before .before .before .before .before .before .before .before in
-    let part = made .before .before .before .before .before in
+    let made = c .before .before .before .before .before .before .before .before .before .before .before .before in
+    let masked = made .before .before .before .before .before .before in
+    let part = masked .before .before .before in
     let start = part .before .before .before .before .before .before .before .before .before .before .before in
     let asked = start .pre .0 in
     let areas = start .pre .1 in (
-      tables-findable (asked .accepted) (made .prepare .ensures) (part .sequences-part .ensures) asked (ranks-unranked (areas .ahead-asked)) (ranks-unranked (areas .behind-asked))
-          (ranks-unranked (areas .links-asked)) (zeros 256) (omega (arith, made .prepare .kept, areas .masks-room))
+      tables-findable (asked .accepted) (made .prepare .ensures) (part .sequences-part .ensures) asked (ahead-long areas) (behind-long areas) (links-long areas)
+          (zeros mostSequences) (omega (arith, masked .prepare-masks .kept, areas .masks-room))
           (omega (arith, made .prepare .kept, few-sequences (start .args .image .now) (start .args .h) (asked .accepted)))
           (omega (arith, made .prepare .kept, areas .callers-room)),
       asked .sequence,
@@ -112,17 +132,18 @@ same-length-6 c = search needs
 returns : tie.Need-returns
 returns c =
     let found = c .before .before .before .before .before .before .before .before in
-    let made = found .before .before .before .before .before .before .before .before .before .before .before .before .before .before .before in
-    let part = made .before .before .before .before .before in
+    let made = found .before .before .before .before .before .before .before .before .before .before .before .before .before in
+    let masked = made .before .before .before .before .before .before in
+    let part = masked .before .before .before in
     let start = part .before .before .before .before .before .before .before .before .before .before .before in
     let a = start .args in
     let asked = start .pre .0 in
     let areas = start .pre .1 in
     let by = found .find-by .ensures in
     answered-same {found = words.byRank (a .q) (found .find-by .result) (length (a .area .now))}
-    (found-done (a .image .now) (a .h) (asked .accepted) _ _ _ (masks-made (asked .accepted) (made .prepare .ensures) (part .sequences-part .ensures) (areas .masks-blank))
-    (places-made (asked .accepted) (made .prepare .ensures) (part .sequences-part .ensures)) (a .q) (a .c) asked _ _ _ _ (ranks-unranked (areas .links-asked)) (by .ranked) _ _
-    (ranks-unranked (areas .ahead-asked)) (ranks-unranked (areas .behind-asked)) (by .marked))
+    (found-done (a .image .now) (a .h) (asked .accepted) _ _ _ (places-made (asked .accepted) (made .prepare .ensures) (part .sequences-part .ensures)) (a .q) (a .c) asked
+    (masks-made (a .image .now) (a .h) (asked .accepted) _ (a .masks .now) (masked .before .before .fact-block .ensures) (masked .prepare-masks .ensures) (areas .masks-blank)) _ _ _ _ (links-long areas) (by .ranked) _ _
+    (ahead-long areas) (behind-long areas) (by .marked))
     (by .answered)
 
 pub find-in-spec : {M : Type 1} → statement M
@@ -136,6 +157,8 @@ find-in-spec =
     cast-words-3
     add-words-2
     sequences-part-requires
+    fact-block-requires
+    prepare-masks-requires
     slice-aggregate-prepare
     slice-aggregate-prepare-2
     prepare-requires

@@ -1,6 +1,7 @@
--- `chain::call::find_large` meets its contract: there are at most 256 sequences and 1,024 steps.
+-- `chain::call::find_large` meets its contract: no accepted image has more steps or sequences than the areas have room for.
 -- Assumes nothing.
 use borrow.Author.Needs.{needs}
+use Rattle.image.specs.Word.{mostSteps, mostSequences}
 use Rattle.tables.proofs.Tables.{few-steps, few-sequences}
 use Rattle.chain.proofs.Finding.{areas-asked}
 use Rattle.chain.proofs.call.find_large.Statement.{statement}
@@ -29,7 +30,7 @@ find-in-requires c κs =
     let start = c .before .before .before .before .before .before .before .before in
     let h = start .args .h in
     let image = start .args .image .now in
-    (start .pre, areas-asked h (start .args .q) (start .pre .none) 1024 256 (few-steps image h (start .pre .accepted)) (few-sequences image h (start .pre .accepted)))
+    (start .pre, areas-asked h (start .args .q) (start .pre .none) mostSteps mostSequences (few-steps image h (start .pre .accepted)) (few-sequences image h (start .pre .accepted)))
 
 same-length : tie.Need-same-length
 same-length c = search needs

@@ -6,7 +6,7 @@ use Rattle.library.proofs.tables.with_word.Statement.{statement}
 use Rattle.library.proofs.tables.with_word.Tie as tie
 use Rattle.library.proofs.tables.with_word.Reads as reads
 use Rattle.library.proofs.tables.with_word.Lts as lts
-use Rattle.column.proofs.with_fact.Reads as with-fact-reads
+use Rattle.column.proofs.with_fact_in.Reads as with-fact-in-reads
 use Rattle.image.proofs.word.is_kind.Reads as is-kind-reads
 use Rattle.image.proofs.word.payload_of.Reads as payload-of-reads
 
@@ -16,40 +16,40 @@ payload-of-requires c κs = search needs
 is-kind-requires : tie.Need-is-kind-requires
 is-kind-requires c κs = search needs
 
-with-fact-requires : tie.Need-with-fact-requires
-with-fact-requires c κs = search needs
+with-fact-in-requires : tie.Need-with-fact-in-requires
+with-fact-in-requires c κs = search needs
 
 returns : tie.Need-returns
 returns c =
     let first = c .before .before in
-    simp (c .with-fact .ensures, first .before .payload-of .ensures, sym (first .is-kind .ensures) ∙ c .before .if1 .taken)
+    simp (c .with-fact-in .ensures, first .before .payload-of .ensures, sym (first .is-kind .ensures) ∙ c .before .if1 .taken)
 
 is-kind-requires-2 : tie.Need-is-kind-requires-2
 is-kind-requires-2 c κs = search needs
 
-with-fact-requires-2 : tie.Need-with-fact-requires-2
-with-fact-requires-2 c κs = search needs
+with-fact-in-requires-2 : tie.Need-with-fact-in-requires-2
+with-fact-in-requires-2 c κs = search needs
 
 returns-2 : tie.Need-returns-2
 returns-2 c =
     let second = c .before .before in
     let first = second .before .before in
     simp (
-      c .with-fact2 .ensures,
+      c .with-fact-in2 .ensures,
       first .before .payload-of .ensures,
       sym (first .is-kind .ensures) ∙ second .before .if1 .left,
       sym (second .is-kind2 .ensures) ∙ c .before .if2 .taken,
     )
 
-with-fact-requires-3 : tie.Need-with-fact-requires-3
-with-fact-requires-3 c κs = search needs
+with-fact-in-requires-3 : tie.Need-with-fact-in-requires-3
+with-fact-in-requires-3 c κs = search needs
 
 returns-3 : tie.Need-returns-3
 returns-3 c =
     let second = c .before .before in
     let first = second .before .before in
     simp (
-      c .with-fact3 .ensures,
+      c .with-fact-in3 .ensures,
       first .before .payload-of .ensures,
       sym (first .is-kind .ensures) ∙ second .before .if1 .left,
       sym (second .is-kind2 .ensures) ∙ c .before .if2 .left,
@@ -61,10 +61,10 @@ with-word-spec =
     (tie.spec
     payload-of-requires
     is-kind-requires
-    with-fact-requires
+    with-fact-in-requires
     returns
     is-kind-requires-2
-    with-fact-requires-2
+    with-fact-in-requires-2
     returns-2
-    with-fact-requires-3
+    with-fact-in-requires-3
     returns-3)

@@ -1,6 +1,10 @@
--- `list::compose::write_row` meets its contract: the kept row as words, their card, and the flags of the row.
+-- `list::compose::write_row` meets its contract: the kept row as words, their numbers, the flags of the row, and all put into the card.
 -- Assumes nothing.
 use borrow.Author.Needs.{needs}
+use Prim.Native.Nat.{ℕ}
+use mathlib.Core.Path.{ap, _∙_}
+use mathlib.Core.List.{List}
+use Rattle.writer.specs.Block.{withBlock}
 use Rattle.list.proofs.Written.{written}
 use Rattle.list.proofs.compose.write_row.Statement.{statement}
 use Rattle.list.proofs.compose.write_row.Tie as tie
@@ -8,8 +12,9 @@ use Rattle.list.proofs.compose.write_row.Reads as reads
 use Rattle.list.proofs.compose.write_row.Lts as lts
 use Rattle.list.proofs.compose.kept_row.Reads as kept-row-reads
 use Rattle.rows.proofs.table.put_row.Reads as put-row-reads
+use Rattle.writer.proofs.block.put_block.Reads as put-block-reads
 use Rattle.writer.proofs.card.flags.Reads as flags-reads
-use Rattle.writer.proofs.card.write_card.Reads as write-card-reads
+use Rattle.writer.proofs.card.write_numbers.Reads as write-numbers-reads
 
 kept-row-requires : tie.Need-kept-row-requires
 kept-row-requires c κs = search needs
@@ -20,27 +25,41 @@ slice-aggregate-put-row c = search needs
 put-row-requires : tie.Need-put-row-requires
 put-row-requires c κs = search needs
 
-slice-aggregate-write-card : tie.Need-slice-aggregate-write-card
-slice-aggregate-write-card c = search needs
+slice-aggregate-write-numbers : tie.Need-slice-aggregate-write-numbers
+slice-aggregate-write-numbers c = search needs
 
-write-card-requires : tie.Need-write-card-requires
-write-card-requires c κs = search needs
+slice-aggregate-write-numbers-2 : tie.Need-slice-aggregate-write-numbers-2
+slice-aggregate-write-numbers-2 c = search needs
+
+write-numbers-requires : tie.Need-write-numbers-requires
+write-numbers-requires c κs = search needs
 
 flags-requires : tie.Need-flags-requires
 flags-requires c κs = search needs
 
-slice-write-card : tie.Need-slice-write-card
-slice-write-card c = search needs
+array-write-numbers : tie.Need-array-write-numbers
+array-write-numbers c = search needs
+
+slice-aggregate-put-block : tie.Need-slice-aggregate-put-block
+slice-aggregate-put-block c = search needs
+
+put-block-requires : tie.Need-put-block-requires
+put-block-requires c κs = search needs
 
 same-length : tie.Need-same-length
 same-length c = search needs
 
 returns : tie.Need-returns
 returns c =
-    let card = c .before .before .before .before in
-    let stored = card .before .before .before .before in
-    let a = stored .before .before .before .before .args in
-    written (a .x) (a .all) _ _ _ _ (stored .before .before .kept-row .ensures) (stored .put-row .ensures) (card .write-card .ensures) (c .flags .ensures)
+    let put = c .before .before in
+    let told = put .before .before .before in
+    let made = told .before .before .before in
+    let stored = made .before .before .before .before in
+    let start = stored .before .before .before .before in
+    let a = start .args in
+    put .put-block .ensures
+    ∙ ap (λ (ns : List ℕ). withBlock (a .block) ns (a .card .now))
+    (written (a .x) (a .all) _ _ _ _ (stored .before .before .kept-row .ensures) (stored .put-row .ensures) (made .write-numbers .ensures) (told .flags .ensures))
 
 pub write-row-spec : {M : Type 1} → statement M
 write-row-spec =
@@ -49,9 +68,12 @@ write-row-spec =
     kept-row-requires
     slice-aggregate-put-row
     put-row-requires
-    slice-aggregate-write-card
-    write-card-requires
+    slice-aggregate-write-numbers
+    slice-aggregate-write-numbers-2
+    write-numbers-requires
     flags-requires
-    slice-write-card
+    array-write-numbers
+    slice-aggregate-put-block
+    put-block-requires
     same-length
     returns)

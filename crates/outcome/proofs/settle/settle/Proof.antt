@@ -17,11 +17,11 @@ use Rattle.settling.proofs.turns.first.Reads as first-reads
 use Rattle.settling.proofs.turns.next.Reads as next-reads
 
 abbrev Inv-loop : tie.InvT-loop
-Inv-loop all steps part places callers order table₀ n stale₀ turn₀ table stale turn =
-    Settling (visited all steps part places) n table₀ table stale turn
+Inv-loop block steps part places callers order table₀ n stale₀ turn₀ table stale turn =
+    Settling (visited block steps part places) n table₀ table stale turn
 
 abbrev μ-loop : tie.MeasureT-loop
-μ-loop all steps part places callers order table₀ n stale₀ turn₀ table stale turn = load lacking table stale
+μ-loop block steps part places callers order table₀ n stale₀ turn₀ table stale turn = load lacking table stale
 
 slice-aggregate-sweep : tie.Need-slice-aggregate-sweep Inv-loop μ-loop
 slice-aggregate-sweep c = search needs
@@ -30,7 +30,7 @@ sweep-requires : tie.Need-sweep-requires Inv-loop μ-loop
 sweep-requires c κs =
     let start = c .before .before .before .before .before .before .before .before in
     let a = start .args in
-    (start .pre .0, start .pre .1, swept-start (visited (a .all) (a .steps .now) (a .part .now) (a .places .now)) (a .n) (a .table .now) (start .pre .1 .few))
+    (start .pre .0, start .pre .1, swept-start (visited (a .block) (a .steps .now) (a .part .now) (a .places .now)) (a .n) (a .table .now) (start .pre .1 .few))
 
 slice-aggregate-first : tie.Need-slice-aggregate-first Inv-loop μ-loop
 slice-aggregate-first c = search needs
@@ -49,7 +49,7 @@ visit-requires c κs =
     let at-loop = c .before .before .before in
     let start = at-loop .before .before .before .before .before .before .before .before .before .before .before .before .before .before .before in
     let a = start .args in
-    (visitable-at (at-loop .loop .table) (swept-twice (visits-lower (a .all) (a .steps .now) (a .part .now) (a .places .now) (a .n)) (at-loop .before .before .before .before .before .before .sweep .ensures) (at-loop .loop .inv .swept)) (start .pre .0), c .before .if1 .taken)
+    (visitable-at (at-loop .loop .table) (swept-twice (visits-lower (a .block) (a .steps .now) (a .part .now) (a .places .now) (a .n)) (at-loop .before .before .before .before .before .before .sweep .ensures) (at-loop .loop .inv .swept)) (start .pre .0), c .before .if1 .taken)
 
 slice-aggregate-after-visit : tie.Need-slice-aggregate-after-visit Inv-loop μ-loop
 slice-aggregate-after-visit c = search needs
@@ -88,8 +88,8 @@ loop-again c =
     let at-loop = visit .before .before .before .before in
     let start = at-loop .before .before .before .before .before .before .before .before .before .before .before .before .before .before .before in
     let a = start .args in
-    let long = swept-twice (visits-lower (a .all) (a .steps .now) (a .part .now) (a .places .now) (a .n)) (at-loop .before .before .before .before .before .before .sweep .ensures) (at-loop .loop .inv .swept) in
-    settling-turn (visits-local (a .all) (a .steps .now) (a .part .now) (a .places .now) (a .n)) (start .pre .1)
+    let long = swept-twice (visits-lower (a .block) (a .steps .now) (a .part .now) (a .places .now) (a .n)) (at-loop .before .before .before .before .before .before .sweep .ensures) (at-loop .loop .inv .swept) in
+    settling-turn (visits-local (a .block) (a .steps .now) (a .part .now) (a .places .now) (a .n)) (start .pre .1)
     _ (at-loop .loop .table) (at-loop .loop .stale) (at-loop .loop .turn) (visit .visit .last .1 .1 .1 .1 .0) (after .after-visit .last .0) (visit .visit .result) (c .next .result)
     (omega (arith, long, start .pre .0 .rows)) (visit .before .before .if1 .taken) (at-loop .loop .inv) (visit .visit .ensures) (after .after-visit .ensures) (omega (arith, after .after-visit .kept)) (c .next .ensures)
 
@@ -97,7 +97,7 @@ same-length : tie.Need-same-length Inv-loop μ-loop
 same-length c =
     let at-loop = c .before .before in
     let a = at-loop .before .before .before .before .before .before .before .before .before .before .before .before .before .before .before .args in
-    swept-twice (visits-lower (a .all) (a .steps .now) (a .part .now) (a .places .now) (a .n)) (at-loop .before .before .before .before .before .before .sweep .ensures) (at-loop .loop .inv .swept)
+    swept-twice (visits-lower (a .block) (a .steps .now) (a .part .now) (a .places .now) (a .n)) (at-loop .before .before .before .before .before .before .sweep .ensures) (at-loop .loop .inv .swept)
 
 returns : tie.Need-returns Inv-loop μ-loop
 returns c =

@@ -18,11 +18,11 @@ use Rattle.outcome.proofs.settle.visit.Reads as visit-reads
 use Rattle.settling.proofs.turns.after_visit.Reads as after-visit-reads
 
 abbrev Inv-loop : tie.InvT-loop
-Inv-loop all steps part places callers order table₀ stale₀ n i₀ table stale i =
-    Swept (visited all steps part places) n table₀ table stale
+Inv-loop block steps part places callers order table₀ stale₀ n i₀ table stale i =
+    Swept (visited block steps part places) n table₀ table stale
 
 abbrev μ-loop : tie.MeasureT-loop
-μ-loop all steps part places callers order table₀ stale₀ n i₀ table stale i = length order - i
+μ-loop block steps part places callers order table₀ stale₀ n i₀ table stale i = length order - i
 
 loop-holds : tie.Need-loop-holds Inv-loop μ-loop
 loop-holds c = c .before .before .before .before .before .before .before .pre .2
@@ -41,7 +41,7 @@ visit-requires c κs =
     let at-loop = c .before .before .before .before in
     let start = at-loop .before .before .before .before .before .before .before .before in
     let a = start .args in
-    (visitable-at (at-loop .loop .table) (reached-length (visits-lower (a .all) (a .steps .now) (a .part .now) (a .places .now) (a .n)) (at-loop .loop .inv .reached)) (start .pre .0), c .before .if1 .taken)
+    (visitable-at (at-loop .loop .table) (reached-length (visits-lower (a .block) (a .steps .now) (a .part .now) (a .places .now) (a .n)) (at-loop .loop .inv .reached)) (start .pre .0), c .before .if1 .taken)
 
 after-visit-requires : tie.Need-after-visit-requires Inv-loop μ-loop
 after-visit-requires c κs = search needs
@@ -56,8 +56,8 @@ loop-again c =
     let at-loop = visit .before .before .before .before .before in
     let start = at-loop .before .before .before .before .before .before .before .before in
     let a = start .args in
-    let long = reached-length (visits-lower (a .all) (a .steps .now) (a .part .now) (a .places .now) (a .n)) (at-loop .loop .inv .reached) in
-    swept-turn (visits-local (a .all) (a .steps .now) (a .part .now) (a .places .now) (a .n)) (start .pre .1)
+    let long = reached-length (visits-lower (a .block) (a .steps .now) (a .part .now) (a .places .now) (a .n)) (at-loop .loop .inv .reached) in
+    swept-turn (visits-local (a .block) (a .steps .now) (a .part .now) (a .places .now) (a .n)) (start .pre .1)
     (a .table .now) (at-loop .loop .table) (at-loop .loop .stale) _ (visit .visit .last .1 .1 .1 .1 .0) (after .after-visit .last .0) (visit .visit .result)
     (omega (arith, long, start .pre .0 .rows)) (visit .before .before .if1 .taken) (at-loop .loop .inv) (visit .visit .ensures) (after .after-visit .ensures) (omega (arith, after .after-visit .kept))
 
@@ -71,7 +71,7 @@ same-length : tie.Need-same-length Inv-loop μ-loop
 same-length c =
     let at-loop = c .before in
     let a = at-loop .before .before .before .before .before .before .before .before .args in
-    reached-length (visits-lower (a .all) (a .steps .now) (a .part .now) (a .places .now) (a .n)) (at-loop .loop .inv .reached)
+    reached-length (visits-lower (a .block) (a .steps .now) (a .part .now) (a .places .now) (a .n)) (at-loop .loop .inv .reached)
 
 same-length-2 : tie.Need-same-length-2 Inv-loop μ-loop
 same-length-2 c = search needs

@@ -59,9 +59,9 @@ returns c =
     let old = read .before .before .before in
     let start = old .before .before .before .before .before .before in
     let a = start .args in
-    let row : new .united .result ≡ visitedRow (a .all) (a .steps .now) (a .part .now) (a .places .now) (a .table .now) (a .c) =
+    let row : new .united .result ≡ visitedRow (a .block) (a .steps .now) (a .part .now) (a .places .now) (a .table .now) (a .c) =
     new .united .ensures ∙ ap₂ orRows (old .row-at .ensures) (read .read-sequence .ensures) in
-    visit-made (a .all) (a .steps .now) (a .part .now) (a .places .now) (a .table .now) (a .c) (put .put-row .last .0) (c .same .result)
+    visit-made (a .block) (a .steps .now) (a .part .now) (a .places .now) (a .table .now) (a .c) (put .put-row .last .0) (c .same .result)
     (omega (arith, start .pre .0 .rows, start .pre .1)) (put .put-row .ensures ∙ ap (withRow (a .table .now) (a .c)) row)
     (subst Fitting row (omega (arith, new .united .ok))) (c .same .ensures ∙ ap₂ sameRows (old .row-at .ensures) row)
 

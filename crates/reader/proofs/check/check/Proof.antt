@@ -74,9 +74,8 @@ part-read-end c = search needs
 
 read-requires : tie.Need-read-requires
 read-requires c κs =
-    let else4 = c .before in
-    let image = else4 .before .before .before .before .before .before .before .before .before .before .args .image .now in
-    (omega (arith, length-take (length image - 1 - 1) (drop 1 image)), sym (else4 .before .head-right .ensures) ∙ not-false _ (else4 .if4 .left))
+    let image = c .before .before .before .before .before .before .before .before .before .before .before .args .image .now in
+    omega (arith, length-take (length image - 1 - 1) (drop 1 image))
 
 returns-5 : tie.Need-returns-5
 returns-5 c =

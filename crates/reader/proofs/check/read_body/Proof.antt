@@ -5,11 +5,12 @@ use borrow.Author.Tests.{not-false}
 use native.Mathlib.Omega.{arith}
 use mathlib.Core.Path.{sym, _∙_}
 use Prim.Native.Nat.{_+_, _-_}
-use lib.ListN.{length, getD}
+use lib.ListN.{length, getD, take}
+use Rattle.rules.specs.Rules.{setsOf}
 use Rattle.rules.specs.Quick.{withLast}
 use Rattle.reader.specs.Readers.{Read}
 use Rattle.rules.proofs.Right.{body-passing, body-follows}
-use Rattle.reader.proofs.Walk.{read-start, read-turn, read-on}
+use Rattle.reader.proofs.Walk.{read-start, read-pass, read-on}
 use Rattle.reader.proofs.check.read_body.Statement.{statement}
 use Rattle.reader.proofs.check.read_body.Tie as tie
 use Rattle.reader.proofs.check.read_body.Reads as reads
@@ -79,8 +80,9 @@ loop-again c =
     let w = getD (a .part .now) i 0 in
     let right = sym (word .body-right .ensures) ∙ not-false _ (told .if2 .left) in
     let fours = c .read-fours .result in
-    read-on (a .h) (a .part .now) (a .e) (a .at) (withLast (a .e) w) (i + 1) (withLast (a .e) (fours .last)) (fours .next)
-    (read-turn (a .h) (a .part .now) (a .e) (a .at) (withLast (a .e) l) (withLast (a .e) w) i (turn .loop-test .taken) (body-passing (a .h) (a .e) l w right) (at-loop .loop .inv))
+    read-on (a .h) (a .part .now) (a .e) (a .at) (withLast (a .e) w) (i + 1)
+    (read-pass (a .h) (a .part .now) (a .e) (a .at) (withLast (a .e) l) i (at-loop .loop .inv) (withLast (a .e) w) (turn .loop-test .taken)
+    (body-passing (a .h) (a .e) l w right (setsOf 0 (take i (a .part .now))))) (withLast (a .e) (fours .last)) (fours .next)
     (c .read-fours .ensures (a .e) (omega (arith, opened .if1 .left)))
 
 returns-3 : tie.Need-returns-3 Inv-loop μ-loop

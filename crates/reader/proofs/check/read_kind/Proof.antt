@@ -1,16 +1,16 @@
--- `reader::check::read_kind` meets its contract: the answer from here is the answer from where it began.
+-- `reader::check::read_kind` meets its contract, one word more at each turn.
 -- Assumes nothing.
-use borrow.Author.Needs.{needs}
 use borrow.Author.Tests.{not-false, ltb-true}
 use native.Mathlib.Omega.{arith}
-use Prim.Native.Nat.{_-_, _+_, _*_, _^_, _≤_, _<_}
+use Prim.Native.Nat.{_-_, _+_, _*_, _^_, _<_}
 use mathlib.Core.Path.{_≡_, refl}
-use Rattle.image.specs.declared.answer.Head.{Head}
-use Rattle.rules.specs.Quick.{Counts}
 use lib.Dec.{ltb}
 use lib.ListN.{length, getD}
-use Rattle.general.proofs.Bools.{and-left, and-right}
-use Rattle.reader.proofs.Walk.{KindLoop, kind-start, kind-turn}
+use Rattle.general.proofs.Bools.{and-parts}
+use Rattle.image.specs.declared.answer.Head.{Head}
+use Rattle.rules.specs.Quick.{Counts}
+use Rattle.reader.proofs.Facts.{KindLoop, kind-start, kind-turn}
+use borrow.Author.Needs.{needs}
 use Rattle.reader.proofs.check.read_kind.Statement.{statement}
 use Rattle.reader.proofs.check.read_kind.Tie as tie
 use Rattle.reader.proofs.check.read_kind.Reads as reads
@@ -18,11 +18,11 @@ use Rattle.reader.proofs.check.read_kind.Lts as lts
 use Rattle.column.proofs.with_fact.Reads as with-fact-reads
 
 abbrev Inv-loop : tie.InvT-loop
-Inv-loop k last from part at start end l₀ low₀ facts₀ i₀ l low facts i =
-    ((h : Head) → Counts h → end ≡ k * 2 ^ 28 + h .facts → KindLoop h part k last from at l facts low i) × (start ≤ low + 1)
+Inv-loop k part at start end low₀ fingerprint₀ i₀ low fingerprint i =
+    (h : Head) → Counts h → end ≡ k * 2 ^ 28 + h .facts → KindLoop h part k at fingerprint low i
 
 abbrev μ-loop : tie.MeasureT-loop
-μ-loop k last from part at start end l₀ low₀ facts₀ i₀ l low facts i = length part - i
+μ-loop k part at start end low₀ fingerprint₀ i₀ low fingerprint i = length part - i
 
 mul-start : tie.Need-mul-start Inv-loop μ-loop
 mul-start c = search needs
@@ -37,10 +37,7 @@ loop-holds : tie.Need-loop-holds Inv-loop μ-loop
 loop-holds c =
     let start = c .before .before in
     let a = start .args in
-    let pre = start .pre in (
-      λ h counts same. kind-start h (a .part .now) (a .k) (a .last) (a .from) (a .at) (pre .2) (pre .3) (pre .0) (pre .4),
-      omega (arith, pre),
-    )
+    λ h counts same. kind-start h (a .part .now) (a .k) (a .at) (start .pre .0) (start .pre .2)
 
 mul-w : tie.Need-mul-w Inv-loop μ-loop
 mul-w c = search needs
@@ -52,7 +49,7 @@ returns : tie.Need-returns Inv-loop μ-loop
 returns c =
     let at-loop = c .before .before .before in
     let start = at-loop .before .before .before in
-    at-loop .loop .inv .0 (start .args .h) (start .pre .1) refl .read
+    at-loop .loop .inv (start .args .h) (start .pre .1) refl .read
 
 -- what the test says of a word that passes it
 right : (c : tie.Else1 Inv-loop μ-loop)
@@ -64,20 +61,11 @@ right c =
     let at-loop = c .before .before .before in
     let a = at-loop .before .before .before .args in
     let w = getD (a .part .now) (at-loop .loop .i) 0 in
-    let both = not-false _ (c .if1 .left) in
-    let above = ltb (at-loop .loop .low) w in
-    let below = ltb w (a .k * 2 ^ 28 + a .h .facts) in
-    (ltb-true _ _ (and-left above below both), ltb-true _ _ (and-right above below both))
-
-sub-with-fact : tie.Need-sub-with-fact Inv-loop μ-loop
-sub-with-fact c =
-    let at-loop = c .before .before .before in
-    omega (arith, right c, at-loop .loop .inv .1)
+    let both = and-parts (ltb (at-loop .loop .low) w) (ltb w (a .k * 2 ^ 28 + a .h .facts)) (not-false _ (c .if1 .left)) in
+    (ltb-true _ _ (both .0), ltb-true _ _ (both .1))
 
 with-fact-requires : tie.Need-with-fact-requires Inv-loop μ-loop
-with-fact-requires c κs =
-    let at-loop = c .before .before .before in
-    omega (arith, right c, at-loop .loop .inv .1, at-loop .before .before .before .pre .1 .facts)
+with-fact-requires c κs = search needs
 
 add-i : tie.Need-add-i Inv-loop μ-loop
 add-i c = search needs
@@ -90,22 +78,18 @@ loop-again c =
     let told = c .before in
     let turn = told .before .before in
     let at-loop = turn .before in
-    let start = at-loop .before .before .before in
-    let a = start .args in
+    let a = at-loop .before .before .before .args in
     let loop = at-loop .loop in
-    let pre = start .pre in (
-      λ h counts same.
-          rw (c .with-fact .ensures)
-          (kind-turn h (a .part .now) (a .k) (a .last) (a .from) (a .at) (pre .2) (pre .3) (loop .l) (loop .facts) (loop .low) (loop .i) counts
-          (turn .loop-test .taken) (right told .0) (omega (arith, right told .1)) (loop .inv .0 h counts same)),
-      omega (arith, right told .0, loop .inv .1),
-    )
+    λ h counts same.
+    rw (c .with-fact .ensures)
+    (kind-turn h (a .part .now) (a .k) (a .at) (loop .fingerprint) (loop .low) (loop .i) counts (turn .loop-test .taken) (right told .0)
+    (omega (arith, right told .1)) (loop .inv h counts same))
 
 returns-2 : tie.Need-returns-2 Inv-loop μ-loop
 returns-2 c =
     let at-loop = c .before in
     let start = at-loop .before .before .before in
-    at-loop .loop .inv .0 (start .args .h) (start .pre .1) refl .read
+    at-loop .loop .inv (start .args .h) (start .pre .1) refl .read
 
 pub read-kind-spec : {M : Type 1} → statement M
 read-kind-spec =
@@ -120,7 +104,6 @@ read-kind-spec =
     mul-w
     shared-slice-read-w
     returns
-    sub-with-fact
     with-fact-requires
     add-i
     loop-less

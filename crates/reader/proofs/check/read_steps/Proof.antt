@@ -1,38 +1,42 @@
 -- `reader::check::read_steps` meets its contract: the answer from here is the answer from the part's start.
 -- Assumes nothing.
 use borrow.Author.Needs.{needs}
+use borrow.Author.Tests.{not-false}
 use native.Mathlib.Omega.{arith}
 use Prim.Native.Nat.{_+_, _-_}
-use mathlib.Core.Path.{_≡_, sym, _∙_}
+use mathlib.Core.Path.{_≡_, refl, sym, _∙_}
 use mathlib.Core.Bool.{true}
-use lib.ListN.{length, getD}
-use Rattle.rules.specs.Rules.{faultAt}
-use Rattle.rules.specs.Quick.{stepRight, after}
+use lib.ListN.{length, getD, take, length-drop}
+use Rattle.general.proofs.Numbers.{whole-rest}
+use Rattle.rules.specs.Rules.{setsOf}
+use Rattle.rules.specs.Quick.{stepRight, passed, withLast}
 use Rattle.rules.specs.declared.rules.Fault.the-variants.{Nothing}
-use Rattle.rules.specs.Walk.{opening}
-use Rattle.rules.proofs.Faultless.{set-low}
 use Rattle.rules.proofs.Right.{step-opens, step-faultless}
-use Rattle.reader.proofs.Walk.{Reading, reading-turn, reading-refused, reading-on}
+use Rattle.reader.specs.Readers.{Read}
+use Rattle.reader.proofs.Walk.{Reading, begun, whole-answer, middle-answer, reading-start, read-answer, read-end, reading-turn, reading-on}
 use Rattle.reader.proofs.check.read_steps.Statement.{statement}
 use Rattle.reader.proofs.check.read_steps.Tie as tie
 use Rattle.reader.proofs.check.read_steps.Reads as reads
 use Rattle.reader.proofs.check.read_steps.Lts as lts
-use Rattle.image.proofs.word.is_kind.Reads as is-kind-reads
+use Rattle.reader.proofs.check.ended_at.Reads as ended-at-reads
 use Rattle.reader.proofs.check.further_on.Reads as further-on-reads
 use Rattle.reader.proofs.check.read_facts.Reads as read-facts-reads
-use Rattle.rules.proofs.rules.first_fault.Reads as first-fault-reads
+use Rattle.reader.proofs.check.read_sequences.Reads as read-sequences-reads
+use Rattle.reader.proofs.check.read_words.Reads as read-words-reads
+use Rattle.image.proofs.word.is_kind.Reads as is-kind-reads
 use Rattle.rules.proofs.rules.past.Reads as past-reads
-use Rattle.rules.proofs.rules.past_opener.Reads as past-opener-reads
 use Rattle.rules.proofs.rules.step_right.Reads as step-right-reads
 
 abbrev Inv-loop : tie.InvT-loop
-Inv-loop h first part e₀ i₀ e i = Reading h (opening first) 1 part e i
+Inv-loop h first part e₀ i₀ e i = Reading 1 h part (begun first) 0 e i
 
 abbrev μ-loop : tie.MeasureT-loop
 μ-loop h first part e₀ i₀ e i = length part - i
 
 loop-holds : tie.Need-loop-holds Inv-loop μ-loop
-loop-holds c = search needs
+loop-holds c =
+    let a = c .before .args in
+    reading-start 1 (a .h) (a .part .now) (begun (a .first)) 0 (omega arith) (omega arith) (omega arith)
 
 mul-w : tie.Need-mul-w Inv-loop μ-loop
 mul-w c = search needs
@@ -43,121 +47,141 @@ shared-slice-read-w c = search needs
 step-right-requires : tie.Need-step-right-requires Inv-loop μ-loop
 step-right-requires c κs = search needs
 
+is-kind-requires : tie.Need-is-kind-requires Inv-loop μ-loop
+is-kind-requires c κs = search needs
+
+add-read-sequences : tie.Need-add-read-sequences Inv-loop μ-loop
+add-read-sequences c = search needs
+
+mul-read-sequences : tie.Need-mul-read-sequences Inv-loop μ-loop
+mul-read-sequences c = search needs
+
+sub-read-sequences : tie.Need-sub-read-sequences Inv-loop μ-loop
+sub-read-sequences c = search needs
+
+part-read-sequences-start : tie.Need-part-read-sequences-start Inv-loop μ-loop
+part-read-sequences-start c = search needs
+
+part-read-sequences-end : tie.Need-part-read-sequences-end Inv-loop μ-loop
+part-read-sequences-end c = search needs
+
+read-sequences-requires : tie.Need-read-sequences-requires Inv-loop μ-loop
+read-sequences-requires c κs =
+    let at-loop = c .before .before .before .before .before .before .before in
+    let inv = at-loop .loop .inv in
+    let start = at-loop .before .before in
+    let i = at-loop .loop .i in
+    let ws = start .args .part .now in
+    rw (whole-rest i ws) (omega (arith, start .pre .0, inv .read .within, length-drop i ws), inv .steps, inv .sequences, start .pre .1)
+
+returns : tie.Need-returns Inv-loop μ-loop
+returns c =
+    let opens = c .before .before in
+    let at-loop = opens .before .before .before .before .before .before in
+    let a = at-loop .before .before .args in
+    let ws = a .part .now in
+    let e = at-loop .loop .e in
+    let i = at-loop .loop .i in
+    whole-answer (a .h) ws (begun (a .first)) 1 _
+    (read-answer (a .h) ws (begun (a .first)) 0 e i (at-loop .loop .inv .read) 1 _
+    (middle-answer (a .h) ws e (1 + i) i _ (opens .before .before .before .before .before .loop-test .taken) (sym (opens .before .is-kind .ensures) ∙ opens .if2 .taken)
+    (c .read-sequences .ensures)))
+
+read-words-requires : tie.Need-read-words-requires Inv-loop μ-loop
+read-words-requires c κs =
+    let at-loop = c .before .before .before .before .before .before in
+    let inv = at-loop .loop .inv in
+    (omega (arith, at-loop .before .before .pre .0), inv .read .within, inv .steps, inv .sequences)
+
+returns-2 : tie.Need-returns-2 Inv-loop μ-loop
+returns-2 c =
+    let at-loop = c .before .before .before .before .before .before .before in
+    let a = at-loop .before .before .args in
+    whole-answer (a .h) (a .part .now) (begun (a .first)) 1 _
+    (read-answer (a .h) (a .part .now) (begun (a .first)) 0 (at-loop .loop .e) (at-loop .loop .i) (at-loop .loop .inv .read) 1 _ (c .read-words .ensures))
+
 -- the word that opens the next step
-right : (c : tie.Then1 Inv-loop μ-loop)
+right : (c : tie.Else1 Inv-loop μ-loop)
     → let at-loop = c .before .before .before .before in
     let a = at-loop .before .before .args in
     stepRight (a .h) (at-loop .loop .e) (getD (a .part .now) (at-loop .loop .i) 0) ≡ true
-right c = sym (c .before .step-right .ensures) ∙ c .if1 .taken
-
-past-opener-requires : tie.Need-past-opener-requires Inv-loop μ-loop
-past-opener-requires c κs =
-    let at-loop = c .before .before .before .before in
-    (omega (arith, at-loop .loop .inv .steps), step-opens (at-loop .before .before .args .h) (at-loop .loop .e) (getD (at-loop .before .before .args .part .now) (at-loop .loop .i) 0) (right c))
-
-add-read-facts : tie.Need-add-read-facts Inv-loop μ-loop
-add-read-facts c = search needs
+right c = sym (c .before .step-right .ensures) ∙ not-false _ (c .if1 .left)
 
 read-facts-requires : tie.Need-read-facts-requires Inv-loop μ-loop
 read-facts-requires c κs =
-    let then = c .before in
-    let turn = then .before .before .before in
+    let turn = c .before .before .before in
     let at-loop = turn .before in
     let start = at-loop .before .before in
-    let w = getD (start .args .part .now) (at-loop .loop .i) 0 in
-    (omega (arith, turn .loop-test .taken), start .pre .1, rw (c .past-opener .ensures) (step-opens (start .args .h) (at-loop .loop .e) w (right then)))
+    let a = start .args in
+    (turn .loop-test .taken, start .pre .1, step-opens (a .h) (at-loop .loop .e) (getD (a .part .now) (at-loop .loop .i) 0) (right c))
+
+past-requires : tie.Need-past-requires Inv-loop μ-loop
+past-requires c κs =
+    let at-loop = c .before .before .before .before .before in
+    (omega (arith, at-loop .loop .inv .steps), omega (arith, at-loop .loop .inv .sequences))
+
+-- the fact words of that step
+facts : (c : tie.After-read-facts Inv-loop μ-loop)
+    → let at-loop = c .before .before .before .before .before in
+    let a = at-loop .before .before .args in
+    let e = passed (at-loop .loop .e) (getD (a .part .now) (at-loop .loop .i) 0) in
+    let next = c .read-facts .result in
+    Read (a .h) (a .part .now) e (at-loop .loop .i + 1) (withLast e (getD (a .part .now) (next - 1) 0)) next
+facts c =
+    let at-loop = c .before .before .before .before .before in
+    c .read-facts .ensures (passed (at-loop .loop .e) (getD (at-loop .before .before .args .part .now) (at-loop .loop .i) 0))
+
+sub-further-on : tie.Need-sub-further-on Inv-loop μ-loop
+sub-further-on c = omega (arith, facts (c .before) .low)
+
+mul-further-on : tie.Need-mul-further-on Inv-loop μ-loop
+mul-further-on c = omega (arith, facts (c .before) .within)
+
+shared-slice-read-further-on : tie.Need-shared-slice-read-further-on Inv-loop μ-loop
+shared-slice-read-further-on c = omega (arith, facts (c .before .before) .low, facts (c .before .before) .within)
 
 further-on-requires : tie.Need-further-on-requires Inv-loop μ-loop
 further-on-requires c κs = search needs
 
 loop-less : tie.Need-loop-less Inv-loop μ-loop
 loop-less c =
-    let read = c .before in
-    let turn = read .before .before .before .before .before in
-    omega (arith, turn .loop-test .taken, read .read-facts .ensures .low)
+    let read = c .before .before .before in
+    omega (arith, read .before .before .before .before .loop-test .taken, facts read .low)
 
 loop-again : tie.Need-loop-again Inv-loop μ-loop
 loop-again c =
-    let read = c .before in
-    let opened = read .before in
-    let then = opened .before in
-    let at-loop = then .before .before .before .before in
+    let opened = c .before .before in
+    let read = opened .before in
+    let then = read .before in
+    let turn = then .before .before .before in
+    let at-loop = turn .before in
     let a = at-loop .before .before .args in
+    let ws = a .part .now in
     let e = at-loop .loop .e in
     let i = at-loop .loop .i in
-    let w = getD (a .part .now) i 0 in
-    let facts = read .read-facts .result in
-    rw (c .further-on .ensures, opened .past-opener .ensures)
-    (reading-on (a .h) (opening (a .first)) 1 (a .part .now) (after e w) (i + 1) (facts .last) (facts .facts) (facts .next)
-    (reading-turn (a .h) (opening (a .first)) 1 (a .part .now) e i (omega arith) (at-loop .loop .inv) (step-faultless (a .h) e (1 + i) w (right then)))
-    (rw (opened .past-opener .ensures) at (read .read-facts .ensures)))
+    let w = getD ws i 0 in
+    let next = read .read-facts .result in
+    rw (c .further-on .ensures, opened .past .ensures)
+    (reading-on 1 (a .h) ws (begun (a .first)) 0 (passed e w) (i + 1)
+    (reading-turn 1 (a .h) ws (begun (a .first)) 0 e i (at-loop .loop .inv) Nothing (turn .loop-test .taken) refl
+    (step-faultless (a .h) e (setsOf 0 (take i ws)) (1 + i) w (right then))) (getD ws (next - 1) 0) next (facts read))
 
-is-kind-requires : tie.Need-is-kind-requires Inv-loop μ-loop
-is-kind-requires c κs = search needs
+add-ended-at : tie.Need-add-ended-at Inv-loop μ-loop
+add-ended-at c = search needs
 
-returns : tie.Need-returns Inv-loop μ-loop
-returns c = search needs
+cast-ended-at : tie.Need-cast-ended-at Inv-loop μ-loop
+cast-ended-at c = search needs
 
-add-first-fault : tie.Need-add-first-fault Inv-loop μ-loop
-add-first-fault c = search needs
-
-cast-first-fault : tie.Need-cast-first-fault Inv-loop μ-loop
-cast-first-fault c = search needs
-
-first-fault-requires : tie.Need-first-fault-requires Inv-loop μ-loop
-first-fault-requires c κs = search needs
-
-enum-known-r : tie.Need-enum-known-r Inv-loop μ-loop
-enum-known-r c = search needs
-
-returns-2 : tie.Need-returns-2 Inv-loop μ-loop
-returns-2 c =
-    let found = c .before in
-    let judged = found .before .before in
-    let at-loop = judged .before .before .before .before .before .before .before in
-    let a = at-loop .before .before .args in
-    record {
-      same =
-          reading-refused (a .h) (opening (a .first)) 1 (a .part .now) (at-loop .loop .e) (at-loop .loop .i) (found .r .given .0 .0)
-          (omega arith) (at-loop .loop .inv) (sym (found .r .given .1) ∙ judged .first-fault .ensures);
-      left = tt;
-    }
-
-enum-told : tie.Need-enum-told Inv-loop μ-loop
-enum-told c = search needs
-
--- another word without a fault
-faultless : (c : tie.After-enum-told Inv-loop μ-loop)
-    → let at-loop = c .before .before .before .before .before .before .before .before .before in
-    let a = at-loop .before .before .args in
-    Nothing ≡ faultAt (a .h) (at-loop .loop .e) (1 + at-loop .loop .i) (getD (a .part .now) (at-loop .loop .i) 0)
-faultless c = sym (c .enum-told .given .1) ∙ c .before .before .first-fault .ensures
-
-past-requires : tie.Need-past-requires Inv-loop μ-loop
-past-requires c κs =
-    let at-loop = c .before .before .before .before .before .before .before .before .before in
-    let start = at-loop .before .before in (
-      omega (arith, at-loop .loop .inv .steps),
-      omega (arith, at-loop .loop .inv .sequences),
-      set-low (start .args .h) (at-loop .loop .e) _ (getD (start .args .part .now) (at-loop .loop .i) 0) (start .pre .1) (sym (faultless c)),
-    )
-
-add-i : tie.Need-add-i Inv-loop μ-loop
-add-i c = search needs
-
-loop-less-2 : tie.Need-loop-less-2 Inv-loop μ-loop
-loop-less-2 c = search needs
-
-loop-again-2 : tie.Need-loop-again-2 Inv-loop μ-loop
-loop-again-2 c =
-    let told = c .before in
-    let at-loop = told .before .before .before .before .before .before .before .before .before in
-    let a = at-loop .before .before .args in
-    rw (c .past .ensures)
-    (reading-turn (a .h) (opening (a .first)) 1 (a .part .now) (at-loop .loop .e) (at-loop .loop .i) (omega arith) (at-loop .loop .inv) (faultless told))
+ended-at-requires : tie.Need-ended-at-requires Inv-loop μ-loop
+ended-at-requires c κs = search needs
 
 returns-3 : tie.Need-returns-3 Inv-loop μ-loop
-returns-3 c = search needs
+returns-3 c =
+    let at-loop = c .before .before in
+    let a = at-loop .before .before .args in
+    whole-answer (a .h) (a .part .now) (begun (a .first)) 1 _
+    (c .ended-at .ensures
+    ∙ read-end (a .h) (a .part .now) (begun (a .first)) 0 (at-loop .loop .e) (at-loop .loop .i) (at-loop .loop .inv .read) 1 (omega arith))
 
 pub read-steps-spec : {M : Type 1} → statement M
 read-steps-spec =
@@ -169,22 +193,25 @@ read-steps-spec =
     mul-w
     shared-slice-read-w
     step-right-requires
-    past-opener-requires
-    add-read-facts
+    is-kind-requires
+    add-read-sequences
+    mul-read-sequences
+    sub-read-sequences
+    part-read-sequences-start
+    part-read-sequences-end
+    read-sequences-requires
+    returns
+    read-words-requires
+    returns-2
     read-facts-requires
+    past-requires
+    sub-further-on
+    mul-further-on
+    shared-slice-read-further-on
     further-on-requires
     loop-less
     loop-again
-    is-kind-requires
-    returns
-    add-first-fault
-    cast-first-fault
-    first-fault-requires
-    enum-known-r
-    returns-2
-    enum-told
-    past-requires
-    add-i
-    loop-less-2
-    loop-again-2
+    add-ended-at
+    cast-ended-at
+    ended-at-requires
     returns-3)

@@ -14,10 +14,10 @@ payload-of-requires : tie.Need-payload-of-requires
 payload-of-requires c κs = search needs
 
 of-check-requires : tie.Need-of-check-requires
-of-check-requires c κs = rw (c .payload-of .ensures) (c .before .pre)
+of-check-requires c κs = search needs
 
 returns : tie.Need-returns
-returns c = c .of-check .ensures ∙ ap checkRow (c .before .payload-of .ensures)
+returns c = c .of-check .ensures ∙ ap (checkRow _) (c .before .payload-of .ensures)
 
 pub check-row-spec : {M : Type 1} → statement M
 check-row-spec = tie.close (tie.spec payload-of-requires of-check-requires returns)

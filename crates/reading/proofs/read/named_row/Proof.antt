@@ -30,7 +30,7 @@ row-at-requires c κs =
     rw (c .payload-of .ensures) (start .pre .0 .step (eqb-true (kind (start .args .w)) 8 (sym (kinds .is-kind .ensures) ∙ c .before .if1 .taken)))
 
 returns : tie.Need-returns
-returns c =
+returns c b =
     let kinds = c .before .before .before in
     let start = kinds .before .before .before in
     simp (sym (kinds .is-kind .ensures) ∙ c .before .before .if1 .taken)
@@ -52,7 +52,7 @@ row-at-requires-2 c κs =
     (eqb-false (kind (start .args .w)) 13 (start .pre .2))))
 
 returns-2 : tie.Need-returns-2
-returns-2 c =
+returns-2 c b =
     let kinds = c .before .before .before in
     let start = kinds .before .before .before in
     simp (sym (kinds .is-kind .ensures) ∙ c .before .before .if1 .left, start .pre .2)

@@ -21,11 +21,11 @@ use Rattle.reading.proofs.read.read_alternative.Statement.{statement}
 use Rattle.reading.proofs.read.read_alternative.Tie as tie
 
 abbrev Inv-loop : tie.InvT-loop
-Inv-loop all steps table part at x₀ i₀ x i =
-    Leaving part (joinedFrom steps table (startRow all) (entriesFrom (drop at part))) (isDead table) at (joinedFrom steps table x) i
+Inv-loop block steps table part at x₀ i₀ x i =
+    Leaving part (joinedFrom block steps table (startRow (block .all)) (entriesFrom (drop at part))) (isDead table) at (joinedFrom block steps table x) i
 
 abbrev μ-loop : tie.MeasureT-loop
-μ-loop all steps table part at x₀ i₀ x i = length part - i
+μ-loop block steps table part at x₀ i₀ x i = length part - i
 
 -- an entry stands there
 entry : (c : tie.Else1 Inv-loop μ-loop)
@@ -47,11 +47,11 @@ check-told c b told = tested (isKind 13) (c .before .before .before .word-at .en
 row-is : (c : tie.After-named-row Inv-loop μ-loop)
     → let at-loop = c .before .before .before .before .before .before in
     let start = at-loop .before .before .before .before .before in
-    c .named-row .result ≡ entryIn (start .args .steps .now) (start .args .table .now) (entryOf (getD (start .args .part .now) (at-loop .loop .i) 0))
+    c .named-row .result ≡ entryIn (start .args .block) (start .args .steps .now) (start .args .table .now) (entryOf (getD (start .args .part .now) (at-loop .loop .i) 0))
 row-is c =
     let word = c .before .before .before .before .before in
     let a = word .before .before .before .before .before .before .args in
-    c .named-row .ensures ∙ ap (λ (w : ℕ). entryIn (a .steps .now) (a .table .now) (entryOf w)) (word .word-at .ensures)
+    c .named-row .ensures (a .block) ∙ ap (λ (w : ℕ). entryIn (a .block) (a .steps .now) (a .table .now) (entryOf w)) (word .word-at .ensures)
 
 -- whether it is dead, by its row
 dead : (c : tie.After-named-row Inv-loop μ-loop) (b : Bool) → not (ltb 0 (c .named-row .result .run)) ≡ b
@@ -62,15 +62,15 @@ dead c b told =
     let test = c .before .before .before in
     let at-loop = test .before .before .before in
     let start = at-loop .before .before .before .before .before in
-    dead-is (start .args .steps .now) (start .args .table .now) (getD (start .args .part .now) (at-loop .loop .i) 0)
+    dead-is (start .args .block) (start .args .steps .now) (start .args .table .now) (getD (start .args .part .now) (at-loop .loop .i) 0)
     (start .pre .0 (at-loop .loop .i) (inside test)) (entry test)
     ∙ ap (λ (r : Row). not (ltb 0 (r .run))) (sym (row-is c)) ∙ told
 
-start-requires : tie.Need-start-requires Inv-loop μ-loop
-start-requires c κs = search needs
+start-row-requires : tie.Need-start-row-requires Inv-loop μ-loop
+start-row-requires c κs = search needs
 
 loop-holds : tie.Need-loop-holds Inv-loop μ-loop
-loop-holds c = rw (c .start .ensures) (leaving-start (c .before .before .before .before .pre .1) refl)
+loop-holds c = rw (c .start-row .ensures) (leaving-start (c .before .before .before .before .pre .1) refl)
 
 word-at-requires : tie.Need-word-at-requires Inv-loop μ-loop
 word-at-requires c κs = search needs
@@ -99,11 +99,7 @@ check-kind : (c : tie.Then2 Inv-loop μ-loop)
 check-kind c = eqb-true _ 13 (check-told (c .before) true (c .if2 .taken))
 
 check-row-requires : tie.Need-check-row-requires Inv-loop μ-loop
-check-row-requires c κs =
-    let test = c .before .before in
-    let at-loop = test .before .before .before in
-    rw (test .before .before .word-at .ensures)
-    (at-loop .before .before .before .before .before .pre .0 (at-loop .loop .i) (inside test) .check (check-kind c))
+check-row-requires c κs = search needs
 
 joined-requires : tie.Need-joined-requires Inv-loop μ-loop
 joined-requires c κs = search needs
@@ -119,12 +115,12 @@ loop-less c = omega (arith, inside (c .before .before .before .before))
 check-is : (c : tie.After-check-row Inv-loop μ-loop)
     → let at-loop = c .before .before .before .before .before .before in
     let start = at-loop .before .before .before .before .before in
-    c .check-row .result ≡ entryIn (start .args .steps .now) (start .args .table .now) (entryOf (getD (start .args .part .now) (at-loop .loop .i) 0))
+    c .check-row .result ≡ entryIn (start .args .block) (start .args .steps .now) (start .args .table .now) (entryOf (getD (start .args .part .now) (at-loop .loop .i) 0))
 check-is c =
     let word = c .before .before .before .before .before in
     let a = word .before .before .before .before .before .before .args in
-    c .check-row .ensures ∙ ap (λ (w : ℕ). checkRow (payload w)) (word .word-at .ensures)
-    ∙ sym (ap (entryIn (a .steps .now) (a .table .now)) (check-entry (getD (a .part .now) (word .before .loop .i) 0) (check-kind (c .before))))
+    c .check-row .ensures ∙ ap (λ (w : ℕ). checkRow (a .block .number) (payload w)) (word .word-at .ensures)
+    ∙ sym (ap (entryIn (a .block) (a .steps .now) (a .table .now)) (check-entry (getD (a .part .now) (word .before .loop .i) 0) (check-kind (c .before))))
 
 loop-again : tie.Need-loop-again Inv-loop μ-loop
 loop-again c =
@@ -134,7 +130,7 @@ loop-again c =
     let a = at-loop .before .before .before .before .before .args in
     let is = ap (isDead (a .table .now)) (check-entry (getD (a .part .now) (at-loop .loop .i) 0) (check-kind (row .before))) in
     rw (c .joined .ensures, check-is row)
-    (leaving-turn (at-loop .loop .inv) (entry test) is (joined-live _ _ _ _ _ is))
+    (leaving-turn (at-loop .loop .inv) (entry test) is (joined-live _ _ _ _ _ _ is))
 
 named-row-requires : tie.Need-named-row-requires Inv-loop μ-loop
 named-row-requires c κs =
@@ -155,7 +151,7 @@ returns-2 c =
     let is = dead row _ (ap (λ (n : ℕ). not (ltb 0 n)) (left .if3 .taken)) in
     record {
       row =
-          c .left-at .ensures .0 ∙ sym (joined-dead _ _ _ _ _ is) ∙ leaving-rest here (entry test);
+          c .left-at .ensures .0 ∙ sym (joined-dead _ _ _ _ _ _ is) ∙ leaving-rest here (entry test);
       ended = c .left-at .ensures .1 ∙ leaving-dead here (entry test) is;
     }
 
@@ -175,7 +171,7 @@ loop-again-2 c =
     let row = c .before .before .before in
     let test = row .before .before .before in
     let is = dead row _ (ap not (lt-ltb 0 (row .named-row .result .run) (omega (arith, c .before .if3 .left)))) in
-    rw (c .joined2 .ensures, row-is row) (leaving-turn (test .before .before .before .loop .inv) (entry test) is (joined-live _ _ _ _ _ is))
+    rw (c .joined2 .ensures, row-is row) (leaving-turn (test .before .before .before .loop .inv) (entry test) is (joined-live _ _ _ _ _ _ is))
 
 pub read-alternative-spec : {M : Type 1} → statement M
 read-alternative-spec =
@@ -183,7 +179,7 @@ read-alternative-spec =
     (tie.spec
     Inv-loop
     μ-loop
-    start-requires
+    start-row-requires
     loop-holds
     word-at-requires
     part-entry-requires

@@ -17,10 +17,10 @@ use Rattle.reading.proofs.read.read_sequence.Statement.{statement}
 use Rattle.reading.proofs.read.read_sequence.Tie as tie
 
 abbrev Inv-loop : tie.InvT-loop
-Inv-loop all steps table part at x₀ i₀ x i = Walking part (unitedFrom all steps table noRow (alternativesFrom (drop at part))) (unitedFrom all steps table x) i
+Inv-loop block steps table part at x₀ i₀ x i = Walking part (unitedFrom block steps table noRow (alternativesFrom (drop at part))) (unitedFrom block steps table x) i
 
 abbrev μ-loop : tie.MeasureT-loop
-μ-loop all steps table part at x₀ i₀ x i = length part - i
+μ-loop block steps table part at x₀ i₀ x i = length part - i
 
 -- an alternative is opened there
 opener : (c : tie.Else2 Inv-loop μ-loop)
@@ -100,8 +100,8 @@ loop-again-2 c =
     rw (c .united .ensures, read .read-alternative .ensures .row)
     (walking-turn (at-loop .loop .inv) (isDead (a .table .now)) (opener test) (read .read-alternative .ensures .ended) refl)
 
-start-requires : tie.Need-start-requires Inv-loop μ-loop
-start-requires c κs = search needs
+start-row-requires : tie.Need-start-row-requires Inv-loop μ-loop
+start-row-requires c κs = search needs
 
 united-requires-2 : tie.Need-united-requires-2 Inv-loop μ-loop
 united-requires-2 c κs = search needs
@@ -122,7 +122,7 @@ loop-again-3 c =
     let none = start .before in
     let word = none .before .before in
     let test = word .before in
-    rw (c .before .united2 .ensures, start .start .ensures)
+    rw (c .before .united2 .ensures, start .start-row .ensures)
     (uniting-empties _ _ _ _ (test .before .before .before .before .before .loop .inv) (opener test)
     (tested isEntry (word .word-at2 .ensures) (none .before .is-entry2 .ensures) (none .if3 .left)) (c .empties-end .ensures))
 
@@ -148,7 +148,7 @@ read-sequence-spec =
     united-requires
     loop-less-2
     loop-again-2
-    start-requires
+    start-row-requires
     united-requires-2
     empties-end-requires
     loop-less-3

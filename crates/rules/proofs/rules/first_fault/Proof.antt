@@ -4,7 +4,9 @@ use borrow.Author.Needs.{needs}
 use borrow.Author.Tests.{not-true, not-false}
 use mathlib.Core.Path.{_≡_, sym, _∙_}
 use mathlib.Core.Bool.{true}
+use lib.ListN.{getD}
 use Rattle.rules.specs.Rules.{mayStand, payloadRight, inOrder}
+use Rattle.rules.specs.Quick.{seen}
 use Rattle.rules.proofs.rules.first_fault.Statement.{statement}
 use Rattle.rules.proofs.rules.first_fault.Tie as tie
 use Rattle.rules.proofs.rules.first_fault.Reads as reads
@@ -13,6 +15,18 @@ use Rattle.rules.proofs.rules.clears_unset.Reads as clears-unset-reads
 use Rattle.rules.proofs.rules.in_order.Reads as in-order-reads
 use Rattle.rules.proofs.rules.may_stand.Reads as may-stand-reads
 use Rattle.rules.proofs.rules.payload_right.Reads as payload-right-reads
+
+mul-w : tie.Need-mul-w
+mul-w c = search needs
+
+shared-slice-read-w : tie.Need-shared-slice-read-w
+shared-slice-read-w c = search needs
+
+add-p : tie.Need-add-p
+add-p c = search needs
+
+cast-p : tie.Need-cast-p
+cast-p c = search needs
 
 may-stand-requires : tie.Need-may-stand-requires
 may-stand-requires c κs = search needs
@@ -27,13 +41,13 @@ clears-unset-requires : tie.Need-clears-unset-requires
 clears-unset-requires c κs = search needs
 
 -- what each test says of a word that passes it
-stands : (c : tie.Else1) → let a = c .before .before .args in mayStand (a .h) (a .e) (a .w) ≡ true
+stands : (c : tie.Else1) → let a = c .before .before .before .before .args in mayStand (a .h) (seen (a .e) 0) (getD (a .part .now) (a .i) 0) ≡ true
 stands c = sym (c .before .may-stand .ensures) ∙ not-false _ (c .if1 .left)
 
-pays : (c : tie.Else2) → let a = c .before .before .before .before .args in payloadRight (a .h) (a .e) (a .w) ≡ true
+pays : (c : tie.Else2) → let a = c .before .before .before .before .before .before .args in payloadRight (a .h) (seen (a .e) 0) (getD (a .part .now) (a .i) 0) ≡ true
 pays c = sym (c .before .payload-right .ensures) ∙ not-false _ (c .if2 .left)
 
-follows : (c : tie.Else3) → let a = c .before .before .before .before .before .before .args in inOrder (a .e) (a .w) ≡ true
+follows : (c : tie.Else3) → let a = c .before .before .before .before .before .before .before .before .args in inOrder (seen (a .e) 0) (getD (a .part .now) (a .i) 0) ≡ true
 follows c = sym (c .before .in-order .ensures) ∙ not-false _ (c .if3 .left)
 
 returns : tie.Need-returns
@@ -63,6 +77,10 @@ pub first-fault-spec : {M : Type 1} → statement M
 first-fault-spec =
     tie.close
     (tie.spec
+    mul-w
+    shared-slice-read-w
+    add-p
+    cast-p
     may-stand-requires
     returns
     payload-right-requires

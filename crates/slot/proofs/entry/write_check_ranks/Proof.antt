@@ -1,89 +1,73 @@
--- `slot::entry::write_check_ranks` meets its contract: the ranks of the checks so far are written.
+-- `slot::entry::write_check_ranks` meets its contract: all alike, and then that of the fact asked about.
 -- Assumes nothing.
-use native.Mathlib.Omega.{arith}
 use mathlib.Core.Path.{ap, _∙_}
-use Prim.Native.Nat.{_-_}
-use Rattle.image.specs.Word.{mostFacts}
-use Rattle.slot.specs.Slots.{firstStep, markRank, checkRank}
-use Rattle.slot.proofs.Slots.{Writing, writing-start, writing-turn, writing-end}
+use Rattle.slot.specs.Slots.{markRank}
+use Rattle.slot.proofs.Slots.{checks-ranked}
 use borrow.Author.Needs.{needs}
 use Rattle.slot.proofs.entry.write_check_ranks.Statement.{statement}
 use Rattle.slot.proofs.entry.write_check_ranks.Tie as tie
 use Rattle.slot.proofs.entry.write_check_ranks.Reads as reads
 use Rattle.slot.proofs.entry.write_check_ranks.Lts as lts
-use Rattle.slot.proofs.entry.check_mark.Reads as check-mark-reads
+use Rattle.slot.proofs.entry.choose.Reads as choose-reads
+use Rattle.slot.proofs.entry.fill.Reads as fill-reads
 use Rattle.slot.proofs.entry.mark_rank.Reads as mark-rank-reads
 
-abbrev Inv-loop : tie.InvT-loop
-Inv-loop all q ranks₀ base f₀ ranks f = Writing (q .none) (firstStep (q .none)) (checkRank all q) ranks₀ ranks f
-
-abbrev μ-loop : tie.MeasureT-loop
-μ-loop all q ranks₀ base f₀ ranks f = mostFacts - f
-
-cast-base : tie.Need-cast-base Inv-loop μ-loop
+cast-base : tie.Need-cast-base
 cast-base c = search needs
 
-loop-holds : tie.Need-loop-holds Inv-loop μ-loop
-loop-holds c = writing-start _ _ _ _ (omega arith)
+cast-fill : tie.Need-cast-fill
+cast-fill c = search needs
 
-check-mark-requires : tie.Need-check-mark-requires Inv-loop μ-loop
-check-mark-requires c κs = search needs
-
-mark-rank-requires : tie.Need-mark-rank-requires Inv-loop μ-loop
+mark-rank-requires : tie.Need-mark-rank-requires
 mark-rank-requires c κs = search needs
 
-cast-ranks : tie.Need-cast-ranks Inv-loop μ-loop
+fill-requires : tie.Need-fill-requires
+fill-requires c κs = search needs
+
+choose-requires : tie.Need-choose-requires
+choose-requires c κs = search needs
+
+mark-rank-requires-2 : tie.Need-mark-rank-requires-2
+mark-rank-requires-2 c κs = search needs
+
+cast-ranks : tie.Need-cast-ranks
 cast-ranks c = search needs
 
-add-ranks : tie.Need-add-ranks Inv-loop μ-loop
+add-ranks : tie.Need-add-ranks
 add-ranks c = search needs
 
-mul-ranks : tie.Need-mul-ranks Inv-loop μ-loop
+mul-ranks : tie.Need-mul-ranks
 mul-ranks c = search needs
 
-slice-write-ranks : tie.Need-slice-write-ranks Inv-loop μ-loop
+slice-write-ranks : tie.Need-slice-write-ranks
 slice-write-ranks c = search needs
 
-add-f : tie.Need-add-f Inv-loop μ-loop
-add-f c = search needs
-
-loop-less : tie.Need-loop-less Inv-loop μ-loop
-loop-less c = search needs
-
-loop-again : tie.Need-loop-again Inv-loop μ-loop
-loop-again c =
-    let mark = c .before in
-    let turn = mark .before in
-    let at-loop = turn .before in
-    let start = at-loop .before .before .before in
-    let a = start .args in
-    writing-turn _ _ _ _ (at-loop .loop .ranks) (at-loop .loop .f) (at-loop .loop .inv) (omega (arith, turn .loop-test .taken)) (start .pre) _
-    (c .mark-rank .ensures ∙ ap (markRank (a .all) (a .q)) (mark .check-mark .ensures))
-
-same-length : tie.Need-same-length Inv-loop μ-loop
+same-length : tie.Need-same-length
 same-length c = search needs
 
-returns : tie.Need-returns Inv-loop μ-loop
+returns : tie.Need-returns
 returns c =
-    let at-loop = c .before in
-    writing-end _ _ _ _ (at-loop .loop .ranks) (at-loop .loop .f) (at-loop .loop .inv) (omega (arith, c .loop-test .left))
+    let own = c .before in
+    let filled = own .before .before .before .before in
+    let other = filled .before in
+    let start = other .before .before .before .before in
+    let a = start .args in
+    checks-ranked (a .all) (a .q) (a .ranks .now) _ _ _ (start .pre .0) (start .pre .1) (other .mark-rank .ensures)
+    (own .mark-rank2 .ensures ∙ ap (markRank (a .all) (a .q)) (own .before .choose .ensures)) (filled .fill .ensures)
 
 pub write-check-ranks-spec : {M : Type 1} → statement M
 write-check-ranks-spec =
     tie.close
     (tie.spec
-    Inv-loop
-    μ-loop
     cast-base
-    loop-holds
-    check-mark-requires
+    cast-fill
     mark-rank-requires
+    fill-requires
+    choose-requires
+    mark-rank-requires-2
     cast-ranks
     add-ranks
     mul-ranks
     slice-write-ranks
-    add-f
-    loop-less
-    loop-again
     same-length
     returns)

@@ -41,7 +41,7 @@ step-mark-requires : tie.Need-step-mark-requires Inv-loop μ-loop
 step-mark-requires c κs =
     let at-loop = c .before in
     let start = at-loop .before .before .before .before in
-    (start .pre .fact, omega (arith, c .loop-test .taken, at-loop .loop .inv .written .long, start .pre .masked))
+    omega (arith, c .loop-test .taken, at-loop .loop .inv .written .long, start .pre .masked)
 
 mark-rank-requires : tie.Need-mark-rank-requires Inv-loop μ-loop
 mark-rank-requires c κs = search needs

@@ -19,8 +19,8 @@ shared-slice-read-always c = search needs
 always-requires : tie.Need-always-requires
 always-requires c κs = search needs
 
-slice-write-part : tie.Need-slice-write-part
-slice-write-part c = search needs
+slice-write-numbers : tie.Need-slice-write-numbers
+slice-write-numbers c = search needs
 
 shared-slice-read-always-2 : tie.Need-shared-slice-read-always-2
 shared-slice-read-always-2 c = search needs
@@ -28,8 +28,8 @@ shared-slice-read-always-2 c = search needs
 always-requires-2 : tie.Need-always-requires-2
 always-requires-2 c κs = search needs
 
-slice-write-part-2 : tie.Need-slice-write-part-2
-slice-write-part-2 c = search needs
+slice-write-numbers-2 : tie.Need-slice-write-numbers-2
+slice-write-numbers-2 c = search needs
 
 shared-slice-read-always-3 : tie.Need-shared-slice-read-always-3
 shared-slice-read-always-3 c = search needs
@@ -40,8 +40,8 @@ shared-slice-read-always-4 c = search needs
 always-requires-3 : tie.Need-always-requires-3
 always-requires-3 c κs = search needs
 
-slice-write-part-3 : tie.Need-slice-write-part-3
-slice-write-part-3 c = search needs
+slice-write-numbers-3 : tie.Need-slice-write-numbers-3
+slice-write-numbers-3 c = search needs
 
 same-length : tie.Need-same-length
 same-length c = search needs
@@ -57,13 +57,13 @@ write-left-spec =
     shared-slice-read-untouched
     shared-slice-read-always
     always-requires
-    slice-write-part
+    slice-write-numbers
     shared-slice-read-always-2
     always-requires-2
-    slice-write-part-2
+    slice-write-numbers-2
     shared-slice-read-always-3
     shared-slice-read-always-4
     always-requires-3
-    slice-write-part-3
+    slice-write-numbers-3
     same-length
     returns)

@@ -25,8 +25,8 @@ shared-slice-read-flags c = search needs
 flags-requires : tie.Need-flags-requires
 flags-requires c κs = search needs
 
-slice-write-part : tie.Need-slice-write-part
-slice-write-part c = search needs
+slice-write-numbers : tie.Need-slice-write-numbers
+slice-write-numbers c = search needs
 
 shared-slice-read-always : tie.Need-shared-slice-read-always
 shared-slice-read-always c = search needs
@@ -37,20 +37,20 @@ shared-slice-read-always-2 c = search needs
 always-requires : tie.Need-always-requires
 always-requires c κs = search needs
 
-slice-write-part-2 : tie.Need-slice-write-part-2
-slice-write-part-2 c = search needs
+slice-write-numbers-2 : tie.Need-slice-write-numbers-2
+slice-write-numbers-2 c = search needs
 
-shared-slice-read-part : tie.Need-shared-slice-read-part
-shared-slice-read-part c = search needs
+shared-slice-read-numbers : tie.Need-shared-slice-read-numbers
+shared-slice-read-numbers c = search needs
 
-slice-write-part-3 : tie.Need-slice-write-part-3
-slice-write-part-3 c = search needs
+slice-write-numbers-3 : tie.Need-slice-write-numbers-3
+slice-write-numbers-3 c = search needs
 
-slice-write-part-4 : tie.Need-slice-write-part-4
-slice-write-part-4 c = search needs
+slice-write-numbers-4 : tie.Need-slice-write-numbers-4
+slice-write-numbers-4 c = search needs
 
-slice-write-part-5 : tie.Need-slice-write-part-5
-slice-write-part-5 c = simp length-set (omega arith)
+slice-write-numbers-5 : tie.Need-slice-write-numbers-5
+slice-write-numbers-5 c = simp length-set (omega arith)
 
 same-length : tie.Need-same-length
 same-length c = search needs
@@ -69,14 +69,14 @@ write-may-spec =
     shared-slice-read-cleared
     shared-slice-read-flags
     flags-requires
-    slice-write-part
+    slice-write-numbers
     shared-slice-read-always
     shared-slice-read-always-2
     always-requires
-    slice-write-part-2
-    shared-slice-read-part
-    slice-write-part-3
-    slice-write-part-4
-    slice-write-part-5
+    slice-write-numbers-2
+    shared-slice-read-numbers
+    slice-write-numbers-3
+    slice-write-numbers-4
+    slice-write-numbers-5
     same-length
     returns)
