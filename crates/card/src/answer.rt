@@ -5,7 +5,7 @@ ghost use Rattle.card.specs.Answer.{cards_answer};
 use image::answer::{Refusal, refusal_answer};
 
 // What the card call finds: the cards of so many sequences are written, or the first refusal that applies.
-#[derive(Drop)]
+#[derive(Clone, Copy)]
 pub enum Cards {
     Filled(u32),
     Refused(Refusal),

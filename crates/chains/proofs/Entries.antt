@@ -20,7 +20,7 @@ use Rattle.chains.proofs.Depth.{append_passes, passes_append}
 -- every element passes exactly when each does
 every_each : {A : Type 0} (p : A → Bool) (xs : List A) → every p xs ≡ true → (x : A) → Memᴰ x xs → p x ≡ true
 unfolding every
-every_each p [] h x m = absurd (Memᴰ.not_nil m)
+every_each p [] h x m = absurd (Memᴰ.not-nil m)
 every_each p (y ∷ xs) h x m =
     let r = and_parts (p y) (every p xs) h in
     ⊎_elim (λ e. ap p e ∙ r.0) (every_each p xs r.1 x) (Memᴰ.cases_cons m)

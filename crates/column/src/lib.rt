@@ -1,5 +1,7 @@
 // Columns: 64-bit words in which bit f says something of fact f. Where there are more facts than a word has bits, they come in blocks of 64, and bit b
 // of block k says it of fact 64 k + b.
+#![tactic(auto)]
+
 pub mod sets;
 
 ghost use Rattle.std.specs.Prelude.{◌≡◌, ◌*◌, ◌^◌, ◌<◌};

@@ -1,5 +1,7 @@
 // The C side: the calls that a simulator makes, with plain numbers and lent arrays. include/dulimoven.h declares them. Each contract is one
 // equation: what the caller sees, the number and the area after the call, is what the engine of specs/Engine gives back.
+#![tactic(auto)]
+
 ghost use Rattle.std.specs.Prelude.{◌≡◌};
 ghost use Rattle.dulimoven.specs.Returned.{returned};
 ghost use Rattle.dulimoven.specs.Engine.{engine};

@@ -49,7 +49,7 @@ module _ (L : Library) (c : ℕ) where
   list_starts endless = go (endless_list L c) (asked_listed endless)
     where
       go : (xs : List ℕ) → Memᴰ c xs → 0 < length xs
-      go [] m = absurd (Memᴰ.not_nil m)
+      go [] m = absurd (Memᴰ.not-nil m)
       go (x ∷ xs) m = omega arith
 
   -- where every entry that names a sequence names one of the library, the list shows what it is held for

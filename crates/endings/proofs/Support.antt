@@ -22,7 +22,7 @@ module _ (L : Library) where
   -- entries of which one names a member give no list: the run that stands for it would be given by entries of which again one does
   members_give_none : (xs : List ℕ) → Supports L xs → {es : List Entry} {w : List Item} → Gives L.sequences es w → (d : ℕ)
       → Memᴰ (call d) es → Memᴰ d xs → ⊥
-  members_give_none xs supports nothing d named listed = Memᴰ.not_nil named
+  members_give_none xs supports nothing d named listed = Memᴰ.not-nil named
   members_give_none xs supports (by_item {a = a} g) d named listed =
       ⊎_elim (λ e. false≢true ((is_call_iff d (item a)).1 e)) (λ m. members_give_none xs supports g d m listed) (Memᴰ.cases_cons named)
   members_give_none xs supports (by_call {c = c} i lt g g' e) d named listed =

@@ -5,13 +5,13 @@ ghost use Rattle.endless.specs.Answer.{endless_answer};
 use image::answer::{Refusal, refusal_answer};
 
 // How many sequences a list has.
-#[derive(Drop)]
+#[derive(Clone, Copy)]
 pub struct Members {
     pub count: usize,
 }
 
 // What the endless call finds: a list of so many sequences is written, or the first refusal that applies.
-#[derive(Drop)]
+#[derive(Clone, Copy)]
 pub enum Explained {
     Listed(Members),
     Refused(Refusal),

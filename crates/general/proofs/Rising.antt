@@ -21,7 +21,7 @@ use Rattle.general.proofs.Scan.{one, count_passing, count_all}
 -- n alone where the test says so
 last_in : (b : Bool) (n c : ℕ) → Memᴰ c (cond b (n ∷ []) []) ↔ ((c ≡ n) × (b ≡ true))
 last_in true n c = ((λ m. (Memᴰ.eq_of_singleton m, refl)), λ (e, t). Memᴰ.head e)
-last_in false n c = ((λ m. absurd (Memᴰ.not_nil m)), λ (e, t). absurd (false≢true t))
+last_in false n c = ((λ m. absurd (Memᴰ.not-nil m)), λ (e, t). absurd (false≢true t))
 
 last_length : (b : Bool) (n : ℕ) → length (cond b (n ∷ []) []) ≡ one b
 last_length true n = refl
@@ -38,7 +38,7 @@ passing_short p n = omega (arith, passing_length p n, count_all p n)
 -- the numbers below n that pass, and no others
 pub passing_in : (p : ℕ → Bool) (n c : ℕ) → Memᴰ c (passing p n) ↔ ((c < n) × (p c ≡ true))
 unfolding passing
-passing_in p zero c = ((λ m. absurd (Memᴰ.not_nil m)), λ (l, t). absurd (omega arith))
+passing_in p zero c = ((λ m. absurd (Memᴰ.not-nil m)), λ (l, t). absurd (omega arith))
 passing_in p (suc n) c = (
   (λ m. ⊎_elim (λ k. let (l, t) = (passing_in p n c).0 k in (omega arith, t))
       (λ k. let (e, t) = (last_in (p n) n c).0 k in (omega arith, ap p e ∙ t)) (Memᴰ.append_cases (passing p n) m)),
@@ -76,7 +76,7 @@ rising_tail x (y ∷ xs) r = r.1
 
 -- the first is below the others
 rising_first : (x : ℕ) (xs : List ℕ) (c : ℕ) → Rising (x ∷ xs) → Memᴰ c xs → x < c
-rising_first x [] c r m = absurd (Memᴰ.not_nil m)
+rising_first x [] c r m = absurd (Memᴰ.not-nil m)
 rising_first x (y ∷ xs) c r m =
     ⊎_elim (λ e. omega (arith, r.0)) (λ k. omega (arith, r.0, rising_first y xs c r.1 k)) (Memᴰ.cases_cons m)
 
@@ -95,8 +95,8 @@ within_tail x y xs ys same r within c m =
 
 within_both : (xs ys : List ℕ) → Rising xs → Rising ys → Within xs ys → Within ys xs → xs ≡ ys
 within_both [] [] r s there back = refl
-within_both [] (y ∷ ys) r s there back = absurd (Memᴰ.not_nil (back y (Memᴰ.head refl)))
-within_both (x ∷ xs) [] r s there back = absurd (Memᴰ.not_nil (there x (Memᴰ.head refl)))
+within_both [] (y ∷ ys) r s there back = absurd (Memᴰ.not-nil (back y (Memᴰ.head refl)))
+within_both (x ∷ xs) [] r s there back = absurd (Memᴰ.not-nil (there x (Memᴰ.head refl)))
 within_both (x ∷ xs) (y ∷ ys) r s there back =
     let same : x ≡ y = omega (arith, first_le x y xs ys s there, first_le y x ys xs r back) in
     ap₂ (λ (z : ℕ) (zs : List ℕ). z ∷ zs) same

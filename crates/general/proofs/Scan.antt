@@ -138,7 +138,7 @@ value_in v (suc n) (suc i) lt = Memᴰ.tail (value_in (λ j. v (suc j)) n i (ome
 
 pub value_of : (v : ℕ → ℕ) (n c : ℕ) → Memᴰ c (list_below v n) → (i : ℕ) × (i < n) × (c ≡ v i)
 unfolding list_below
-value_of v zero c m = absurd (Memᴰ.not_nil m)
+value_of v zero c m = absurd (Memᴰ.not-nil m)
 value_of v (suc n) c m =
     ⊎_elim (λ e. (0, omega arith, e)) (λ k. let (i, l, e) = value_of (λ j. v (suc j)) n c k in (suc i, omega arith, e))
     (Memᴰ.cases_cons m)

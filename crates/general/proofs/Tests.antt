@@ -45,7 +45,7 @@ all_default P d none (x ∷ xs) each (suc i) = all_default P d none xs each.1 i
 
 -- and of each member
 pub all_in_lem : {A : Type 0} (P : A → Type 0) (xs : List A) → All P xs → (x : A) → Memᴰ x xs → P x
-all_in_lem P [] each x m = absurd (Memᴰ.not_nil m)
+all_in_lem P [] each x m = absurd (Memᴰ.not-nil m)
 all_in_lem P (y ∷ xs) each x m = ⊎_elim (λ e. subst P (sym e) each.0) (all_in_lem P xs each.1 x) (Memᴰ.cases_cons m)
 
 -- one of two tests passes somewhere

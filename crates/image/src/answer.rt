@@ -8,7 +8,7 @@ use crate::word::{SEQUENCES_FROM, STEPS_FROM};
 const POSITIONS: u64 = 0x100000000;
 
 // What the head counts: facts (F), steps (A) and sequences (C).
-#[derive(Drop)]
+#[derive(Clone, Copy)]
 pub struct Head {
     pub facts: u32,
     pub steps: u32,
@@ -16,7 +16,7 @@ pub struct Head {
 }
 
 // The refusals of document 01, 1 to 12 in its order, and those that requests add. The number that a case carries is the position of a word.
-#[derive(Drop)]
+#[derive(Clone, Copy)]
 pub enum Refusal {
     // 1. fewer than 2 or more than 8,192 words
     Length,
@@ -55,7 +55,7 @@ pub enum Refusal {
 }
 
 // What the check finds: the head of a library, or the first refusal that applies.
-#[derive(Drop)]
+#[derive(Clone, Copy)]
 pub enum Checked {
     Accepted(Head),
     Refused(Refusal),

@@ -1,3 +1,5 @@
 // The library that an accepted image holds: its two parts, the masks of its steps and the places of its sequences.
+#![tactic(auto)]
+
 pub mod parts;
 pub mod tables;

@@ -13,7 +13,7 @@ use image::word::{AT_ONCE, KIND_NEEDS, KIND_SEQUENCE, KIND_SETS, KIND_STEP, is_k
 pub const MASK_WORDS: usize = 3;
 
 // What a step needs, sets and clears, a bit a fact of a block.
-#[derive(Drop)]
+#[derive(Clone, Copy)]
 pub struct Masks {
     pub needs: u64,
     pub sets: u64,

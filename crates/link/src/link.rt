@@ -13,7 +13,7 @@ use slot::entry::{passes, traits_of};
 use walk::sequence::{alternatives_of, opener_before, part_entry, selected_index, word_at};
 
 // An alternative, the position of an entry there, and the number that the entry names.
-#[derive(Drop)]
+#[derive(Clone, Copy)]
 pub struct Choice {
     pub alternative: u32,
     pub position: u32,

@@ -5,7 +5,7 @@ ghost use Rattle.list.specs.Answer.{listed_answer};
 use image::answer::{Refusal, refusal_answer};
 
 // What the list call finds: the list's card is written, or the first refusal that applies.
-#[derive(Drop)]
+#[derive(Clone, Copy)]
 pub enum Listed {
     Composed,
     Refused(Refusal),

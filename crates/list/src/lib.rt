@@ -1,4 +1,6 @@
 // The card of a test list, worked out from the cards alone.
+#![tactic(auto)]
+
 pub mod answer;
 pub mod call;
 pub mod compose;

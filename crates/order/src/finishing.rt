@@ -14,7 +14,7 @@ use image::word::MOST_SEQUENCES;
 const NO_CALLER: usize = MOST_SEQUENCES as usize;
 
 // Where the walk stands: how many sequences are entered and not finished, how many are not finished, and how many it has not begun with.
-#[derive(Drop)]
+#[derive(Clone, Copy)]
 struct Walk {
     pub depth: usize,
     pub left: usize,

@@ -1,4 +1,6 @@
 // Prints the cards of the library image on standard input, a line a sequence, or why the image is refused.
+#![tactic(auto)]
+
 ghost use Rattle.std.specs.Prelude.{length};
 ghost use Rattle.print_cards.specs.Input.{InputWithin};
 
@@ -7,7 +9,7 @@ use card_text::print::{MOST_BYTES, print_image};
 use libc::{STDERR_FILENO, STDIN_FILENO, STDOUT_FILENO};
 
 // What reading standard input gives: so many bytes, or a read that failed.
-#[derive(Drop)]
+#[derive(Clone, Copy)]
 pub enum Input {
     Bytes(usize),
     Failed,

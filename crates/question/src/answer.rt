@@ -7,13 +7,13 @@ use crate::words::LINK_WORDS;
 use image::answer::{Refusal, refusal_answer};
 
 // How many links a chain has.
-#[derive(Drop)]
+#[derive(Clone, Copy)]
 pub struct Links {
     pub count: u32,
 }
 
 // What the chain call finds: a chain of so many links is written, no run has the outcome, or the first refusal that applies.
-#[derive(Drop)]
+#[derive(Clone, Copy)]
 pub enum Chained {
     Shown(Links),
     None,

@@ -26,7 +26,7 @@ pub const RUN_MARK: u32 = 3;
 pub const NO_RANK_ABOVE: u32 = 2;
 
 // The question: its side, the mark asked for there, the fact, and what stands for "no rank".
-#[derive(Drop)]
+#[derive(Clone, Copy)]
 pub struct Asked {
     pub first: bool,
     pub mark: u32,

@@ -10,7 +10,7 @@ use slot::entry::{Traits, choose, passes, rank_of, traits_of};
 use walk::sequence::{part_entry, word_at};
 
 // What an alternative comes to, and the index at which the walk over its entries ended: that of the first dead one, or of the word after them.
-#[derive(Drop)]
+#[derive(Clone, Copy)]
 pub struct Read {
     pub value: u32,
     pub ended: usize,
@@ -63,7 +63,7 @@ pub fn greatest_depth(none: u32, ranks: &[u32], part: &[u32], at: usize) -> Read
 
 // What the positions so far come to. `best` is the fewest links after this one, `none` where no position counts. `floor` is 0 until an entry
 // fails as one ahead of those to come, and then `none`: a number in place of a test, since processors would guess it badly.
-#[derive(Drop)]
+#[derive(Clone, Copy)]
 pub struct Positions {
     pub best: u32,
     pub floor: u32,
@@ -80,7 +80,7 @@ fn with_entry(none: u32, x: Positions, t: Traits) -> Positions
 }
 
 // What stands at an index: whether it is an entry, and then its traits.
-#[derive(Drop)]
+#[derive(Clone, Copy)]
 pub struct Found {
     pub entry: bool,
     pub traits: Traits,

@@ -43,14 +43,14 @@ fn further_on(e: Earlier, last: u32) -> Earlier
 }
 
 // Where a reader of fact words of one kind stopped: the fingerprint of their facts, and the index.
-#[derive(Drop)]
+#[derive(Clone, Copy)]
 pub struct Facts {
     pub fingerprint: u64,
     pub next: usize,
 }
 
 // Where a reader of a sequence's words stopped: the word before, and the index.
-#[derive(Drop)]
+#[derive(Clone, Copy)]
 pub struct Body {
     pub last: u32,
     pub next: usize,

@@ -13,14 +13,14 @@ use rows::table::row_at;
 use walk::sequence::{is_check, part_entry, rest_end, word_at};
 
 // A block of facts: its number, and the column of those of its facts that there are.
-#[derive(Drop)]
+#[derive(Clone, Copy)]
 pub struct Block {
     pub number: u32,
     pub all: u64,
 }
 
 // The row of an alternative, and the index at which the walk over its entries ended: that of the first dead one, or of the word after them.
-#[derive(Drop)]
+#[derive(Clone, Copy)]
 pub struct Read {
     pub row: Row,
     pub ended: usize,

@@ -35,7 +35,7 @@ pub const ALL_BITS: u64 = 0xffffffffffffffff;
 
 // The outcomes on one side. On the last side `present` is "sets" and `absent` is "clears"; on the first side `present` is "needs" and
 // `absent` is "sets".
-#[derive(Drop)]
+#[derive(Clone, Copy)]
 pub struct Marks {
     pub present: u64,
     pub absent: u64,
@@ -44,7 +44,7 @@ pub struct Marks {
 
 // A run exists; an empty run exists; the outcomes on the last and on the first side; of what stands, that some run's last item that mentions the
 // fact clears it, and that some run has no such item.
-#[derive(Drop)]
+#[derive(Clone, Copy)]
 pub struct Row {
     pub run: u64,
     pub empty: u64,

@@ -1,2 +1,4 @@
 // A table of rows, one for each sequence or step.
+#![tactic(auto)]
+
 pub mod table;

@@ -20,7 +20,7 @@ const LESS_CHECK: u32 = 0x30000000;
 
 // What is carried of the words before a word: how many steps and sequences they open, and the word right before it. What the step sets
 // that they opened last is looked up in its words where refusal 13 asks for it.
-#[derive(Drop)]
+#[derive(Clone, Copy)]
 pub struct Earlier {
     pub steps: u32,
     pub sequences: u32,
@@ -28,7 +28,7 @@ pub struct Earlier {
 }
 
 // What is wrong with a word: refusal 4, 5, 6 or 13 with its position, or nothing.
-#[derive(Drop)]
+#[derive(Clone, Copy)]
 pub enum Fault {
     Found(Refusal),
     Nothing,

@@ -61,7 +61,7 @@ blank_columns K L c f none =
 -- "an empty run exists": every item of a run passes the test that no step passes exactly when the run has no step
 empty_steps : (w : List Item) → outcome empty_algebra is_check w ≡ true → Empty w
 unfolding outcome
-empty_steps [] e a m = Memᴰ.not_nil m
+empty_steps [] e a m = Memᴰ.not-nil m
 empty_steps (step b ∷ w) e a m = false≢true e
 empty_steps (check f ∷ w) e a m = ⊎_elim (λ q. true≢false (sym (ap is_check q))) (empty_steps w e a) (Memᴰ.cases_cons m)
 

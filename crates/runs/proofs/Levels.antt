@@ -94,7 +94,7 @@ module _ {K : Type 0} (same : K → K → Bool) (same_refl : (k : K) → same k 
   -- a key that passes the test is found in a table that is full
   found_full : (test : K → Bool) (t : List (Cell K)) → Full test t → (k : K) → Memᴰ k (keys t) → test k ≡ true → found same t k ≡ true
   unfolding found
-  found_full test [] full k m e = absurd (Memᴰ.not_nil m)
+  found_full test [] full k m e = absurd (Memᴰ.not-nil m)
   found_full test (cell j b ∷ t) full k m e = go (same j k) refl (Memᴰ.cases_cons m) (λ m'. found_full test t full.1 k m' e)
     where
       go : (s : Bool) → same j k ≡ s → (k ≡ j) ⊎ Memᴰ k (keys t) → (Memᴰ k (keys t) → found same t k ≡ true)

@@ -69,7 +69,7 @@ abbrev pub Untouched : (Item → Mark) → List Item → Type 0
 Untouched t w = (x : Item) → Memᴰ x w → t x ≡ untouched
 
 Untouched-nil : (t : Item → Mark) → Untouched t []
-Untouched-nil t x m = absurd (Memᴰ.not_nil m)
+Untouched-nil t x m = absurd (Memᴰ.not-nil m)
 
 Untouched-cons : (t : Item → Mark) (x : Item) (w : List Item) → t x ≡ untouched → Untouched t w → Untouched t (x ∷ w)
 Untouched-cons t x w e rest y m = ⊎_elim (λ q. ap t q ∙ e) (rest y) (Memᴰ.cases_cons m)

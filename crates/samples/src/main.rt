@@ -1,5 +1,7 @@
 // Runs the samples of document 01 that are not starred, through the calls of the C side, and prints a line for each: what is asked, and the
 // answer. The file `stdout` has what must be printed.
+#![tactic(auto)]
+
 use libc::STDOUT_FILENO;
 
 // Library L, as document 01 prints it, with the head of document 02, request 8, and the sum word of request 6.

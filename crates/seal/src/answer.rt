@@ -5,7 +5,7 @@ ghost use Rattle.seal.specs.Answer.{seal_answer};
 use image::answer::{Refusal, refusal_answer};
 
 // What the seal call comes to: the sum word is written, or the image is refused.
-#[derive(Drop)]
+#[derive(Clone, Copy)]
 pub enum Sealing {
     Sealed,
     Refused(Refusal),

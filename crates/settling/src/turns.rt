@@ -8,7 +8,7 @@ ghost use Rattle.settling.specs.Turns.{place_of, to_visit, StalePlace, TurnAt, N
 use callers::sets::{contains, remove, unite};
 
 // A turn: the number that is visited, the place from which the next one is looked for, and whether the order is gone through first to last.
-#[derive(Drop)]
+#[derive(Clone, Copy)]
 pub struct Turn {
     pub number: usize,
     pub place: usize,

@@ -12,7 +12,7 @@ use question::asked::{ABSENT_MARK, Asked, PRESENT_MARK, UNTOUCHED_MARK, fact_bit
 use walk::sequence::selected_index;
 
 // An entry's rank, and whether it passes as one ahead of the position and as one behind it.
-#[derive(Drop)]
+#[derive(Clone, Copy)]
 pub struct Traits {
     pub rank: u32,
     pub ahead: bool,

@@ -9,7 +9,7 @@ use image::word::{
 };
 
 // How many alternatives a sequence has, and the index of the last one's opener.
-#[derive(Drop)]
+#[derive(Clone, Copy)]
 pub struct Alternatives {
     pub count: u32,
     pub last: usize,

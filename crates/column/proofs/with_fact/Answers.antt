@@ -6,14 +6,7 @@ use native.Mathlib.Omega.{arith}
 use mathlib.Core.Path.{ap, ◌∙◌}
 use lib.Bits.{bit_or}
 use lib.Pow.{shl_exact}
-use Rattle.column.proofs.with_fact.Statement.{statement}
-use Rattle.column.proofs.with_fact.Tie as tie
+use Rattle.column.proofs.with_fact.Goals as goal
 
-shl-result : tie.Need-overflow-shl-result
-shl-result c = search rules
-
-returns : tie.Need-returns
+pub returns : goal.returns
 returns c = ap (bit_or c.args.c) (shl_exact {a = 1} 1 c.args.f 64 (omega arith) (omega arith) ∙ one-mul _)
-
-pub with-fact-spec : {M : Type 1} → statement M
-with-fact-spec = tie.close (tie.spec shl-result returns)
