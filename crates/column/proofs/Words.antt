@@ -12,13 +12,13 @@ use lib.ListN.{length, get_or, set, length-set}
 use lib.Seq.{ext_get_or, get_or-set_same, get_or-set_other}
 use lib.Bits.{or_lt, shifted_half, shifted_even}
 use lib.Dec.{eqb}
-use lib.Pow.{high, low, split, shr-shr, shr_lt, field, mod-mod-pow, pow_mono, pow-lt}
+use lib.Pow.{high, low, shr-shr, shr_lt, field, mod-mod-pow, pow_mono, pow-lt}
 use borrow.Author.Tests.{eqb-true, eqb-false, eq-eqb, ne_eqb}
 use mir.Val.{bool_byte}
 use Rattle.column.specs.Column.{bit, column, with_fact}
 use Rattle.column.specs.Sets.{in_column, count_below}
 use Rattle.column.specs.Words.{words, number, block, facts_in, with_fact_in}
-use Rattle.column.proofs.Bits.{bit_none, byte_le, column_lt, column_same, column_is}
+use Rattle.column.proofs.Bits.{bit_none, column_lt, column_same, column_is}
 use Rattle.column.proofs.Operations.{count_same, in_with, in_column_lem, bit_byte}
 
 -- ---- a column in two pieces

@@ -57,7 +57,7 @@ module _ (L : Library) where
     unfolding look_from
     look_sound sound h lt =
         let (none, from) = and_parts _ _ h in
-        let endless : Endless L e = record { sequence = lt; none = (no_run_iff L e).0 (not_true (has_run L e) none) } in
+        let endless : Endless L e = record { sequence = lt; none = (no_run_iff L e).0 (not-true (has_run L e) none) } in
         ⊎_elim
         (λ same. let asked = eqb-true e c same in subst (Reaches L c) (sym asked) (itself (subst (Endless L) asked endless)))
         (λ named.

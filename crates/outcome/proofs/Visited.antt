@@ -24,7 +24,7 @@ module _ (b : Block) (steps part places : List ℕ) where
   visit_made t c t' same room done fit e =
       record {
         done = done;
-        falls = λ changed. rw done (lacking_falls t c _ room fit (sym e ∙ not_true same changed));
+        falls = λ changed. rw done (lacking_falls t c _ room fit (sym e ∙ not-true same changed));
         stays = λ unchanged.
             done ∙ ap (with_row t c) (sym (rows_equal (row_in t c) (visited_row b steps part places t c) (sym e ∙ not-false same unchanged))) ∙ row_again t c;
       }

@@ -59,7 +59,7 @@ pub fewest_lost : (none : ℕ) (rank : Entry → ℕ) (ahead behind : Entry → 
     → not ((ahead e || behind e) || ltb (rank e) none) ≡ true → fewest_from none rank ahead behind floor best (e ∷ es) ≡ none
 unfolding fewest_from
 fewest_lost none rank ahead behind floor best e es lost =
-    let no = not_true _ lost in
+    let no = not-true _ lost in
     let either = nor_left (ahead e || behind e) (ltb (rank e) none) no in
     let le = ltb-false (rank e) none (nor_right (ahead e || behind e) (ltb (rank e) none) no) in
     let high : min none (max (rank e) floor) ≡ none = omega arith in
@@ -177,4 +177,4 @@ pub lowered_done : (worth : Alternative → ℕ) (r : ℕ) {part : List ℕ} {wh
     → leb r 1 || not (is_kind 7 (get_or part i 0)) ≡ true → r ≡ whole
 lowered_done worth r {part} {i = i} here none done =
     ⊎_elim (λ low. sym (lowered_least worth r (alternatives_from (drop i part)) (leb-true r 1 low)) ∙ here.same)
-    (λ other. sym (lowered_nil worth r) ∙ walking_out here (not_true _ other) none) (or_cases (leb r 1) _ done)
+    (λ other. sym (lowered_nil worth r) ∙ walking_out here (not-true _ other) none) (or_cases (leb r 1) _ done)

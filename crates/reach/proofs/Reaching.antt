@@ -56,7 +56,7 @@ module _ {n : ℕ} {part places runs : List ℕ} {c : ℕ} {found queue : List �
             ⊎_elim (here.sound e)
             (λ more.
             let (called, none) = and_parts (calls part places d e) (not (in_set runs e)) more in
-            onward (here.sound d (here.now_queued.members done l)) called (not_true (in_set runs e) none))
+            onward (here.sound d (here.now_queued.members done l)) called (not-true (in_set runs e) none))
             (or_cases (in_set found e) (calls part places d e && not (in_set runs e)) (sym (noted.same e) ∙ inside));
         walked = λ j e k called none.
             elim (ℕ_discrete j done) [

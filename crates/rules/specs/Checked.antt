@@ -1,6 +1,6 @@
 -- The check's answer: refusals 1 to 7, with 13 beside 4 to 6, in their order and with their positions, or acceptance (document 01,
 -- "Turned down, in checking order"; document 02, request 1).
-use Rattle.std.specs.Prelude.{◌≡◌, ℕ, ◌+◌, ◌-◌, cond, ◌&&◌, ◌||◌, List, [], ◌∷◌, ◌++◌, length, take, drop, nat_le, nat_lt, slice_index}
+use Rattle.std.specs.Prelude.{◌≡◌, ℕ, ◌-◌, cond, ◌&&◌, ◌||◌, List, [], ◌∷◌, ◌++◌, length, take, drop, nat_le, nat_lt, slice_index}
 use Rattle.image.specs.Word.{most_words, sum_right, head_of, head_right}
 use Rattle.rules.specs.Rules.{opened, earlier, fault_at}
 use Rattle.image.specs.declared.answer.Head.{Head}

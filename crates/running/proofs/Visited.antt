@@ -29,7 +29,7 @@ lacking_falls t c room low out =
   where
     still : (d : ℕ) → not (in_set (with_member t c) d) ≡ true → not (in_set t d) ≡ true
     still d e =
-        ⊎_elim (λ inside. absurd (true≢false (sym (member_stays t c room d inside) ∙ not_true (in_set (with_member t c) d) e))) (λ outside. ap not outside)
+        ⊎_elim (λ inside. absurd (true≢false (sym (member_stays t c room d inside) ∙ not-true (in_set (with_member t c) d) e))) (λ outside. ap not outside)
         (passes_or_not (in_set t d))
 
 -- ---- two sets that agree on the sequences called
@@ -64,7 +64,7 @@ module _ (part places : List ℕ) where
   visit_made t c room low true e =
       record {
         done = ap (λ (b : Bool). cond b (with_member t c) t) (sym e);
-        falls = λ new. lacking_falls t c room low (not_true (in_set t c) (and_parts (not (in_set t c)) (gives t c) e).0);
+        falls = λ new. lacking_falls t c room low (not-true (in_set t c) (and_parts (not (in_set t c)) (gives t c) e).0);
         stays = λ none. absurd (true≢false none);
       }
   visit_made t c room low false e =
@@ -96,7 +96,7 @@ module _ (part places : List ℕ) where
     where
       go : (b : Bool) → finds t c ≡ b → cond b (with_member t c) t ≡ t → b ≡ false
       go true e same =
-          absurd (true≢false (sym (member_same t c room) ∙ ap (λ (s : List ℕ). in_set s c) same ∙ not_true (in_set t c) (and_parts (not (in_set t c)) (gives t c) e).0))
+          absurd (true≢false (sym (member_same t c room) ∙ ap (λ (s : List ℕ). in_set s c) same ∙ not-true (in_set t c) (and_parts (not (in_set t c)) (gives t c) e).0))
       go false e same = refl
 
   none_still : (t : List ℕ) (c : ℕ) → finds t c ≡ false → visited part places t c ≡ t

@@ -136,7 +136,7 @@ module _ (L : Library) (v : View) (m : Mark) (c f : ℕ) (touch : m ≢ untouche
     (λ e. let p = and_parts (has_run L c) (not (broken_in L v m c f)) e in (
       (has_run_iff L c).0 p.0,
       λ w run. by_cases (Mark-discrete (view_outcome L v f w) m) (λ h. h)
-          (λ h. absurd (true≢false (sym (broken_iff.1 (w, run, h)) ∙ not_true (broken_in L v m c f) p.1))),
+          (λ h. absurd (true≢false (sym (broken_iff.1 (w, run, h)) ∙ not-true (broken_in L v m c f) p.1))),
     )),
     λ (run, all). and_both (has_run L c) (not (broken_in L v m c f)) ((has_run_iff L c).1 run)
         (⊎_elim (λ e. let b = broken_iff.0 e in absurd (b.2 (all b.0 b.1))) (λ e. ap not e) (passes_or_not (broken_in L v m c f))),

@@ -1,11 +1,10 @@
 -- `column::all_below` meets its contract: below the width the shifted one is a power of two that fits, and above it every bit is set.
 -- Assumes nothing.
-use borrow.Author.Rules.{rules}
 use Prim.Native.Nat.{ℕ, ◌-◌, ◌*◌, ◌%◌, ◌^◌, ◌<◌, min}
 use native.Mathlib.Nat.{one-mul}
 use native.Mathlib.Omega.{arith}
 use mathlib.Core.Path.{◌≡◌, sym, ap, ◌∙◌}
-use lib.Pow.{shl_exact, pow_pos}
+use lib.Pow.{shl_exact}
 use Rattle.column.proofs.all_below.Goals as goal
 
 shifted : (f : ℕ) → f < 64 → 1 * 2 ^ f % 2 ^ 64 ≡ 2 ^ f

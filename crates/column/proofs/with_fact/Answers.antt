@@ -1,6 +1,5 @@
 -- `column::with_fact` meets its contract: the shifted one is a power of two below 2^64.
 -- Assumes nothing.
-use borrow.Author.Rules.{rules}
 use native.Mathlib.Nat.{one-mul}
 use native.Mathlib.Omega.{arith}
 use mathlib.Core.Path.{ap, ◌∙◌}

@@ -69,7 +69,7 @@ returns c =
     let at-loop = call.before.before.before.before in
     let a = at-loop.before.before.before.before.args in
     adding_out a.part.now a.at a.c a.callers.now at-loop.loop.callers at-loop.loop.i at-loop.loop.invariant
-    (sym call.before.is-kind.ensures ∙ call.if1.false) (sym c.before.goes_on.ensures ∙ not_true c.before.goes_on.result c.if2.true)
+    (sym call.before.is-kind.ensures ∙ call.if1.false) (sym c.before.goes_on.ensures ∙ not-true c.before.goes_on.result c.if2.true)
 
 loop-less-2 : tie.Need-loop-smaller-2 invariant-loop decreases-loop
 loop-less-2 c = search rules

@@ -1,6 +1,5 @@
 -- `column::sets::holds` meets its contract: the shift divides by a power of two.
 -- Assumes nothing.
-use borrow.Author.Rules.{rules}
 use mathlib.Core.Path.{refl}
 use Rattle.column.specs.Sets.{in_column}
 use Rattle.column.proofs.sets.holds.Goals as goal

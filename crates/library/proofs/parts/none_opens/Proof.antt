@@ -66,7 +66,7 @@ returns c =
     let x = third.is-kind3.result in
     let y = c.is-kind4.result in
     λ shut.
-    let four = not_true (a || b || x || y) shut in
+    let four = not-true (a || b || x || y) shut in
     let three = nor_left (a || b || x) y four in
     let two = nor_left (a || b) x three in
     record {

@@ -108,7 +108,7 @@ found-again c =
     let own = out.before.before in
     let test = own.before.before.before in
     choosing_turn _ _ _ _ _ _ _ _ _ test.before.found.invariant (omega (arith, test.if1.false)) _ _ own.before.loop.invariant
-    (tested is_entry own.word_at.ensures out.before.part-entry.ensures (not_true _ out.if2.true)) _ c.opener-before.ensures
+    (tested is_entry own.word_at.ensures out.before.part-entry.ensures (not-true _ out.if2.true)) _ c.opener-before.ensures
 
 returns : tie.Need-returns invariant-loop decreases-loop invariant-found decreases-found
 returns c = chosen_out _ _ _ _ _ _ _ _ c.before.before.alternatives-of.ensures _ _ c.before.found.invariant c.if1.true

@@ -42,7 +42,7 @@ returns : tie.Need-returns invariant-loop decreases-loop
 unfolding tail_from
 returns c =
     folding_out c.before.before.before.loop.invariant
-    (tested is_entry c.before.before.word_at.ensures c.before.part-entry.ensures (not_true _ c.if1.true))
+    (tested is_entry c.before.before.word_at.ensures c.before.part-entry.ensures (not-true _ c.if1.true))
 
 add-i : tie.Need-overflow-add-i invariant-loop decreases-loop
 add-i c = omega (arith, folding_inside c.before.before.before.loop.invariant (entry c))

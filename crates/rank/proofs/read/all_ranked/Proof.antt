@@ -44,7 +44,7 @@ returns : tie.Need-returns invariant-loop decreases-loop
 unfolding every
 returns c =
     let here = c.before.before.before.loop.invariant in
-    let e = tested is_entry c.before.before.word_at.ensures c.before.part-entry.ensures (not_true _ c.if1.true) in
+    let e = tested is_entry c.before.before.word_at.ensures c.before.part-entry.ensures (not-true _ c.if1.true) in
     record { value = folding_out here.folding e; ended = leaving_out here e }
 
 passes-requires : tie.Need-passes-requires invariant-loop decreases-loop
@@ -61,7 +61,7 @@ returns-2 c =
     let dead : ℕ → Bool = λ w. lacks_in a.none a.ranks.now (entry_of w) in
     let told = tested dead word.word_at.ensures (ap not c.before.passes.ensures) c.if2.true in
     record {
-      value = sym (every_cons a.none a.ranks.now _ _ _ (not_true _ told)) ∙ leaving_rest here (entry test);
+      value = sym (every_cons a.none a.ranks.now _ _ _ (not-true _ told)) ∙ leaving_rest here (entry test);
       ended = leaving_dead here (entry test) told;
     }
 

@@ -29,7 +29,7 @@ found-at-requires c κs = (c.before.before.before.before.before.requires.0, c.lo
 returns : tie.Need-returns invariant-loop decreases-loop
 returns c =
     let found = c.before.before in
-    let out = links_out found.before.loop.invariant found.found_at.ensures (not_true _ c.if1.true) in
+    let out = links_out found.before.loop.invariant found.found_at.ensures (not-true _ c.if1.true) in
     record { value = out.0; ended = out.1 }
 
 links-from-requires : tie.Need-links-from-requires invariant-loop decreases-loop

@@ -25,7 +25,7 @@ part-entry-requires c κs = rw c.word_at.ensures (rankable_high c.before.before.
 
 returns : tie.Need-returns
 returns c =
-    let none = tested is_entry c.before.before.word_at.ensures c.before.part-entry.ensures (not_true _ c.if1.true) in
+    let none = tested is_entry c.before.before.word_at.ensures c.before.part-entry.ensures (not-true _ c.if1.true) in
     record { entry = sym none; traits = λ e. absurd (false≢true (sym none ∙ e)) }
 
 traits-of-requires : tie.Need-traits-of-requires

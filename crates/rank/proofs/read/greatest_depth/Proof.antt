@@ -58,7 +58,7 @@ returns : tie.Need-returns invariant-loop decreases-loop
 unfolding depth_from
 returns c =
     let here = c.before.before.before.loop.invariant in
-    let e = tested is_entry c.before.before.word_at.ensures c.before.part-entry.ensures (not_true _ c.if1.true) in
+    let e = tested is_entry c.before.before.word_at.ensures c.before.part-entry.ensures (not-true _ c.if1.true) in
     record { value = folding_out here.folding e; ended = leaving_out here e }
 
 rank-of-requires : tie.Need-rank-of-requires invariant-loop decreases-loop

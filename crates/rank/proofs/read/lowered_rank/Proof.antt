@@ -60,7 +60,7 @@ returns c =
     let at-loop = word.before in
     let a = at-loop.before.before.before.before.before.args in
     let r = at-loop.loop.r in
-    lowered_done (look_in a.q a.ahead.now a.behind.now a.ranks.now) r at-loop.loop.invariant (tested is_entry word.word_at.ensures test.before.part-entry.ensures (not_true _ test.if1.true))
+    lowered_done (look_in a.q a.ahead.now a.behind.now a.ranks.now) r at-loop.loop.invariant (tested is_entry word.word_at.ensures test.before.part-entry.ensures (not-true _ test.if1.true))
     (tested (λ w. leb r 1 || not (is_kind 7 w)) word.word_at.ensures (ap (λ (k : Bool). leb r 1 || not k) c.before.is-kind.ensures) c.if2.true)
 
 read-alternative-requires : tie.Need-read-alternative-requires invariant-loop decreases-loop

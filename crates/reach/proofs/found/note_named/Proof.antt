@@ -79,7 +79,7 @@ same-length-2 c = c.before.before.before.before.before.before.loop.invariant.1
 
 returns : tie.Need-returns invariant-loop decreases-loop
 returns c =
-    noting_out c.before.before.before.before.before.before.loop.invariant.0 (sym c.before.before.before.is-kind.ensures ∙ c.before.before.if1.false) (sym c.before.goes_on.ensures ∙ not_true _ c.if2.true)
+    noting_out c.before.before.before.before.before.before.loop.invariant.0 (sym c.before.before.before.is-kind.ensures ∙ c.before.before.if1.false) (sym c.before.goes_on.ensures ∙ not-true _ c.if2.true)
 
 loop-less-2 : tie.Need-loop-smaller-2 invariant-loop decreases-loop
 loop-less-2 c = omega (arith, c.before.before.before.before.before.loop-test.true)

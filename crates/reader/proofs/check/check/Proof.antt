@@ -47,7 +47,7 @@ returns-3 : tie.Need-returns-3
 returns-3 c =
     let else2 = c.before.before.before.before in
     refused_sum else2.before.before.before.args.image.now else2.before.if1.false else2.if2.false
-    (sym c.before.sum-right.ensures ∙ not_true _ c.if3.true)
+    (sym c.before.sum-right.ensures ∙ not-true _ c.if3.true)
 
 shared-slice-read-first : tie.Need-shared-slice-read-first
 shared-slice-read-first c = search rules
@@ -61,7 +61,7 @@ returns-4 c =
     let else2 = else3.before.before.before.before in
     refused_head else2.before.before.before.args.image.now else2.before.if1.false else2.if2.false
     (sym else3.before.sum-right.ensures ∙ not-false _ else3.if3.false)
-    (sym c.before.head-right.ensures ∙ not_true _ c.if4.true)
+    (sym c.before.head-right.ensures ∙ not-true _ c.if4.true)
 
 sub_read : tie.Need-overflow-sub-read
 sub_read c = search rules

@@ -86,7 +86,7 @@ unfolding joined_from
 returns c =
     let word = c.before.before in
     let here = word.before.loop.invariant in
-    let e = tested is_entry word.word_at.ensures c.before.part-entry.ensures (not_true _ c.if1.true) in
+    let e = tested is_entry word.word_at.ensures c.before.part-entry.ensures (not-true _ c.if1.true) in
     record { row = folding_out here.folding e; ended = leaving_out here e }
 
 is-check-requires : tie.Need-is-check-requires invariant-loop decreases-loop

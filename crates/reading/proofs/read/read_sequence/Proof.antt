@@ -66,7 +66,7 @@ unfolding united_from
 returns c =
     let test = c.before.before in
     let word = test.before.before in
-    walking_out word.before.loop.invariant (tested (is_kind 7) word.word_at.ensures c.before.is-kind.ensures (not_true _ c.if2.true))
+    walking_out word.before.loop.invariant (tested (is_kind 7) word.word_at.ensures c.before.is-kind.ensures (not-true _ c.if2.true))
     (tested is_entry word.word_at.ensures test.before.is-entry.ensures test.if1.false)
 
 word-at-requires-2 : tie.Need-word-at-requires-2 invariant-loop decreases-loop

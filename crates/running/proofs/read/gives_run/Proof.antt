@@ -63,7 +63,7 @@ unfolding some
 returns c =
     let test = c.before.before in
     let word = test.before.before in
-    walking_out word.before.loop.invariant (tested (is_kind 7) word.word_at.ensures c.before.is-kind.ensures (not_true _ c.if2.true))
+    walking_out word.before.loop.invariant (tested (is_kind 7) word.word_at.ensures c.before.is-kind.ensures (not-true _ c.if2.true))
     (tested is_entry word.word_at.ensures test.before.part-entry.ensures test.if1.false)
 
 live-end-requires : tie.Need-live-end-requires invariant-loop decreases-loop
@@ -84,7 +84,7 @@ returns-2 c =
     let word = c.before.before in
     let walk = word.before in
     let test = walk.before in
-    let e = tested is_entry word.word-at2.ensures c.before.part-entry2.ensures (not_true _ c.if3.true) in
+    let e = tested is_entry word.word-at2.ensures c.before.part-entry2.ensures (not-true _ c.if3.true) in
     sym (runs_by_lem _ _ _ true (walk.live_end.ensures.gives ∙ ap not e))
     ∙ walking_here test.before.before.before.before.before.loop.invariant (opener test)
 

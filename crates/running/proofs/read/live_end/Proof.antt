@@ -60,7 +60,7 @@ unfolding every
 returns c =
     let word = c.before.before in
     let here = word.before.loop.invariant in
-    let e = tested is_entry word.word_at.ensures c.before.part-entry.ensures (not_true _ c.if1.true) in
+    let e = tested is_entry word.word_at.ensures c.before.part-entry.ensures (not-true _ c.if1.true) in
     record { ended = leaving_out here e; gives = sym (folding_out here.folding e) ∙ sym (ap not e) }
 
 is-dead-requires : tie.Need-is-dead-requires invariant-loop decreases-loop

@@ -54,7 +54,7 @@ returns c =
     let read = c.before.before.before in
     let here = read.before.loop.invariant in
     let over =
-    word _ _ _ _ false read.word_at.ensures c.before.before.is-kind.ensures c.before.is-entry.ensures (not_true _ c.if1.true) in
+    word _ _ _ _ false read.word_at.ensures c.before.before.is-kind.ensures c.before.is-entry.ensures (not-true _ c.if1.true) in
     record { all = before_out _ _ _ _ here.before over; end = read.before.loop.end; last = here }
 
 cast-count : tie.Need-overflow-cast-count invariant-loop decreases-loop
