@@ -1,6 +1,6 @@
 -- What acceptance says: of the image, of the words of its two parts, and of the library that it holds. The crates above build on
 -- these records, and `proofs/Accepted` proves each of an accepted image.
-use Rattle.std.specs.Prelude.{ℕ, ◌+◌, ◌-◌, ◌≤◌, ◌<◌, ◌≡◌, true, false, ◌&&◌, ◌⊎◌, List, [], length, get_or, take}
+use Rattle.std.specs.Prelude.{ℕ, ◌+◌, ◌≤◌, ◌<◌, ◌≡◌, true, false, ◌&&◌, ◌⊎◌, List, [], length, get_or, take}
 use Rattle.general.specs.Tests.{All}
 use Rattle.image.specs.Word.{most_facts, most_steps, kind, payload, is_entry, head_of}
 use Rattle.image.specs.Answer.{head_payload}
