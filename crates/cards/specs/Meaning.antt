@@ -10,7 +10,7 @@ use Rattle.runs.specs.Domain.{domain_of}
 use Rattle.runs.specs.Execution.{Fact, State, Executes, end}
 use Rattle.runs.specs.Touch.{Question, HasOutcome, last_set, last_cleared, last_untouched, first_needed, first_set, first_untouched}
 use Rattle.runs.specs.Standing.{EndsStanding, EndsCleared, Unmentioned}
-use Rattle.runs.specs.Published.{prec∅, poss-prec∅, eff*∅+, eff*∅-, poss-eff*∅+, poss-eff*∅-}
+use Rattle.runs.specs.Published.{prec∅, poss_prec∅, eff*∅+, eff*∅-, poss_eff*∅+, poss_eff*∅-}
 use Rattle.cards.specs.Layout.{CardColumn, always_needed, may_need, may_set, may_clear, always_set, always_cleared, always_stands}
 use Rattle.cards.specs.Layout.{may_first_set, may_first_untouched, may_last_untouched, may_end_cleared, may_end_unmentioned}
 use Rattle.cards.specs.Layout.{place, card_numbers}

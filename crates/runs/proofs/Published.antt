@@ -19,7 +19,7 @@ use Rattle.runs.specs.Touch.{Question, last_set, last_cleared, first_needed}
 use Rattle.runs.specs.View.{touches}
 use Rattle.runs.specs.Algebra.{same_mark}
 use Rattle.runs.specs.Possible.{possible_outcome, always_outcome, has_run}
-use Rattle.runs.specs.Published.{E, R, relaxed, eff*∅+, eff*∅-, poss-eff*∅+, poss-eff*∅-, Required, prec∅, poss-prec∅}
+use Rattle.runs.specs.Published.{E, R, relaxed, eff*∅+, eff*∅-, poss_eff*∅+, poss_eff*∅-, Required, prec∅, poss_prec∅}
 use Rattle.library.proofs.Decode.{has_none}
 use Rattle.runs.proofs.Refinement.{refinement_run}
 use Rattle.runs.proofs.Outcome.{present≢untouched, absent≢untouched}
