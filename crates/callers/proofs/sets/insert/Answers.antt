@@ -1,6 +1,5 @@
 -- `callers::sets::insert` meets its contract.
 -- Assumes nothing.
-use borrow.Author.Rules.{rules}
 use Prim.Native.Nat.{◌/◌}
 use mathlib.Core.Path.{ap, ◌∙◌}
 use lib.ListN.{get_or, set}

@@ -1,6 +1,5 @@
 -- `callers::sets::unite` meets its contract: the four words one after the other.
 -- Assumes nothing.
-use borrow.Author.Rules.{rules}
 use Rattle.callers.proofs.CallerSets.{united}
 use Rattle.callers.proofs.sets.unite.Goals as goal
 

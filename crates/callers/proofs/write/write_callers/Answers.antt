@@ -1,11 +1,10 @@
 -- `callers::write::write_callers` meets its contract, sequence by sequence.
 -- Assumes nothing.
-use borrow.Author.Rules.{rules}
-use Prim.Native.Nat.{ℕ, ◌-◌}
+use Prim.Native.Nat.{ℕ}
 use native.Mathlib.Omega.{arith}
 use mathlib.Core.Path.{◌≡◌, subst}
 use Rattle.callers.specs.Callers.{CallersWritten}
-use Rattle.callers.proofs.CallerSets.{Writing, writing_start, writing_turn}
+use Rattle.callers.proofs.CallerSets.{writing_start, writing_turn}
 use Rattle.callers.proofs.write.write_callers.Goals as goal
 
 pub loop-c-init : goal.loop-c-init

@@ -1,11 +1,7 @@
 -- `callers::write::write_callers` meets its contract, sequence by sequence.
 -- Assumes nothing.
-use borrow.Author.Rules.{rules}
-use Prim.Native.Nat.{ℕ, ◌-◌}
-use native.Mathlib.Omega.{arith}
-use mathlib.Core.Path.{◌≡◌, subst}
-use Rattle.callers.specs.Callers.{CallersWritten}
-use Rattle.callers.proofs.CallerSets.{Writing, writing_start, writing_turn}
+use Prim.Native.Nat.{◌-◌}
+use Rattle.callers.proofs.CallerSets.{Writing}
 use Rattle.callers.proofs.write.write_callers.Given as goal
 
 abbrev pub invariant-loop-c : goal.invariant-loop-c
