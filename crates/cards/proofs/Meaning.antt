@@ -27,7 +27,7 @@ use Rattle.runs.specs.Possible.{possible_in, always_in, broken_in, possible_outc
 use Rattle.runs.proofs.Outcome.{present≢untouched, absent≢untouched}
 use Rattle.runs.proofs.Columns.{view_iff, has_run_iff, no_run_iff, has_empty_run_iff, blank_columns, always_iff, missing_iff}
 use Rattle.runs.proofs.Published.{PublishedColumns, published_columns}
-use Rattle.runs.proofs.Execution.{needed_stood, set_stands, cleared_falls, gained_set, lost_cleared, Stood, end_standing}
+use Rattle.runs.proofs.Execution.{needed_stood, set_stands, cleared_falls, gained_set, lost_cleared, end_standing}
 use Rattle.runs.proofs.Standing.{standing_iff, ends_cleared_iff, unmentioned_iff}
 use Rattle.cards.specs.Layout.{CardColumn, always_needed, may_need, may_set, may_clear, always_set, always_cleared, always_stands}
 use Rattle.cards.specs.Layout.{may_first_set, may_first_untouched, may_last_untouched, may_end_cleared, may_end_unmentioned}

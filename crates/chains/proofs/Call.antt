@@ -18,7 +18,6 @@ use Rattle.image.specs.declared.answer.Checked.TheVariants.{Accepted, Refused}
 use Rattle.library.proofs.Accepted.{counted}
 use Rattle.runs.specs.Run.{Run}
 use Rattle.runs.specs.Touch.{question_of, HasOutcome}
-use Rattle.runs.specs.Touch as touch
 use Rattle.chains.specs.Link.{Chain, chain_words}
 use Rattle.chains.specs.Answer.{Answer, none, shown, answer}
 use Rattle.chains.specs.Shows.{Shows}

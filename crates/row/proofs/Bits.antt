@@ -7,8 +7,7 @@ use mathlib.Core.Path.{◌≡◌, refl, sym, ap, ◌∙◌}
 use mathlib.Core.Bool.{Bool, true, false, not, ◌&&◌, ◌||◌, and-true, or-false}
 use lib.Bits.{bit_and, bit_or, or_lt}
 use lib.Dec.{eqb}
-use lib.Pow.{ones_split, high, ones_lt, pow_pos, pow-lt}
-use mir.Val.{bool_byte}
+use lib.Pow.{pow_pos}
 use Rattle.column.specs.Column.{bit}
 use Rattle.column.specs.Sets.{difference, in_column}
 use Rattle.column.specs.Words.{with_fact_in}

@@ -3,17 +3,16 @@
 use Prim.Native.Nat.{ℕ, suc, ◌-◌, ◌≤◌, ◌<◌}
 use native.Mathlib.Omega.{arith}
 use mathlib.Core.Path.{◌≡◌, refl, sym, ap, ◌∙◌}
-use mathlib.Core.Bool.{Bool, true, false, cond, ◌&&◌}
+use mathlib.Core.Bool.{Bool, cond, ◌&&◌}
 use mathlib.Core.List.{List, [], ◌∷◌, ◌++◌}
-use lib.ListN.{length, set, drop, drop_of_length-le}
+use lib.ListN.{length, set, drop_of_length-le}
 use lib.Seq.{set_split}
 use lib.Dec.{leb}
 use borrow.Author.Tests.{le-leb, lt-leb}
-use Rattle.general.proofs.Bools.{and_both}
 use Rattle.image.specs.Word.{most_words}
 use Rattle.image.specs.declared.answer.Refusal.TheVariants.{Length}
 use Rattle.rules.specs.Checked.{all_but_last}
-use Rattle.seal.specs.Answer.{sealing, sum_word, with_sum, image_after, SealCalled}
+use Rattle.seal.specs.Answer.{sealing, sum_word, image_after, SealCalled}
 use Rattle.seal.specs.declared.answer.Sealing.{Sealing}
 
 -- the call by its answer

@@ -4,11 +4,11 @@
 -- Assumes nothing.
 use Prim.Native.Nat.{ℕ, suc, ◌-◌, ◌/◌, ◌^◌, ◌≤◌}
 use native.Mathlib.Omega.{arith}
-use mathlib.Core.Path.{◌≡◌, refl, sym, ap, ◌∙◌}
+use mathlib.Core.Path.{◌≡◌, sym, ap, ◌∙◌}
 use mathlib.Core.Logic.{◌≢◌}
 use mathlib.Core.Bool.{Bool, true, false, cond, ◌&&◌, ◌||◌}
 use mathlib.Core.List.{List, [], ◌∷◌, ◌++◌}
-use lib.ListN.{length, get_or, take, drop, length-append, length-take, drop_of_length-le}
+use lib.ListN.{length, get_or, take, length-append, length-take, drop_of_length-le}
 use lib.Seq.{take-append_seam, get_or-append_seam, split_at}
 use lib.Dec.{leb, ltb, eqb}
 use borrow.Author.Tests.{eq-eqb, eqb-true}
@@ -16,11 +16,9 @@ use Rattle.general.proofs.Bools.{and_left, and_right, and_both}
 use Rattle.image.specs.Answer.{refusal_answer}
 use Rattle.image.specs.Word.{most_words, kind, payload, is_kind, ordered_sum, sum_right, head_of, head_right}
 use Rattle.image.specs.declared.answer.Head.{Head}
-use Rattle.image.specs.declared.answer.Refusal.{Refusal}
-use Rattle.image.specs.declared.answer.Refusal.TheVariants.{Length, SumWord, HeadWord, Kind, Payload, FactOrder, Missing, SetAndCleared}
+use Rattle.image.specs.declared.answer.Refusal.TheVariants.{Length, HeadWord, Kind, Payload, FactOrder, Missing, SetAndCleared}
 use Rattle.image.specs.declared.answer.Checked.{Checked}
 use Rattle.image.specs.declared.answer.Checked.TheVariants.{Accepted, Refused}
-use Rattle.rules.specs.declared.rules.Fault.{Fault}
 use Rattle.rules.specs.declared.rules.Fault.TheVariants.{Found, Nothing}
 use Rattle.rules.specs.Rules.{opened, earlier, may_stand, payload_right, in_order, clears_unset}
 use Rattle.rules.specs.Checked.{at_word, scan, all_but_last, between, first_word, last_word, checked}
