@@ -21,7 +21,7 @@ use Rattle.general.specs.Tests.{some}
 use Rattle.runs.specs.Domain.{action_of}
 use Rattle.runs.specs.Rows.{column_number, entry_row, fold_row, read_row, join_row, touch_row}
 use Rattle.runs.specs.Rows as rows
-use Rattle.row.specs.Words.{row_words, all_facts, no_row, start_row, step_row, check_row, join_rows, or_rows, row_in, is_set, bit_row}
+use Rattle.row.specs.Words.{row_words, no_row, start_row, step_row, check_row, join_rows, or_rows, row_in, is_set, bit_row}
 use Rattle.reading.specs.Walks.{is_dead, entry_in, joined_from, alternative_in, united_from}
 use Rattle.row.specs.declared.words.Row.{Row}
 use Rattle.reading.specs.declared.read.Block.{Block}

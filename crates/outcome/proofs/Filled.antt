@@ -8,11 +8,11 @@ use mathlib.Core.Bool.{Bool, true, false, not}
 use mathlib.Core.List.{List, ◌∷◌, ◌++◌}
 use lib.ListN.{length, get_or, drop, length-drop, take-append-drop, drop_of_length-le}
 use lib.Seq.{get_or-drop}
-use lib.Dec.{eqb, ltb}
+use lib.Dec.{ltb}
 use lib.Pow.{pow_mono}
 use borrow.Author.Tests.{lt-ltb}
 use mir.Val.{bool_byte}
-use Rattle.column.specs.Column.{bit, column}
+use Rattle.column.specs.Column.{column}
 use Rattle.column.specs.Sets.{in_column}
 use Rattle.column.specs.Words.{block, facts_in}
 use Rattle.column.proofs.Bits.{column_is, column_none}

@@ -1,7 +1,7 @@
 -- A table of words that visits lead to from a blank one, and that no visit changes, is the outcome table: its bits are good rows to
 -- which reading adds nothing, and no bit is set from F upward.
 -- Assumes nothing.
-use Prim.Native.Nat.{ℕ, zero, suc, ◌+◌, ◌-◌, ◌*◌, ◌≤◌, ◌<◌}
+use Prim.Native.Nat.{ℕ, zero, suc, ◌+◌, ◌*◌, ◌≤◌, ◌<◌}
 use native.Mathlib.Nat.{le_of_suc-le-suc}
 use native.Mathlib.Decide.{ℕ_discrete, dec_lt}
 use native.Mathlib.Numerals.{add-one}
@@ -19,7 +19,7 @@ use Rattle.library.proofs.Accepted.{alternatives_named}
 use Rattle.library.proofs.Lookup.{Placed}
 use Rattle.general.specs.Tests.{some}
 use Rattle.runs.specs.Run.{alternatives_of, alternative_of}
-use Rattle.runs.specs.Touch.{Side, last, first, Mark, present, absent, untouched}
+use Rattle.runs.specs.Touch.{Mark}
 use Rattle.runs.specs.Algebra.{side_algebra}
 use Rattle.runs.specs.Possible.{column_possible}
 use Rattle.runs.specs.Rows.{Row, column_number, read_row, GoodRow, GoodRows, ClosedRows}

@@ -2,7 +2,7 @@
 -- It has: the row that is read back and the others (`row_same`, `row_other`), equal rows (`rows_equal`), and the weight (`lacking_least`,
 -- `lacking_falls`).
 -- Assumes nothing.
-use Prim.Native.Nat.{ℕ, zero, suc, ◌+◌, ◌-◌, ◌*◌, ◌^◌, ◌≤◌, ◌<◌}
+use Prim.Native.Nat.{ℕ, zero, suc, ◌+◌, ◌*◌, ◌^◌, ◌≤◌, ◌<◌}
 use native.Mathlib.Nat.{add-zero, add-suc, suc-add, le_of_suc-le-suc}
 use native.Mathlib.Numerals.{towards_suc}
 use native.Mathlib.Decide.{dec_lt}

@@ -1,0 +1,42 @@
+-- `outcome::settle::sweep` meets its contract: each visit keeps what is swept.
+-- Assumes nothing.
+use native.Mathlib.Omega.{arith}
+use Rattle.settling.proofs.Visits.{reached_length}
+use Rattle.settling.proofs.Settling.{swept_turn}
+use Rattle.outcome.proofs.Visited.{visits_lower, visitable_at}
+use Rattle.outcome.proofs.Calls.{visits_local}
+use Rattle.outcome.proofs.settle.sweep.Goals as goal
+
+pub loop-i-init : goal.loop-i-init
+loop-i-init c = c.requires.2
+
+pub visit-changed-requires : goal.visit-changed-requires
+visit-changed-requires c =
+    let at-loop = c in
+    let start = at-loop in
+    let a = start.args in
+    (visitable_at at-loop.loop-i.table (reached_length (visits_lower a.block a.steps.now a.part.now a.places.now a.n) at-loop.loop-i.invariant.reached) start.requires.0, c.if-c-n.true)
+
+pub loop-i-preserved-then-c-n : goal.loop-i-preserved-then-c-n
+loop-i-preserved-then-c-n c =
+    let after = c in
+    let visit = c in
+    let at-loop = visit in
+    let start = at-loop in
+    let a = start.args in
+    let long = reached_length (visits_lower a.block a.steps.now a.part.now a.places.now a.n) at-loop.loop-i.invariant.reached in
+    swept_turn (visits_local a.block a.steps.now a.part.now a.places.now a.n) start.requires.1
+    a.table.now at-loop.loop-i.table at-loop.loop-i.stale _ visit.visit-changed.new.table after.after_visit.new.stale visit.visit-changed.result
+    (omega (arith, long, start.requires.0.rows)) visit.if-c-n.true at-loop.loop-i.invariant visit.visit-changed.ensures after.after_visit.ensures (omega (arith, after.after_visit.auto))
+
+pub loop-i-preserved : goal.loop-i-preserved
+loop-i-preserved c = c.loop-i.invariant
+
+pub shape_of-table : goal.shape_of-table
+shape_of-table c =
+    let at-loop = c in
+    let a = at-loop.args in
+    reached_length (visits_lower a.block a.steps.now a.part.now a.places.now a.n) at-loop.loop-i.invariant.reached
+
+pub returns : goal.returns
+returns c = c.loop-i.invariant
