@@ -4,7 +4,7 @@
  * does not always, how a run comes to do otherwise. Behind "no run" stands why
  * there is none: the sequences that keep it from one.
  *
- *     rt staticlib dulimoven
+ *     bash build library
  *     gcc -Iinclude examples/show_cards.c \
  *         target/staticlib/libdulimoven.a -o target/show_cards
  *     target/show_cards examples/setup.image

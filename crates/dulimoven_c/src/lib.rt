@@ -1,0 +1,73 @@
+// The C side: the library's calls under their own names, as C calls them. include/dulimoven.h declares them. Each has the contract of the call
+// that it makes, word for word.
+#![tactic(auto)]
+
+ghost use Rattle.std.specs.Prelude.{◌≡◌};
+ghost use Rattle.dulimoven.specs.Returned.{returned};
+ghost use Rattle.dulimoven.specs.Engine.{engine};
+
+use writer::block::CARD_WORDS;
+
+// The check: the head's payload for an accepted image, or N × 2^32 + P for refusal N at position P.
+#[unsafe(no_mangle)]
+pub extern "C" fn dulimoven_check(image: &[u32]) -> u64
+    ensures { result ≡ engine.check image.now }
+{
+    dulimoven::dulimoven_check(image)
+}
+
+// The cards: C with the cards of all sequences written, 49 words a sequence, or N × 2^32 + P for refusal N at position P with the area as
+// it was.
+#[unsafe(no_mangle)]
+pub extern "C" fn dulimoven_cards(image: &[u32], area: &mut [u64]) -> u64
+    ensures { returned result area.new ≡ engine.cards image.now area.old }
+{
+    dulimoven::dulimoven_cards(image, area)
+}
+
+// The chain: the number of links with their words written, two a link, 0 for "none", or N × 2^32 + P for refusal N at position P; "none" and a
+// refusal leave the area as it was.
+#[unsafe(no_mangle)]
+pub extern "C" fn dulimoven_chain(
+    image: &[u32],
+    sequence: u64,
+    question: u64,
+    fact: u64,
+    area: &mut [u32],
+) -> u64
+    ensures { returned result area.new ≡ engine.chain image.now sequence question fact area.old }
+{
+    dulimoven::dulimoven_chain(image, sequence, question, fact, area)
+}
+
+// The card of a test list, worked out from F and the cards: 0 with the 49 words of the list's card written, or N × 2^32 for refusal N with
+// the card as it was.
+#[unsafe(no_mangle)]
+pub extern "C" fn dulimoven_list(
+    facts: u64,
+    sequences: u64,
+    cards: &[u64],
+    list: &[u32],
+    card: &mut [u64; CARD_WORDS],
+) -> u64
+    ensures { returned result card.new ≡ engine.list facts sequences cards.now list.now card.old }
+{
+    dulimoven::dulimoven_list(facts, sequences, cards, list, card)
+}
+
+// Why a sequence has no run: the length of the list of the sequences without a run that it reaches, with their numbers written, or N × 2^32 + P for
+// refusal N at position P with the area as it was.
+#[unsafe(no_mangle)]
+pub extern "C" fn dulimoven_endless(image: &[u32], sequence: u64, area: &mut [u32]) -> u64
+    ensures { returned result area.new ≡ engine.endless image.now sequence area.old }
+{
+    dulimoven::dulimoven_endless(image, sequence, area)
+}
+
+// The sum word for an author's image: 0 with the sum word of the words before it in the last place, or 2^32 for refusal 1 with the image as it was.
+#[unsafe(no_mangle)]
+pub extern "C" fn dulimoven_seal(image: &mut [u32]) -> u64
+    ensures { returned result image.new ≡ engine.seal image.old }
+{
+    dulimoven::dulimoven_seal(image)
+}
