@@ -20,7 +20,7 @@ use Rattle.general.proofs.Bools.{and_parts}
 use Rattle.question.specs.Answer.{by_rank}
 use Rattle.question.specs.Asked.{in_range, out_of_range, question_asked}
 use Rattle.question.specs.declared.asked.Asked.{Asked}
-use Rattle.chains.specs.Answer.{none, answer}
+use Rattle.chains.specs.Answer.{answer}
 use Rattle.chain.specs.Described.{FindAsked, question_by}
 use Rattle.question.specs.Reply.{Answered, ChainCalled, chained_as}
 use Rattle.question.specs.declared.answer.Chained.{Chained}

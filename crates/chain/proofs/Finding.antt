@@ -15,7 +15,6 @@ use lib.ListN.{length, get_or, take, drop, replicate, length-replicate}
 use lib.Seq.{get_or-take, ext_get_or, length-take-le}
 use Rattle.image.specs.Word.{most_sequences}
 use Rattle.rules.specs.Checked.{Accepts}
-use Rattle.rules.specs.Rules.{opened}
 use Rattle.library.specs.Library.{Library, Sequence, Entry, alternatives_from, sequences_part, library_of, Item}
 use Rattle.library.specs.Tables.{masks}
 use Rattle.walk.specs.Walk.{alternatives_at}

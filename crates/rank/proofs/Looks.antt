@@ -17,7 +17,7 @@ use Rattle.walk.specs.Walk.{walk_end}
 use Rattle.walk.proofs.Walking.{folding_inside, folding_out, Leaving, leaving_start, leaving_turn, leaving_dead, leaving_rest, leaving_out, Walking, walking_out}
 use Rattle.general.proofs.Bools.{nor_left, nor_right, or_left, or_right, or_cases}
 use Rattle.rank.specs.Walk.{lowered_from, depth_from, fewest_from}
-use Rattle.slot.specs.Slots.{rank_in, pass_in, traits_in}
+use Rattle.slot.specs.Slots.{rank_in, pass_in}
 use Rattle.rank.specs.Tables.{depth_in, every_in, fewest_after, fewest_in, look_in, lacks_in, lost_in, dead_in, TraitsFound, AlternativeRanked}
 use Rattle.rank.proofs.Walk.{cond_same, lowered_least}
 use Rattle.question.specs.declared.asked.Asked.{Asked}

@@ -1,0 +1,13 @@
+-- `link::link::chosen_alternative` meets its contract: the newest of the alternatives before the opener is the newest of all.
+-- Assumes nothing.
+use lib.Dec.{leb}
+use Rattle.library.specs.Library.{Alternative}
+use Rattle.rank.specs.Tables.{depth_in}
+use Rattle.link.proofs.Choices.{Seeking}
+use Rattle.link.proofs.link.chosen_alternative.Given as goal
+
+abbrev pub invariant-found : goal.invariant-found
+invariant-found l = Seeking (λ (es : Alternative). leb (depth_in l.none l.ranks es) l.k) l.part l.at l.alternative l.opener
+
+abbrev pub decreases-found : goal.decreases-found
+decreases-found l = l.alternative
