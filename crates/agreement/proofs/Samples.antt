@@ -26,7 +26,7 @@ use Rattle.text.specs.Words.{words_of}
 use Rattle.text.specs.Number.{numeral, numeral_in}
 use Rattle.card_text.specs.Line.{spaced, card_line, lines_from, card_lines, refusal_line}
 use Rattle.card_text.specs.Print.{printed}
-use Rattle.agreement.specs.Samples.{L, endless_first, clear_then_need, skips, standing, executes, fails, Holds, starred}
+use Rattle.agreement.specs.Samples.{L, endless_first, clear_then_need, skips, standing, executes, fails, Holds, starred, SealHolds, sealings}
 
 -- what a step without needs asks
 no_need : (K : Library) (s : State K) (f : ℕ) → has f [] ≡ true → (low : f < K.facts) × (s (f, low) ≡ true)
@@ -133,4 +133,8 @@ check_fails = (check_run, λ executing. false≢true (executing.0 0 refl).1)
 pub starred_hold : All Holds starred
 unfolding checked scan total running_sums opened last_of sets_of in_column bit library_of has possible cards card chained chain_words printed words_of card_lines lines_from card_line spaced numeral numeral_in refusal_line list_card some endless_list
 starred_hold =
-    (refl, (refl, (refl, (refl, (refl, (refl, (refl, (refl, (both_steps, (second_fails, (second_executes, (refl, (refl, (refl, (refl, (refl, (refl, (refl, (clear_executes, (refl, (need_fails, (refl, (refl, (refl, (refl, (refl, (refl, (refl, (check_executes, (check_fails, (refl, (refl, (refl, (refl, (refl, (refl, (refl, (refl, (refl, (refl, (refl, (refl, (refl, (refl, (refl, (refl, (refl, (refl, (refl, (refl, (refl, (refl, (refl, (refl, (refl, (refl, (refl, (refl, (refl, (refl, (refl, (refl, (refl, (refl, (refl, (refl, (refl, (refl, (refl, (refl, (refl, (refl, (refl, (refl, (refl, (refl, (refl, (refl, (refl, (refl, (refl, (refl, (refl, (refl, (refl, (refl, (refl, (refl, (refl, (refl, (refl, (refl, (refl, tt)))))))))))))))))))))))))))))))))))))))))))))))))))))))))))))))))))))))))))))))))))))))))))))
+    (refl, (refl, (refl, (refl, (refl, (refl, (refl, (refl, (both_steps, (second_fails, (second_executes, (refl, (refl, (refl, (refl, (refl, (refl, (refl, (clear_executes, (refl, (need_fails, (refl, (refl, (refl, (refl, (refl, (refl, (refl, (check_executes, (check_fails, (refl, (refl, (refl, (refl, (refl, (refl, (refl, (refl, (refl, (refl, (refl, (refl, (refl, (refl, (refl, (refl, (refl, (refl, (refl, (refl, (refl, (refl, (refl, (refl, (refl, (refl, (refl, (refl, (refl, (refl, (refl, (refl, (refl, (refl, (refl, (refl, (refl, (refl, (refl, (refl, (refl, (refl, (refl, (refl, (refl, (refl, (refl, (refl, (refl, (refl, (refl, (refl, (refl, (refl, (refl, tt)))))))))))))))))))))))))))))))))))))))))))))))))))))))))))))))))))))))))))))))))))))
+
+pub sealings_hold : All SealHolds sealings
+unfolding total running_sums
+sealings_hold = (refl, (refl, (refl, (refl, (refl, (refl, (refl, (refl, tt))))))))

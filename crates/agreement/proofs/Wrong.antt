@@ -49,7 +49,8 @@ use Rattle.dulimoven.specs.ChainCall as chain
 use Rattle.dulimoven.specs.Demands.{Engine, Refuses, count, Ready, Demand1, Demand2, Proves, Demand3}
 use Rattle.dulimoven.specs.Added.{Listed, list_over, Lists}
 use Rattle.dulimoven.specs.Explained.{found, Explains}
-use Rattle.dulimoven.specs.Sealed.{Seals}
+use Rattle.dulimoven.specs.Sealed.{Sealer, SealDemand, sealer, Seals}
+use Rattle.dulimoven.proofs.SealCall.{seal_only}
 use Rattle.dulimoven.specs.Engine.{engine}
 use Rattle.agreement.specs.Wrong.{Gets, Unwritten, LongerChain, BlankColumn, OneCard, Untouched, NoneAtOnce, AlwaysTwelve, SameLink, InventedLinks, InventedCount, RefusesAll, RefusesAllCards, RefusesAllChains}
 use Rattle.agreement.specs.Wrong.{RefusesAllLists, UnwrittenLists, LastMember, OrderUnnoticed, no_list, lazy_lists, second_card}
@@ -133,7 +134,7 @@ endless_ten = refl
 abbrev unsealed : List ℕ
 unsealed = 0x10000001 ∷ 0 ∷ []
 
-seal_bare : engine.seal unsealed ≡ returned 0 bare
+seal_bare : sealer unsealed ≡ returned 0 bare
 unfolding total running_sums
 seal_bare = refl
 
@@ -142,16 +143,16 @@ check_unsealed : engine.check unsealed ≡ 2 * 2 ^ 32 + 1
 unfolding checked scan total running_sums opened last_of sets_of in_column bit
 check_unsealed = refl
 
-check_whole : engine.check (whole_sum.seal unsealed).area ≡ 2 * 2 ^ 32 + 1
+check_whole : engine.check (whole_sum unsealed).area ≡ 2 * 2 ^ 32 + 1
 unfolding checked scan total running_sums opened last_of sets_of in_column bit
 check_whole = refl
 
 -- the sum of both words, and that of both with it in the last place
-whole_once : last_word (whole_sum.seal unsealed).area ≡ 0xf0000802
+whole_once : last_word (whole_sum unsealed).area ≡ 0xf0000802
 unfolding total running_sums
 whole_once = refl
 
-whole_twice : last_word (whole_sum.seal (whole_sum.seal unsealed).area).area ≡ 0xf0004c04
+whole_twice : last_word (whole_sum (whole_sum unsealed).area).area ≡ 0xf0004c04
 unfolding total running_sums
 whole_twice = refl
 
@@ -253,37 +254,37 @@ asked_alone e wrong d =
     omega (arith, ap (λ (xs : List ℕ). length xs) (sym (ap found right) ∙ one))
 
 -- two words, of which the second is no sum word
-pub refuses_all_seals : (e : Engine) → RefusesAllSeals e → ¬ Demand1 e
-refuses_all_seals e wrong d =
-    let right = ap (λ (r : Returned). r.number) ((only_engine e d).seal unsealed ∙ seal_bare) in
+pub refuses_all_seals : (s : Sealer) → RefusesAllSeals s → ¬ SealDemand s
+refuses_all_seals s wrong d =
+    let right = ap (λ (r : Returned). r.number) (seal_only unsealed (s unsealed) (d.sealed unsealed) ∙ seal_bare) in
     let high = wrong unsealed in
     omega arith
 
-pub images_unsealed : (e : Engine) → Unsealed e → ¬ Demand1 e
-images_unsealed e wrong d =
-    let right : unsealed ≡ bare = sym (wrong unsealed) ∙ ap (λ (r : Returned). r.area) ((only_engine e d).seal unsealed ∙ seal_bare) in
+pub images_unsealed : (s : Sealer) → Unsealed s → ¬ SealDemand s
+images_unsealed s wrong d =
+    let right : unsealed ≡ bare = sym (wrong unsealed) ∙ ap (λ (r : Returned). r.area) (seal_only unsealed (s unsealed) (d.sealed unsealed) ∙ seal_bare) in
     omega (arith, ap (λ (ws : List ℕ). get_or ws 1 0) right)
 
 -- the payload is 0x401, and with the last word it is 0x802
-pub last_counted : (e : Engine) → LastCounted e → ¬ Demand1 e
+pub last_counted : (s : Sealer) → LastCounted s → ¬ SealDemand s
 unfolding total running_sums
-last_counted e wrong d =
-    let right = ap (λ (r : Returned). payload (last_word r.area)) ((only_engine e d).seal unsealed ∙ seal_bare) in
-    let word : payload (last_word (e.seal unsealed).area) ≡ 0x802 = wrong unsealed (omega arith) (omega arith) in
+last_counted s wrong d =
+    let right = ap (λ (r : Returned). payload (last_word r.area)) (seal_only unsealed (s unsealed) (d.sealed unsealed) ∙ seal_bare) in
+    let word : payload (last_word (s unsealed).area) ≡ 0x802 = wrong unsealed (omega arith) (omega arith) in
     omega arith
 
 -- none of the three seals: L, which is accepted, does not stay; the check of what the others leave answers 2; and the sum of all words is another
 -- the second time
-pub refuses_unsealed : ¬ Seals no_seal
+pub refuses_unsealed : ¬ Seals engine.check no_seal
 refuses_unsealed seals = let zero : ◌≡◌ {A = ℕ} (2 ^ 32) 0 = ap (λ (r : Returned). r.number) (seals.kept L _ accepted_l) in omega arith
 
-pub lazy_unsealed : ¬ Seals lazy_seal
+pub lazy_unsealed : ¬ Seals engine.check lazy_seal
 lazy_unsealed seals = seals.right unsealed (ap (λ (n : ℕ). n / 2 ^ 32) check_unsealed)
 
-pub whole_unsealed : ¬ Seals whole_sum
+pub whole_unsealed : ¬ Seals engine.check whole_sum
 whole_unsealed seals = seals.right unsealed (ap (λ (n : ℕ). n / 2 ^ 32) check_whole)
 
-pub whole_unsettled : ¬ Seals whole_sum
+pub whole_unsettled : ¬ Seals engine.check whole_sum
 whole_unsettled seals = let same = ap (λ (r : Returned). last_word r.area) (seals.twice unsealed) in omega (arith, whole_once, whole_twice)
 
 pub unwritten_lists : (e : Engine) → UnwrittenLists e → ¬ Demand1 e

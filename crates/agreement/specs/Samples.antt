@@ -13,6 +13,7 @@ use Rattle.cards.specs.Layout.{card_words}
 use Rattle.card_text.specs.Print.{printed}
 use Rattle.dulimoven.specs.Returned.{returned}
 use Rattle.dulimoven.specs.Engine.{engine}
+use Rattle.dulimoven.specs.Sealed.{sealer}
 
 -- "Library L, 20 words in hexadecimal, F = A = C = 3", with the head of document 02, request 8
 abbrev pub L : List ℕ
@@ -121,8 +122,6 @@ pub data Sample : Type 0 where
   declines : ℕ → ℕ → List (List ℕ) → List ℕ → ℕ → Sample
   -- the endless call on a sequence and an area: the number that it answers, and the area after it
   explains : List ℕ → ℕ → List ℕ → ℕ → List ℕ → Sample
-  -- the seal call on an image: the number that it answers, and the image after it
-  seals : List ℕ → ℕ → List ℕ → Sample
   -- a run of a sequence executes where just some facts stand at the start, and just some stand at its end
   executes : List ℕ → ℕ → List Item → List ℕ → List ℕ → Sample
   -- a run of a sequence does not execute where just some facts stand at the start
@@ -187,7 +186,6 @@ Holds (chains image c q f before n after) = engine.chain image c q f before ≡ 
 Holds (composes f c cards list card) = engine.list f c (joined cards) list spare_card ≡ returned 0 card
 Holds (declines f c cards list n) = engine.list f c (joined cards) list spare_card ≡ returned (n * 2 ^ 32) spare_card
 Holds (explains image c before n after) = engine.endless image c before ≡ returned n after
-Holds (seals image n after) = engine.seal image ≡ returned n after
 Holds (executes image c w start after) =
     Run (library_of image) c w
     × Executes (library_of image) w (standing (library_of image) start)
@@ -342,8 +340,21 @@ starred =
     ∷ composes 64 1 (card_wide ∷ []) (0 ∷ []) (few (1 ∷ 0 ∷ 0 ∷ 0 ∷ 0 ∷ 0 ∷ 0 ∷ 0 ∷ 0 ∷ 0xffffffffffffffff ∷ 0xffffffffffffffff ∷ 0 ∷ 0xffffffffffffffff ∷ []))
     -- "The printing program's area has 7,840 words, so more than 160 sequences print `refused 8 at 0`": 161 of them, without an alternative
     ∷ prints (0x15080001 ∷ (openers 0 161 ++ (0xf3e3bd82 ∷ []))) "refused 8 at 0\n"
+    ∷ []
+
+-- ---- the seal call, which is beside the others
+
+-- on an image: the number that it answers, and the image after it
+pub data Sealing : Type 0 where
+  seals : List ℕ → ℕ → List ℕ → Sealing
+
+abbrev pub SealHolds : Sealing → Type 0
+SealHolds (seals image n after) = sealer image ≡ returned n after
+
+abbrev pub sealings : List Sealing
+sealings =
     -- the seal call gives L its sum word back, whatever stood in its place, and leaves it there
-    ∷ seals (set L 19 0) 0 L
+    seals (set L 19 0) 0 L
     ∷ seals (set L 19 0xffffffff) 0 L
     ∷ seals L 0 L
     -- two words are an image: the head counts 1 + 1,024, and the last word does not count

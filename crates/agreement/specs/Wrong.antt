@@ -22,6 +22,7 @@ use Rattle.dulimoven.specs.Demands.{Engine, Refuses, Ready, count, Asks, Proves}
 use Rattle.dulimoven.specs.Added.{Listed, list_over}
 use Rattle.dulimoven.specs.Explained.{found}
 use Rattle.dulimoven.specs.Engine.{engine}
+use Rattle.dulimoven.specs.Sealed.{Sealer, sealer}
 
 -- a question whose answer is the chain ls, in an area that has room for it
 pub record Gets (image : List ℕ) (c q f : ℕ) (area : List ℕ) (ls : Chain) : Type 0 where
@@ -145,36 +146,33 @@ AskedAlone e = (image : List ℕ) (c : ℕ) (area : List ℕ) → ¬ Refuses (e.
 abbrev pub AlwaysSixteen : Engine → Type 0
 AlwaysSixteen e = (image : List ℕ) (c : ℕ) (area : List ℕ) → (e.endless image c area).number ≡ 16 * 2 ^ 32
 
-abbrev pub RefusesAllSeals : Engine → Type 0
-RefusesAllSeals e = (image : List ℕ) → Refuses (e.seal image).number
+abbrev pub RefusesAllSeals : Sealer → Type 0
+RefusesAllSeals seal = (image : List ℕ) → Refuses (seal image).number
 
 -- no sum word: every image as it was
-abbrev pub Unsealed : Engine → Type 0
-Unsealed e = (image : List ℕ) → (e.seal image).area ≡ image
+abbrev pub Unsealed : Sealer → Type 0
+Unsealed seal = (image : List ℕ) → (seal image).area ≡ image
 
 -- the sum of all words: the old last word counts
-abbrev pub LastCounted : Engine → Type 0
-LastCounted e = (image : List ℕ) → 2 ≤ length image → length image ≤ most_words → payload (last_word (e.seal image).area) ≡ ordered_sum image
+abbrev pub LastCounted : Sealer → Type 0
+LastCounted seal = (image : List ℕ) → 2 ≤ length image → length image ≤ most_words → payload (last_word (seal image).area) ≡ ordered_sum image
 
 -- ---- engines that are wrong in these ways: the right engine with another call in the place of one of its own
 
 abbrev pub with_check : (List ℕ → ℕ) → Engine
-with_check check = record { check = check; cards = engine.cards; chain = engine.chain; list = engine.list; endless = engine.endless; seal = engine.seal }
+with_check check = record { check = check; cards = engine.cards; chain = engine.chain; list = engine.list; endless = engine.endless }
 
 abbrev pub with_cards : (List ℕ → List ℕ → Returned) → Engine
-with_cards cards = record { check = engine.check; cards = cards; chain = engine.chain; list = engine.list; endless = engine.endless; seal = engine.seal }
+with_cards cards = record { check = engine.check; cards = cards; chain = engine.chain; list = engine.list; endless = engine.endless }
 
 abbrev pub with_chain : (List ℕ → ℕ → ℕ → ℕ → List ℕ → Returned) → Engine
-with_chain chain = record { check = engine.check; cards = engine.cards; chain = chain; list = engine.list; endless = engine.endless; seal = engine.seal }
+with_chain chain = record { check = engine.check; cards = engine.cards; chain = chain; list = engine.list; endless = engine.endless }
 
 abbrev pub with_lists : (ℕ → ℕ → List ℕ → List ℕ → List ℕ → Returned) → Engine
-with_lists lists = record { check = engine.check; cards = engine.cards; chain = engine.chain; list = lists; endless = engine.endless; seal = engine.seal }
+with_lists lists = record { check = engine.check; cards = engine.cards; chain = engine.chain; list = lists; endless = engine.endless }
 
 abbrev pub with_endless : (List ℕ → ℕ → List ℕ → Returned) → Engine
-with_endless endless = record { check = engine.check; cards = engine.cards; chain = engine.chain; list = engine.list; endless = endless; seal = engine.seal }
-
-abbrev pub with_seal : (List ℕ → Returned) → Engine
-with_seal seal = record { check = engine.check; cards = engine.cards; chain = engine.chain; list = engine.list; endless = engine.endless; seal = seal }
+with_endless endless = record { check = engine.check; cards = engine.cards; chain = engine.chain; list = engine.list; endless = endless }
 
 -- the right number, and an area of which every word is 0
 abbrev pub blank_cards : Engine
@@ -231,16 +229,16 @@ abbrev pub asked_only : Engine
 asked_only = with_endless (λ image c area. returned 1 (c ∷ drop 1 area))
 
 -- refusal 1, whatever the image
-abbrev pub no_seal : Engine
-no_seal = with_seal (λ image. returned (2 ^ 32) image)
+abbrev pub no_seal : Sealer
+no_seal image = returned (2 ^ 32) image
 
 -- the right number, and the image as it was
-abbrev pub lazy_seal : Engine
-lazy_seal = with_seal (λ image. returned (engine.seal image).number image)
+abbrev pub lazy_seal : Sealer
+lazy_seal image = returned (sealer image).number image
 
 -- the right number, and the sum word of all words in the place of the last
-abbrev pub whole_sum : Engine
-whole_sum = with_seal (λ image. returned (engine.seal image).number (all_but_last image ++ ((15 * 2 ^ 28 + ordered_sum image) ∷ [])))
+abbrev pub whole_sum : Sealer
+whole_sum image = returned (sealer image).number (all_but_last image ++ ((15 * 2 ^ 28 + ordered_sum image) ∷ []))
 
 -- refusal 1, whatever the image
 abbrev pub no_image : Engine

@@ -41,7 +41,6 @@ use Rattle.dulimoven.proofs.CardCall.{few_facts, cards_return, cards_only, cards
 use Rattle.dulimoven.proofs.ChainCall.{chain_return, chain_only, chain_told, chain_kept, none_kept}
 use Rattle.dulimoven.proofs.ListCall.{list_return, list_only, list_told, list_kept}
 use Rattle.dulimoven.proofs.EndlessCall.{endless_return, endless_only, endless_told, endless_kept}
-use Rattle.dulimoven.proofs.SealCall.{seal_return, seal_only, seal_told, seal_kept}
 
 -- ---- demand 1
 
@@ -65,13 +64,11 @@ total =
       chain = chain_return;
       list = list_return;
       endless = endless_return;
-      seal = seal_return;
       cards_kept = λ image area. cards_kept image area (engine.cards image area) (cards_return image area);
       chain_kept = λ image c q f area. chain_kept image c q f area (engine.chain image c q f area) (chain_return image c q f area);
       list_kept = λ facts sequences cards list card.
           list_kept facts sequences cards list card (engine.list facts sequences cards list card) (list_return facts sequences cards list card);
       endless_kept = λ image c area. endless_kept image c area (engine.endless image c area) (endless_return image c area);
-      seal_kept = λ image. seal_kept image (engine.seal image) (seal_return image);
       none_kept = λ image c q f area. none_kept image c q f area (engine.chain image c q f area) (chain_return image c q f area);
       check_told = check_told;
       cards_told = λ image area. cards_told image area (engine.cards image area) (cards_return image area);
@@ -79,7 +76,6 @@ total =
       list_told = λ facts sequences cards list card.
           list_told facts sequences cards list card (engine.list facts sequences cards list card) (list_return facts sequences cards list card);
       endless_told = λ image c area. endless_told image c area (engine.endless image c area) (endless_return image c area);
-      seal_told = λ image. seal_told image (engine.seal image) (seal_return image);
     }
 
 -- demand 1 fixes every number and every word: an engine that meets it gives back what this one does
@@ -90,7 +86,6 @@ pub record Same (e : Engine) : Type 0 where
   pub list : (facts sequences : ℕ) (cards list card : List ℕ)
       → e.list facts sequences cards list card ≡ engine.list facts sequences cards list card
   pub endless : (image : List ℕ) (c : ℕ) (area : List ℕ) → e.endless image c area ≡ engine.endless image c area
-  pub seal : (image : List ℕ) → e.seal image ≡ engine.seal image
 
 pub only_engine : (e : Engine) → Demand1 e → Same e
 only_engine e d =
@@ -101,7 +96,6 @@ only_engine e d =
       list = λ facts sequences cards list card.
           list_only facts sequences cards list card (e.list facts sequences cards list card) (d.list facts sequences cards list card);
       endless = λ image c area. endless_only image c area (e.endless image c area) (d.endless image c area);
-      seal = λ image. seal_only image (e.seal image) (d.seal image);
     }
 
 -- ---- demand 2

@@ -1,4 +1,4 @@
--- What the engine's seal call gives back is one of the cases of specs/SealCall, and the cases give no other number and no other image. What a
+-- What the seal call gives back is one of the cases of specs/SealCall, and the cases give no other number and no other image. What a
 -- caller can tell by the number follows from the cases.
 -- Assumes nothing.
 use Prim.Native.Nat.{ℕ, ◌≤◌}
@@ -12,14 +12,14 @@ use Rattle.image.specs.Word.{most_words}
 use Rattle.image.specs.declared.answer.Refusal.{Refusal}
 use Rattle.image.specs.declared.answer.Refusal.TheVariants.{Length}
 use Rattle.rules.specs.Checked.{all_but_last, last_word}
-use Rattle.seal.specs.Answer.{sealing, seal_answer, sum_word, with_sum, image_after}
+use Rattle.seal.specs.Answer.{seal_answer, sum_word, with_sum, image_after}
 use Rattle.seal.specs.declared.answer.Sealing.{Sealing}
 use Rattle.seal.proofs.Called.{sealing_short, sealing_long, sealing_sealed}
 use Rattle.seal.proofs.Right.{earlier_snoc, image_split, sum_word_is}
 use Rattle.dulimoven.specs.Returned.{Returned, returned, turned_down}
 use Rattle.dulimoven.specs.SealCall.{SealRefused, too_short, too_long, SealReturn, refused, sealed}
 use Rattle.dulimoven.specs.Demands.{Refuses}
-use Rattle.dulimoven.specs.Engine.{engine}
+use Rattle.dulimoven.specs.Sealed.{SealDemand, sealer}
 use Rattle.dulimoven.proofs.Refusals.{refusal_high}
 
 module _ (image : List ℕ) where
@@ -27,20 +27,20 @@ module _ (image : List ℕ) where
   abbrev given : Sealing → Returned
   given s = returned (seal_answer s) (image_after s image)
 
-  pub seal_writes : 2 ≤ length image → length image ≤ most_words → engine.seal image ≡ returned 0 (with_sum image)
+  pub seal_writes : 2 ≤ length image → length image ≤ most_words → sealer image ≡ returned 0 (with_sum image)
   seal_writes low high = ap given (sealing_sealed image low high)
 
-  pub seal_return : SealReturn image (engine.seal image)
+  pub seal_return : SealReturn image (sealer image)
   seal_return =
       by_cases (dec_lt (length image) 2) (λ l. refused Length (too_short (omega arith)) (ap given (sealing_short image l)))
       (λ low. by_cases (dec_lt most_words (length image)) (λ l. refused Length (too_long (omega arith)) (ap given (sealing_long image l)))
       (λ high. sealed (omega arith) (omega arith) (all_but_last image) (last_word image) (sum_word (all_but_last image)) (image_split image (omega arith))
       (record { of_kind = omega arith; by_rule = omega arith }) (seal_writes (omega arith) (omega arith))))
 
-  pub seal_only : (r : Returned) → SealReturn image r → r ≡ engine.seal image
+  pub seal_only : (r : Returned) → SealReturn image r → r ≡ sealer image
   seal_only r (refused why k is) = is ∙ go why k
     where
-      go : (why : Refusal) → SealRefused image why → turned_down why image ≡ engine.seal image
+      go : (why : Refusal) → SealRefused image why → turned_down why image ≡ sealer image
       go why (too_short l) = ap given (sym (sealing_short image (omega arith)))
       go why (too_long l) = ap given (sym (sealing_long image (omega arith)))
   seal_only r (sealed low high earlier last word same right is) =
@@ -64,3 +64,11 @@ module _ (image : List ℕ) where
   pub seal_kept : (r : Returned) → SealReturn image r → Refuses r.number → r.area ≡ image
   seal_kept r (refused why is same) high = ap (λ (x : Returned). x.area) same
   seal_kept r (sealed low long earlier last word split right same) high = absurd (omega (arith, ap (λ (x : Returned). x.number) same))
+
+pub sealer_met : SealDemand sealer
+sealer_met =
+    record {
+      sealed = seal_return;
+      kept = λ image. seal_kept image (sealer image) (seal_return image);
+      told = λ image. seal_told image (sealer image) (seal_return image);
+    }

@@ -1,10 +1,10 @@
--- A sealed image is never answered 2, an accepted image stays as it is, and to seal twice is to seal once: of every engine that meets demand 1
--- (`engines_seal`), and so of this one (`sealed_met`).
+-- A sealed image is never answered 2, an accepted image stays as it is, and to seal twice is to seal once: of the check of every engine that meets
+-- demand 1 and every seal call that meets its own (`engines_seal`), and so of these (`sealed_met`).
 -- Assumes nothing.
 use Prim.Native.Nat.{ℕ, ◌/◌, ◌^◌, ◌≤◌}
 use native.Mathlib.Omega.{arith}
 use native.Mathlib.Decide.{dec_lt}
-use mathlib.Core.Path.{◌≡◌, refl, sym, ap, ap₂, subst, ◌∙◌}
+use mathlib.Core.Path.{◌≡◌, refl, sym, ap, subst, ◌∙◌}
 use mathlib.Core.Logic.{◌≢◌, ◌⊎◌, inl, inr, ⊎_elim, by_cases}
 use mathlib.Core.List.{List}
 use lib.ListN.{length}
@@ -21,10 +21,10 @@ use Rattle.seal.proofs.Right.{NotTwo, length_sealed, sealed_right, right_stays, 
 use Rattle.dulimoven.specs.Returned.{Returned, returned, turned_down}
 use Rattle.dulimoven.specs.SealCall.{too_short, too_long, refused}
 use Rattle.dulimoven.specs.Demands.{Engine, Demand1}
-use Rattle.dulimoven.specs.Sealed.{Seals}
+use Rattle.dulimoven.specs.Sealed.{Sealer, SealDemand, sealer, Seals}
 use Rattle.dulimoven.specs.Engine.{engine}
-use Rattle.dulimoven.proofs.SealCall.{seal_only, seal_writes}
-use Rattle.dulimoven.proofs.Demands.{total, only_engine}
+use Rattle.dulimoven.proofs.SealCall.{seal_only, seal_writes, sealer_met}
+use Rattle.dulimoven.proofs.Demands.{total}
 
 -- an answer that is not 2, as a number
 not_two : (image : List ℕ) → NotTwo (checked image) → checked_answer (checked image) / 2 ^ 32 ≢ 2
@@ -37,7 +37,7 @@ not_two image other = go (checked image) refl other
 
 module _ (image : List ℕ) where
   -- an image that is refused 1 by both calls, or one that is sealed
-  sized : ((engine.seal image ≡ turned_down Length image) × (checked image ≡ Checked.Refused Length)) ⊎ ((2 ≤ length image) × (length image ≤ most_words))
+  sized : ((sealer image ≡ turned_down Length image) × (checked image ≡ Checked.Refused Length)) ⊎ ((2 ≤ length image) × (length image ≤ most_words))
   sized =
       by_cases (dec_lt (length image) 2)
       (λ l. inl (sym (seal_only image _ (refused Length (too_short l) refl)), sym (refused_short image l)))
@@ -45,7 +45,7 @@ module _ (image : List ℕ) where
       (λ l. inl (sym (seal_only image _ (refused Length (too_long l) refl)), sym (refused_long image l)))
       (λ high. inr (omega arith, omega arith)))
 
-  seal_right : checked_answer (checked (engine.seal image).area) / 2 ^ 32 ≢ 2
+  seal_right : checked_answer (checked (sealer image).area) / 2 ^ 32 ≢ 2
   seal_right =
       ⊎_elim
       (λ (same, one). subst (λ (ws : List ℕ). checked_answer (checked ws) / 2 ^ 32 ≢ 2) (sym (ap (λ (r : Returned). r.area) same))
@@ -54,34 +54,34 @@ module _ (image : List ℕ) where
       (not_two (with_sum image) (right_unrefused (with_sum image) (sealed_right image))))
       sized
 
-  seal_twice : engine.seal (engine.seal image).area ≡ engine.seal image
+  seal_twice : sealer (sealer image).area ≡ sealer image
   seal_twice =
-      ⊎_elim (λ (same, one). ap (λ (r : Returned). engine.seal r.area) same)
+      ⊎_elim (λ (same, one). ap (λ (r : Returned). sealer r.area) same)
       (λ (low, high). let size = length_sealed image (omega arith) in
-      ap (λ (r : Returned). engine.seal r.area) (seal_writes image low high)
+      ap (λ (r : Returned). sealer r.area) (seal_writes image low high)
       ∙ seal_writes (with_sum image) (omega arith) (omega arith)
       ∙ ap (returned 0) (right_stays (with_sum image) (omega arith) (sealed_right image))
       ∙ sym (seal_writes image low high))
       sized
 
-seal_keeps : (image : List ℕ) (h : Head) → checked image ≡ Checked.Accepted h → engine.seal image ≡ returned 0 image
+seal_keeps : (image : List ℕ) (h : Head) → checked image ≡ Checked.Accepted h → sealer image ≡ returned 0 image
 seal_keeps image h e =
     let c = checks image h e in
     let low = c.low in
     seal_writes image low c.high ∙ ap (returned 0) (right_stays image (omega arith) c.sum)
 
-pub engines_seal : (e : Engine) → Demand1 e → Seals e
-engines_seal e demand =
-    let same = (only_engine e demand).seal in
+pub engines_seal : (e : Engine) → Demand1 e → (seal : Sealer) → SealDemand seal → Seals e.check seal
+engines_seal e demand seal asked =
+    let same : (image : List ℕ) → seal image ≡ sealer image = λ image. seal_only image (seal image) (asked.sealed image) in
     record {
       right = λ image two.
           seal_right image
           (ap (λ (r : Returned). checked_answer (checked r.area) / 2 ^ 32) (sym (same image))
-          ∙ ap (λ (n : ℕ). n / 2 ^ 32) (sym (demand.check (e.seal image).area)) ∙ two);
+          ∙ ap (λ (n : ℕ). n / 2 ^ 32) (sym (demand.check (seal image).area)) ∙ two);
       kept = λ image h accepted. same image ∙ seal_keeps image h accepted;
       twice = λ image.
-          same (e.seal image).area ∙ ap (λ (r : Returned). engine.seal r.area) (same image) ∙ seal_twice image ∙ sym (same image);
+          same (seal image).area ∙ ap (λ (r : Returned). sealer r.area) (same image) ∙ seal_twice image ∙ sym (same image);
     }
 
-pub sealed_met : Seals engine
-sealed_met = engines_seal engine total
+pub sealed_met : Seals engine.check sealer
+sealed_met = engines_seal engine total sealer sealer_met

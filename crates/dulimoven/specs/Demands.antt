@@ -21,7 +21,6 @@ use Rattle.dulimoven.specs.CardCall.{CardsRefused, CardsReturn}
 use Rattle.dulimoven.specs.ChainCall.{ChainRefused, ChainReturn, Links}
 use Rattle.dulimoven.specs.ListCall.{ListRefused, ListReturn}
 use Rattle.dulimoven.specs.EndlessCall.{EndlessRefused, EndlessReturn}
-use Rattle.dulimoven.specs.SealCall.{SealRefused, SealReturn}
 
 -- ---- what a caller sees
 
@@ -34,8 +33,6 @@ pub record Engine : Type 0 where
   pub list : (facts sequences : ℕ) (cards list card : List ℕ) → Returned
   -- why a sequence has no run (document 02, request 7)
   pub endless : (image : List ℕ) (sequence : ℕ) (area : List ℕ) → Returned
-  -- for authors: the image with its sum word written. The image is the lent area
-  pub seal : (image : List ℕ) → Returned
 
 -- "N × 2^32 + P for refusal N at position P": a refusal is a number from 2^32 on
 abbrev pub Refuses : ℕ → Type 0
@@ -59,8 +56,6 @@ pub record Demand1 (e : Engine) : Type 0 where
       → ListReturn facts sequences cards list card (e.list facts sequences cards list card)
   -- "Otherwise the answer is the list's length" (document 02, request 7)
   pub endless : (image : List ℕ) (c : ℕ) (area : List ℕ) → EndlessReturn image c area (e.endless image c area)
-  -- the sum word in the last place
-  pub seal : (image : List ℕ) → SealReturn image (e.seal image)
   -- "a refusal changes no word of a lent area"
   pub cards_kept : (image area : List ℕ) → Refuses (e.cards image area).number → (e.cards image area).area ≡ area
   pub chain_kept : (image : List ℕ) (c q f : ℕ) (area : List ℕ) → Refuses (e.chain image c q f area).number
@@ -68,7 +63,6 @@ pub record Demand1 (e : Engine) : Type 0 where
   pub list_kept : (facts sequences : ℕ) (cards list card : List ℕ) → Refuses (e.list facts sequences cards list card).number
       → (e.list facts sequences cards list card).area ≡ card
   pub endless_kept : (image : List ℕ) (c : ℕ) (area : List ℕ) → Refuses (e.endless image c area).number → (e.endless image c area).area ≡ area
-  pub seal_kept : (image : List ℕ) → Refuses (e.seal image).number → (e.seal image).area ≡ image
   -- ""none" writes nothing", "0 there for "none""
   pub none_kept : (image : List ℕ) (c q f : ℕ) (area : List ℕ) → (e.chain image c q f area).number ≡ 0 → (e.chain image c q f area).area ≡ area
   -- the caller can tell a refusal by the number
@@ -80,7 +74,6 @@ pub record Demand1 (e : Engine) : Type 0 where
       → Refuses (e.list facts sequences cards list card).number ↔ ((r : Refusal) × ListRefused sequences (length cards) list r)
   pub endless_told : (image : List ℕ) (c : ℕ) (area : List ℕ)
       → Refuses (e.endless image c area).number ↔ ((r : Refusal) × EndlessRefused image c (length area) r)
-  pub seal_told : (image : List ℕ) → Refuses (e.seal image).number ↔ ((r : Refusal) × SealRefused image r)
 
 -- ---- demand 2
 

@@ -10,7 +10,6 @@ use Rattle.list.specs.Answer.{listed, listed_answer, card_after}
 use Rattle.library.specs.Library.{library_of}
 use Rattle.endless.specs.Answer.{endless_for, endless_answer}
 use Rattle.endless.specs.Answer as endless
-use Rattle.seal.specs.Answer.{sealing, seal_answer, image_after}
 use Rattle.dulimoven.specs.Returned.{Returned, returned}
 use Rattle.dulimoven.specs.Demands.{Engine}
 
@@ -27,5 +26,4 @@ engine =
       list = λ facts sequences cards list card. let found = listed sequences cards list in returned (listed_answer found) (card_after found facts cards list card);
       endless = λ image c area.
           let found = endless_for image c (length area) in returned (endless_answer found) (endless.area_after found (library_of image) c area);
-      seal = λ image. returned (seal_answer (sealing image)) (image_after (sealing image) image);
     }

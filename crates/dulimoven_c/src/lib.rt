@@ -5,6 +5,7 @@
 ghost use Rattle.std.specs.Prelude.{◌≡◌};
 ghost use Rattle.dulimoven.specs.Returned.{returned};
 ghost use Rattle.dulimoven.specs.Engine.{engine};
+ghost use Rattle.dulimoven.specs.Sealed.{sealer};
 
 use writer::block::CARD_WORDS;
 
@@ -67,7 +68,7 @@ pub extern "C" fn dulimoven_endless(image: &[u32], sequence: u64, area: &mut [u3
 // The sum word for an author's image: 0 with the sum word of the words before it in the last place, or 2^32 for refusal 1 with the image as it was.
 #[unsafe(no_mangle)]
 pub extern "C" fn dulimoven_seal(image: &mut [u32]) -> u64
-    ensures { returned result image.new ≡ engine.seal image.old }
+    ensures { returned result image.new ≡ sealer image.old }
 {
     dulimoven::dulimoven_seal(image)
 }
