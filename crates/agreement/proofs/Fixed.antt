@@ -20,7 +20,7 @@ use Rattle.library.proofs.Accepted.{counted}
 use Rattle.runs.specs.Touch.{question_of}
 use Rattle.cards.specs.Area.{part_number, AllCards}
 use Rattle.cards.specs.Card.{card_number}
-use Rattle.cards.specs.Layout.{place, card_numbers, column_words, column_width, card_words}
+use Rattle.cards.specs.Layout.{card_numbers, column_words, column_width, card_words}
 use Rattle.cards.specs.Meaning.{Always}
 use Rattle.cards.proofs.Meaning.{card_right, card_same}
 use Rattle.cards.proofs.Unique.{card_unique}

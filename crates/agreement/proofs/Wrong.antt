@@ -42,7 +42,7 @@ use Rattle.endings.specs.Reached.{endless_list}
 use Rattle.endings.proofs.Listed.{listed_is}
 use Rattle.chains.specs.Answer.{shown}
 use Rattle.chains.specs.Call.{answered, chained}
-use Rattle.agreement.specs.Samples.{L, bare, self_call, clear_then_need, ten_sequences, blank, card1, few, joined, cards_l}
+use Rattle.agreement.specs.Samples.{L, bare, self_call, clear_then_need, ten_sequences, card1, few, joined, cards_l}
 use Rattle.dulimoven.specs.Returned.{Returned, returned}
 use Rattle.dulimoven.specs.ChainCall.{Asked, Answers, Links, ChainReturn}
 use Rattle.dulimoven.specs.ChainCall as chain
