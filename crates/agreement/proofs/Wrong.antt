@@ -49,9 +49,9 @@ use Rattle.dulimoven.specs.ChainCall as chain
 use Rattle.dulimoven.specs.Demands.{Engine, Refuses, count, Ready, Demand1, Demand2, Proves, Demand3}
 use Rattle.dulimoven.specs.Added.{Listed, list_over, Lists}
 use Rattle.dulimoven.specs.Explained.{found, Explains}
-use Rattle.dulimoven.specs.Sealed.{Sealer, SealDemand, sealer, Seals}
+use Rattle.dulimoven.specs.Sealed.{Sealer, SealDemand, Seals}
 use Rattle.dulimoven.proofs.SealCall.{seal_only}
-use Rattle.dulimoven.specs.Engine.{engine}
+use Rattle.dulimoven.specs.Engine.{engine, sealer}
 use Rattle.agreement.specs.Wrong.{Gets, Unwritten, LongerChain, BlankColumn, OneCard, Untouched, NoneAtOnce, AlwaysTwelve, SameLink, InventedLinks, InventedCount, RefusesAll, RefusesAllCards, RefusesAllChains}
 use Rattle.agreement.specs.Wrong.{RefusesAllLists, UnwrittenLists, LastMember, OrderUnnoticed, no_list, lazy_lists, second_card}
 use Rattle.agreement.specs.Wrong.{RefusesAllEndless, UnwrittenReasons, AskedAlone, AlwaysSixteen, no_reason, all_run, lazy_reasons, asked_only}

@@ -12,8 +12,7 @@ use Rattle.runs.specs.Execution.{Fact, State, Executes, end}
 use Rattle.cards.specs.Layout.{card_words}
 use Rattle.card_text.specs.Print.{printed}
 use Rattle.dulimoven.specs.Returned.{returned}
-use Rattle.dulimoven.specs.Engine.{engine}
-use Rattle.dulimoven.specs.Sealed.{sealer}
+use Rattle.dulimoven.specs.Engine.{engine, sealer}
 
 -- "Library L, 20 words in hexadecimal, F = A = C = 3", with the head of document 02, request 8
 abbrev pub L : List ℕ

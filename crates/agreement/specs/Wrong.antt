@@ -21,8 +21,8 @@ use Rattle.dulimoven.specs.ChainCall.{Asked, Answers, Links}
 use Rattle.dulimoven.specs.Demands.{Engine, Refuses, Ready, count, Asks, Proves}
 use Rattle.dulimoven.specs.Added.{Listed, list_over}
 use Rattle.dulimoven.specs.Explained.{found}
-use Rattle.dulimoven.specs.Engine.{engine}
-use Rattle.dulimoven.specs.Sealed.{Sealer, sealer}
+use Rattle.dulimoven.specs.Engine.{engine, sealer}
+use Rattle.dulimoven.specs.Sealed.{Sealer}
 
 -- a question whose answer is the chain ls, in an area that has room for it
 pub record Gets (image : List ℕ) (c q f : ℕ) (area : List ℕ) (ls : Chain) : Type 0 where

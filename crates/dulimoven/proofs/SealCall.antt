@@ -19,7 +19,8 @@ use Rattle.seal.proofs.Right.{earlier_snoc, image_split, sum_word_is}
 use Rattle.dulimoven.specs.Returned.{Returned, returned, turned_down}
 use Rattle.dulimoven.specs.SealCall.{SealRefused, too_short, too_long, SealReturn, refused, sealed}
 use Rattle.dulimoven.specs.Demands.{Refuses}
-use Rattle.dulimoven.specs.Sealed.{SealDemand, sealer}
+use Rattle.dulimoven.specs.Engine.{sealer}
+use Rattle.dulimoven.specs.Sealed.{SealDemand}
 use Rattle.dulimoven.proofs.Refusals.{refusal_high}
 
 module _ (image : List ℕ) where

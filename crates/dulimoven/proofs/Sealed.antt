@@ -21,8 +21,8 @@ use Rattle.seal.proofs.Right.{NotTwo, length_sealed, sealed_right, right_stays, 
 use Rattle.dulimoven.specs.Returned.{Returned, returned, turned_down}
 use Rattle.dulimoven.specs.SealCall.{too_short, too_long, refused}
 use Rattle.dulimoven.specs.Demands.{Engine, Demand1}
-use Rattle.dulimoven.specs.Sealed.{Sealer, SealDemand, sealer, Seals}
-use Rattle.dulimoven.specs.Engine.{engine}
+use Rattle.dulimoven.specs.Sealed.{Sealer, SealDemand, Seals}
+use Rattle.dulimoven.specs.Engine.{engine, sealer}
 use Rattle.dulimoven.proofs.SealCall.{seal_only, seal_writes, sealer_met}
 use Rattle.dulimoven.proofs.Demands.{total}
 

@@ -10,6 +10,7 @@ use Rattle.list.specs.Answer.{listed, listed_answer, card_after}
 use Rattle.library.specs.Library.{library_of}
 use Rattle.endless.specs.Answer.{endless_for, endless_answer}
 use Rattle.endless.specs.Answer as endless
+use Rattle.seal.specs.Answer.{sealing, seal_answer, image_after}
 use Rattle.dulimoven.specs.Returned.{Returned, returned}
 use Rattle.dulimoven.specs.Demands.{Engine}
 
@@ -27,3 +28,7 @@ engine =
       endless = λ image c area.
           let found = endless_for image c (length area) in returned (endless_answer found) (endless.area_after found (library_of image) c area);
     }
+
+-- the seal call, which meets its own demand (`sealer_met`, proofs/SealCall)
+abbrev pub sealer : List ℕ → Returned
+sealer image = returned (seal_answer (sealing image)) (image_after (sealing image) image)

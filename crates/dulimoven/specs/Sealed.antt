@@ -1,11 +1,10 @@
--- The seal call, for authors, beside the calls of an engine: what its caller sees, what demand 1's sentences ask of it, the call that the contract of
--- the export cites, and what the check and a second sealing make of a sealed image.
+-- The seal call, for authors, beside the calls of an engine: what its caller sees, what demand 1's sentences ask of it, and what the check and a second
+-- sealing make of a sealed image.
 use Rattle.std.specs.Prelude.{ℕ, ◌/◌, ◌^◌, ◌≡◌, ◌≢◌, ◌↔◌, List}
 use Rattle.image.specs.declared.answer.Head.{Head}
 use Rattle.image.specs.declared.answer.Refusal.{Refusal}
 use Rattle.image.specs.declared.answer.Checked.{Checked}
 use Rattle.rules.specs.Checked.{checked}
-use Rattle.seal.specs.Answer.{sealing, seal_answer, image_after}
 use Rattle.dulimoven.specs.Returned.{Returned, returned}
 use Rattle.dulimoven.specs.SealCall.{SealRefused, SealReturn}
 use Rattle.dulimoven.specs.Demands.{Refuses}
@@ -22,10 +21,6 @@ pub record SealDemand (seal : Sealer) : Type 0 where
   pub kept : (image : List ℕ) → Refuses (seal image).number → (seal image).area ≡ image
   -- the caller can tell a refusal by the number
   pub told : (image : List ℕ) → Refuses (seal image).number ↔ ((r : Refusal) × SealRefused image r)
-
--- the call, which meets it (`sealer_met`, proofs/SealCall)
-abbrev pub sealer : Sealer
-sealer image = returned (seal_answer (sealing image)) (image_after (sealing image) image)
 
 -- it holds of the check of every engine that meets demand 1 and of every seal call that meets its own (`engines_seal`, proofs/Sealed)
 pub record Seals (check : List ℕ → ℕ) (seal : Sealer) : Type 0 where

@@ -4,8 +4,7 @@
 
 ghost use Rattle.std.specs.Prelude.{◌≡◌};
 ghost use Rattle.dulimoven.specs.Returned.{returned};
-ghost use Rattle.dulimoven.specs.Engine.{engine};
-ghost use Rattle.dulimoven.specs.Sealed.{sealer};
+ghost use Rattle.dulimoven.specs.Engine.{engine, sealer};
 
 use writer::block::CARD_WORDS;
 
