@@ -1,7 +1,7 @@
 -- Tables that describe a library give its answers: what they say of an entry is what `Ranks` says, and so the links and the answer by the
 -- ranks are the library's.
--- It has: the ranks of the items (`items_marked`, `items_any`); what a table says of an entry (`pass_is`); the looks at an alternative (`pass-
--- look`, `depth-look`, `touch-look`); the answers (`untouched-answer`, `touch-answer`).
+-- It has: the ranks of the items (`items_marked`, `items_any`); what a table says of an entry (`pass_is`); the looks at an alternative
+-- (`pass_look_lem`, `depth_look_lem`, `touch_look_lem`); the answers (`untouched_answer_lem`, `touch_answer_lem`).
 -- Assumes nothing.
 use Prim.Native.Nat.{ℕ, zero, suc, pred, ◌+◌, ◌*◌, ◌≤◌, ◌<◌}
 use native.Mathlib.Decide.{dec_lt}

@@ -25,7 +25,7 @@ pub record Lists (e : Engine) : Type 0 where
   pub long : (image area list before : List ℕ) → Listed image area list → length (list_over e image area list before).area ≡ card_words
   pub narrow : (image area list before : List ℕ) → Listed image area list → All (λ (w : ℕ). w < 2 ^ 64) (list_over e image area list before).area
   -- "the list's card equals that of an added sequence, limits aside, whose one alternative names the list": it says of the added sequence what
-  -- a card says, and no other numbers do (`card-Unique`, cards/proofs). What follows for every engine that meets this and demand 2 is in
+  -- a card says, and no other numbers do (`card_unique`, cards/proofs). What follows for every engine that meets this and demand 2 is in
   -- proofs/Added: what the words say of runs (`list_runs`), that they are the sequence's card in every image whose library has it (`list_image`),
   -- and the shortest lists (`list_single`, `list_empty`)
   pub card : (image area list before : List ℕ) → Listed image area list

@@ -1,8 +1,8 @@
 -- How the library is read off the words, one word at a time, and what stands where: the laws by which the crates above follow the
 -- decoding without opening it.
--- It has: kinds of words, and the entry that a word names by its kind; one word more of entries, alternatives, sequences, steps and facts (`entries_cons`, `alternatives_cons`, `sequences-
--- open`, `steps-open`, `facts-here`); the two parts; how many steps and sequences there are, and the one at a number (`step-at`, `sequence-
--- at`). Loops over them are in crate `walk` (proofs/Walking).
+-- It has: kinds of words, and the entry that a word names by its kind; one word more of entries, alternatives, sequences, steps and facts (`entries_cons`, `alternatives_cons`, `sequences_open`,
+-- `steps_open`, `facts_here`); the two parts; how many steps and sequences there are, and the one at a number (`step_at`,
+-- `sequence_at`). Loops over them are in crate `walk` (proofs/Walking).
 -- Assumes nothing.
 use Prim.Native.Nat.{ℕ, zero, suc, ◌+◌, ◌≤◌, ◌<◌}
 use native.Mathlib.Nat.{le_of_suc-le-suc, zero-add}

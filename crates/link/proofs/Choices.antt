@@ -1,6 +1,6 @@
 -- The loops that choose: what holds at the head of each, a turn, and the ways out.
--- It has: the newest alternative that passes a test, from the last one back (`seeking-` start, turn, found, out); the index from which on all
--- entries pass (`tail_cons`); the first position of an alternative (`placing-` start, turn, found, out); and the link that both make
+-- It has: the newest alternative that passes a test, from the last one back (`seeking_` start, turn, found, out); the index from which on all
+-- entries pass (`tail_cons`); the first position of an alternative (`placing_` start, turn, found, out); and the link that both make
 -- (`choosing_turn`, `chosen_found`, `chosen_out`).
 -- Assumes nothing.
 use Prim.Native.Nat.{ℕ, suc, ◌+◌, ◌-◌, ◌≤◌, ◌<◌}

@@ -1,5 +1,5 @@
 -- The alternatives of a sequence that open before an index: counted from the first on, and gone through from the last to the first.
--- It has: `before-` start, turn, out and few, and `last_turn`, for a walk from left to right; `before_back`, from an index to the last opener
+-- It has: `before_` start, turn, out and few, and `last_turn`, for a walk from left to right; `before_back`, from an index to the last opener
 -- before it, and `opener_last`, one word of the way.
 -- Assumes nothing.
 use Prim.Native.Nat.{ℕ, zero, suc, ◌+◌, ◌-◌, ◌≤◌, ◌<◌}
