@@ -16,7 +16,7 @@ fn counts_as(w: u32) -> u32
 }
 
 // The running sum of what words count as, and the sum of its values after each of them, both with wrap at 2^32.
-#[derive(Drop)]
+#[derive(Clone, Copy)]
 pub struct Sums {
     pub running: u32,
     pub values: u32,
