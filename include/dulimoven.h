@@ -43,7 +43,7 @@ extern "C" {
  * since they are multiplied and added with one another.
  */
 #define DULIMOVEN_FORMAT 5
-#define DULIMOVEN_VERSION (DULIMOVEN_FORMAT * 1000 + 1)
+#define DULIMOVEN_VERSION (DULIMOVEN_FORMAT * 1000)
 
 /* How many columns a card has, how many words of 64 bits a column, and how many
  * a card, whose first word is no column but the flags; how many words of 32

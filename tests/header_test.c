@@ -60,11 +60,11 @@ static_assert(DULIMOVEN_KIND_STEP_ENTRY == 8 &&
 /* the second word of the last link that there can be: 511 */
 static_assert(DULIMOVEN_MOST_CHAIN_WORDS - DULIMOVEN_LINK_WORDS + 1 == 511, "");
 
-/* format 5, which has another head and cards of 49 words, and one change since
-   then, dulimoven_seal; a preprocessor can tell */
+/* format 5, which has another head and cards of 49 words, and no change since
+   then; a preprocessor can tell */
 static_assert(DULIMOVEN_VERSION / 1000 == DULIMOVEN_FORMAT, "");
-#if DULIMOVEN_FORMAT != 5 || DULIMOVEN_VERSION != 5001
-#error "the format is 5, the version 5001"
+#if DULIMOVEN_FORMAT != 5 || DULIMOVEN_VERSION != 5000
+#error "the format is 5, the version 5000"
 #endif
 
 /* the image that is sealed is lent to be written, as no other image is */
