@@ -6,7 +6,8 @@ use crate::asked::{Asked, UNTOUCHED_MARK};
 use crate::words::LINK_WORDS;
 use image::answer::{Refusal, refusal_answer};
 
-// How many links a chain has.
+// How many links a chain has. It is a struct of its own, and the answer below an enum of its own and no `Result<Option<u32>, Refusal>`, since document 01
+// fixes their form ("Which form belongs where"): "an answer enum whose cases carry a link count struct or a refusal enum with its position".
 #[derive(Clone, Copy)]
 pub struct Links {
     pub count: u32,
