@@ -1,13 +1,74 @@
 // Words: kind and payload, and the head.
 ghost use Rattle.std.specs.Prelude.{◌≡◌};
+ghost use Rattle.std.specs.Prelude.{◌<◌, ◌≢◌, MatchOption};
+ghost use Rattle.image.specs.Kinds.{kind_number};
 ghost use Rattle.image.specs.Word.{kind, payload, is_fact, is_entry, is_kind, head_of, head_right};
+ghost use Rattle.image.specs.declared.word.Kind.{Kind};
 
 use crate::answer::Head;
 
 // A payload is below this, 2^28; the kind is what stands above it.
 pub const PAYLOADS: u32 = 0x10000000;
 
-// The kinds of words, of an image and of a chain's links.
+// The kinds of words, of an image and of a chain's links, by their numbers.
+#[derive(Clone, Copy, PartialEq, Eq)]
+pub enum Kind {
+    Head = 1,
+    Needs = 2,
+    Sets = 3,
+    Clears = 4,
+    Step = 5,
+    Sequence = 6,
+    Alternative = 7,
+    StepEntry = 8,
+    SequenceEntry = 9,
+    Choice = 10,
+    Position = 11,
+    Untouched = 12,
+    Check = 13,
+    Sum = 15,
+}
+
+impl Kind {
+    // The number that stands in bits 31 to 28 of a word of this kind.
+    pub fn number(self) -> u32
+        ensures { (result ≡ kind_number self) × (result < 16) }
+    {
+        self as u32
+    }
+
+    // The kind of a word, or none where no kind has its number.
+    pub fn of(w: u32) -> Option<Kind>
+        ensures { MatchOption result ((k : Kind) → kind_number k ≢ kind w) (λ k. kind_number k ≡ kind w) }
+    {
+        match w / PAYLOADS {
+            1 => Some(Kind::Head),
+            2 => Some(Kind::Needs),
+            3 => Some(Kind::Sets),
+            4 => Some(Kind::Clears),
+            5 => Some(Kind::Step),
+            6 => Some(Kind::Sequence),
+            7 => Some(Kind::Alternative),
+            8 => Some(Kind::StepEntry),
+            9 => Some(Kind::SequenceEntry),
+            10 => Some(Kind::Choice),
+            11 => Some(Kind::Position),
+            12 => Some(Kind::Untouched),
+            13 => Some(Kind::Check),
+            15 => Some(Kind::Sum),
+            _ => None,
+        }
+    }
+
+    // Whether a word is of this kind.
+    pub fn is_of(self, w: u32) -> bool
+        ensures { result ≡ is_kind (kind_number self) w }
+    {
+        w / PAYLOADS == self.number()
+    }
+}
+
+// The same as numbers, for the crates that do not use `Kind` yet.
 pub const KIND_HEAD: u32 = 1;
 
 pub const KIND_NEEDS: u32 = 2;
