@@ -12,7 +12,7 @@ use mathlib.Core.Bool.{Bool, true, false, ◌&&◌, ◌||◌}
 use mathlib.Core.List.{List, [], ◌∷◌}
 use lib.Bits.{bit_or, or_zero_l}
 use lib.Dec.{eqb, ltb}
-use lib.ListN.{length, get_or, set, drop, get_or-eq_default}
+use lib.ListN.{length, get_or, set, drop, length-set, get_or-eq_default}
 use lib.Pow.{pow-lt}
 use lib.Seq.{get_or-set_same, get_or-set_other}
 use mir.Val.{bool_byte}
@@ -130,6 +130,28 @@ removed s c v e l =
     record {
       out = ap (λ (w : ℕ). in_column w (c % 64)) (get_or-set_same s (c / 64) v 0 l ∙ e) ∙ without_same (get_or s (c / 64) 0) (c % 64) (omega arith);
       others = others_stay s c v e l;
+    }
+
+-- what holds at the head of the loop that puts the callers of sequence d in: the words below i have them
+pub record Uniting (d : ℕ) (callers s₀ s : List ℕ) (i : ℕ) : Type 0 where
+  pub four : length s ≡ 4
+  pub done : (k : ℕ) → k < i → get_or s k 0 ≡ bit_or (get_or s₀ k 0) (get_or callers (4 * d + k) 0)
+  pub left : (k : ℕ) → i ≤ k → get_or s k 0 ≡ get_or s₀ k 0
+
+pub uniting_turn : (d : ℕ) (callers s₀ s : List ℕ) (i v : ℕ) → i < 4 → v ≡ bit_or (get_or s i 0) (get_or callers (4 * d + i) 0) → Uniting d callers s₀ s i
+    → Uniting d callers s₀ (set s i v) (i + 1)
+uniting_turn d callers s₀ s i v low e p =
+    let l : i < length s = omega (arith, p.four) in
+    record {
+      four = length-set s i v ∙ p.four;
+      done = λ k m. elim (ℕ_discrete k i) [
+        | yes same ↦
+            ap (λ (j : ℕ). get_or (set s i v) j 0) same ∙ get_or-set_same s i v 0 l ∙ e
+            ∙ ap (λ (x : ℕ). bit_or x (get_or callers (4 * d + i) 0)) (p.left i (omega arith))
+            ∙ ap (λ (j : ℕ). bit_or (get_or s₀ j 0) (get_or callers (4 * d + j) 0)) (sym same)
+        | no other ↦ get_or-set_other s i k v 0 other ∙ p.done k (omega arith)
+      ];
+      left = λ k high. get_or-set_other s i k v 0 (λ q. omega arith) ∙ p.left k (omega arith);
     }
 
 -- the words one after the other

@@ -1,5 +1,5 @@
 -- Who calls whom, and sets of sequences as bits.
-use Rattle.std.specs.Prelude.{ℕ, ◌+◌, ◌*◌, ◌/◌, ◌%◌, ◌≤◌, ◌<◌, ◌≡◌, Bool, false, ◌&&◌, ◌||◌, List, eqb, ltb, length, get_or, set}
+use Rattle.std.specs.Prelude.{ℕ, ◌+◌, ◌*◌, ◌/◌, ◌%◌, ◌≤◌, ◌<◌, ◌≡◌, Bool, false, ◌&&◌, ◌||◌, List, [], ◌∷◌, eqb, ltb, length, get_or, set}
 use Rattle.std.specs.Int.Bits.{bit_or}
 use Rattle.column.specs.Column.{with_fact}
 use Rattle.column.specs.Sets.{in_column}
@@ -19,6 +19,13 @@ in_set s c = in_column (get_or s (c / 64) 0) (c % 64)
 -- the set with sequence c in it
 abbrev pub with_member : List ℕ → ℕ → List ℕ
 with_member s c = set s (c / 64) (with_fact (get_or s (c / 64) 0) (c % 64))
+
+-- the words of the set without a sequence, and of that of every sequence
+abbrev pub no_sequences : List ℕ
+no_sequences = 0 ∷ 0 ∷ 0 ∷ 0 ∷ []
+
+abbrev pub every_sequence : List ℕ
+every_sequence = 18446744073709551615 ∷ 18446744073709551615 ∷ 18446744073709551615 ∷ 18446744073709551615 ∷ []
 
 -- sequence c is one of the callers of sequence d
 abbrev pub is_caller : List ℕ → ℕ → ℕ → Bool
