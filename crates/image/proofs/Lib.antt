@@ -1,3 +1,4 @@
 pub mod Head
 pub mod Sum
 pub mod Words
+pub mod FourWords

@@ -1,3 +1,4 @@
 pub mod Answer
 pub mod Word
 pub mod Kinds
+pub mod Fours

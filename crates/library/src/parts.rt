@@ -4,18 +4,15 @@ ghost use Rattle.rules.specs.Checked.{between};
 ghost use Rattle.library.specs.Library.{before_sequences, steps_part, sequences_part};
 ghost use Rattle.library.specs.Seam.{Passed, NoneOpens};
 
+use image::fours::all_four;
 use image::word::{AT_ONCE, KIND_SEQUENCE, is_kind};
 
-// Whether none of the four words from index `at` on opens a sequence. One test without a way out, so that it compiles to vector code.
+// Whether none of the four words from index `at` on opens a sequence.
 pub fn none_opens(words: &[u32], at: usize) -> bool
     requires { at + 4 ≤ length words.now }
     ensures { result ≡ true → NoneOpens words.now at }
 {
-    let a = is_kind(KIND_SEQUENCE, words[at]);
-    let b = is_kind(KIND_SEQUENCE, words[at + 1]);
-    let c = is_kind(KIND_SEQUENCE, words[at + 2]);
-    let d = is_kind(KIND_SEQUENCE, words[at + 3]);
-    !(a | b | c | d)
+    all_four(words, at, |w| !is_kind(KIND_SEQUENCE, w))
 }
 
 // Passes words by fours, none of which opens a sequence.

@@ -15,6 +15,7 @@ use lib.Seq.{drop-cons, drop-nil, drop-drop}
 use Rattle.general.specs.Scan.{first_index}
 use Rattle.general.proofs.Bools.{and_parts}
 use Rattle.general.proofs.Scan.{first_le}
+use Rattle.image.specs.Fours.{AllFour}
 use Rattle.image.specs.Word.{is_kind, is_entry}
 use Rattle.library.specs.Library.{Entry, entry_of, Alternative, entry_at, entries_from, alternatives_from}
 use Rattle.walk.specs.Walk.{entries_end, walk_end}
@@ -164,18 +165,14 @@ pub record EntriesPassed (part : List ℕ) (at i : ℕ) : Type 0 where
 pub passed_start : {part : List ℕ} {at : ℕ} → at ≤ length part → EntriesPassed part at at
 passed_start l = record { within = l; ends = refl }
 
-pub passed_four : {part : List ℕ} {at i : ℕ} → EntriesPassed part at i → i + 4 ≤ length part
-    → is_entry (get_or part i 0) && is_entry (get_or part (i + 1) 0) && is_entry (get_or part (i + 2) 0) && is_entry (get_or part (i + 3) 0) ≡ true
+pub passed_four : {part : List ℕ} {at i : ℕ} → EntriesPassed part at i → i + 4 ≤ length part → AllFour (λ w. is_entry w ≡ true) part i
     → EntriesPassed part at (i + 4)
 passed_four {part} {at} {i} here room all =
-    let d = and_parts _ _ all in
-    let c = and_parts _ _ d.0 in
-    let b = and_parts _ _ c.0 in
     record {
       within = room;
       ends =
-          end_next part (i + 3) d.1 (i + 4) (omega arith) ∙ end_next part (i + 2) c.1 (i + 3) (omega arith)
-          ∙ end_next part (i + 1) b.1 (i + 2) (omega arith) ∙ end_next part i b.0 (i + 1) refl ∙ here.ends;
+          end_next part (i + 3) all.fourth (i + 4) (omega arith) ∙ end_next part (i + 2) all.third (i + 3) (omega arith)
+          ∙ end_next part (i + 1) all.second (i + 2) (omega arith) ∙ end_next part i all.first (i + 1) refl ∙ here.ends;
     }
 
 -- ---- a loop over the entries of an alternative, which stand from index `at` on

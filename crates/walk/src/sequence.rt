@@ -4,6 +4,7 @@ ghost use Rattle.image.specs.Word.{most_words, is_kind, is_entry};
 ghost use Rattle.library.specs.Accepted.{HighEntry};
 ghost use Rattle.walk.specs.Walk.{entries_end, AllBefore, opener_before};
 
+use image::fours::all_four;
 use image::word::{
     AT_ONCE, KIND_ALTERNATIVE, KIND_CHECK, KIND_STEP_ENTRY, PAYLOADS, is_entry, is_kind,
 };
@@ -53,17 +54,6 @@ pub fn entries_end(part: &[u32], at: usize) -> usize
     i
 }
 
-// Whether four words are entries. One test without a way out, so that it compiles to vector code.
-fn four_entries(a: u32, b: u32, c: u32, d: u32) -> bool
-    ensures { result ≡ (is_entry a && is_entry b && is_entry c && is_entry d) }
-{
-    let first = is_entry(a);
-    let second = is_entry(b);
-    let third = is_entry(c);
-    let fourth = is_entry(d);
-    first & second & third & fourth
-}
-
 // The same by fours, where a walk has left many entries.
 pub fn rest_end(part: &[u32], at: usize) -> usize
     requires { at ≤ length part.now }
@@ -71,7 +61,7 @@ pub fn rest_end(part: &[u32], at: usize) -> usize
 {
     let mut i = at;
     while AT_ONCE <= part.len() - i {
-        if !four_entries(part[i], part[i + 1], part[i + 2], part[i + 3]) {
+        if !all_four(part, i, is_entry) {
             return entries_end(part, i);
         }
         i += AT_ONCE;
