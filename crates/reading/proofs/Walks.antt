@@ -2,7 +2,7 @@
 -- Assumes nothing.
 use Prim.Native.Nat.{ℕ, zero, suc, ◌+◌, ◌-◌, ◌≤◌}
 use native.Mathlib.Omega.{arith}
-use mathlib.Core.Path.{◌≡◌, refl, sym, ap, ◌∙◌}
+use mathlib.Core.Path.{◌≡◌, refl, sym, ap, ◌∙◌, subst}
 use mathlib.Core.Bool.{Bool, true, false, cond, not}
 use mathlib.Core.List.{List, [], ◌∷◌, ◌++◌}
 use lib.ListN.{length, get_or, drop, replicate}
@@ -10,7 +10,8 @@ use lib.Dec.{ltb}
 use borrow.Author.Tests.{eqb-true, lt-ltb}
 use Rattle.image.specs.Word.{kind, payload, is_kind, is_entry}
 use Rattle.library.specs.Library.{Entry, step, check, item, call, entry_of, Alternative, alternatives_from}
-use Rattle.walk.proofs.Walking.{opener_inside, entries_at, alternatives_at_lem, Walking, walking_here}
+use Rattle.walk.specs.Walk.{walk_end}
+use Rattle.walk.proofs.Walking.{opener_inside, entries_at, alternatives_at_lem, Walking, walking_here, Leaving, leaving_turn, leaving_rest, leaving_dead}
 use Rattle.row.specs.Words.{no_row, start_row, join_rows, or_rows, row_in}
 use Rattle.reading.specs.Walks.{RowWithin, is_dead, entry_in, joined_from, united_from, EmptiesEnd}
 use Rattle.row.specs.declared.words.Row.{Row}
@@ -31,13 +32,25 @@ dead_is b steps table w within e = go (is_kind 8 w) (is_kind 13 w) refl refl
 
 -- an entry joined to what stands before it, where it is not dead, and nothing where it is
 module _ (b : Block) (steps table : List ℕ) (X : Row) (e : Entry) (es : List Entry) where
-  pub joined_live : is_dead table e ≡ false → joined_from b steps table X (e ∷ es) ≡ joined_from b steps table (join_rows X (entry_in b steps table e)) es
+  joined_live : is_dead table e ≡ false → joined_from b steps table X (e ∷ es) ≡ joined_from b steps table (join_rows X (entry_in b steps table e)) es
   unfolding joined_from
   joined_live live = ap (λ (t : Bool). cond t no_row (joined_from b steps table (join_rows X (entry_in b steps table e)) es)) live
 
-  pub joined_dead : is_dead table e ≡ true → joined_from b steps table X (e ∷ es) ≡ no_row
+  joined_dead : is_dead table e ≡ true → joined_from b steps table X (e ∷ es) ≡ no_row
   unfolding joined_from
   joined_dead dead = ap (λ (t : Bool). cond t no_row (joined_from b steps table (join_rows X (entry_in b steps table e)) es)) dead
+
+-- an entry that stands in an alternative of which none so far is dead
+module _ (b : Block) (steps table : List ℕ) (X : Row) {part : List ℕ} {whole : Row} {at i : ℕ}
+    (here : Leaving part whole (is_dead table) at (joined_from b steps table X) i) (e : is_entry (get_or part i 0) ≡ true) where
+  pub live_turn : {Y Z : Row} → Z ≡ join_rows X Y → Y ≡ entry_in b steps table (entry_of (get_or part i 0)) → is_dead table (entry_of (get_or part i 0)) ≡ false
+      → Leaving part whole (is_dead table) at (joined_from b steps table Z) (i + 1)
+  live_turn z y live =
+      subst (λ (R : Row). Leaving part whole (is_dead table) at (joined_from b steps table R) (i + 1)) (sym (z ∙ ap (join_rows X) y))
+      (leaving_turn here e live (joined_live b steps table X _ _ live))
+
+  pub dead_end : {N : Row} → N ≡ no_row → is_dead table (entry_of (get_or part i 0)) ≡ true → (N ≡ whole) × (i ≡ walk_end (is_dead table) part at)
+  dead_end none dead = (none ∙ sym (joined_dead b steps table X _ _ dead) ∙ leaving_rest here e, leaving_dead here e dead)
 
 -- ---- alternatives without entries
 

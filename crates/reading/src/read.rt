@@ -1,9 +1,9 @@
 // One walk over the words of a sequence: its alternatives, each folded from left to right for all facts of a block at once.
 ghost use Rattle.std.specs.Prelude.{◌≡◌, true, false, ◌≤◌, length, drop};
-ghost use Rattle.image.specs.Word.{payload, is_kind, is_entry};
+ghost use Rattle.image.specs.Word.{is_kind, is_entry};
 ghost use Rattle.library.specs.Library.{alternatives_from};
 ghost use Rattle.library.specs.Library.{entry_of};
-ghost use Rattle.row.specs.Words.{no_row, start_row, check_row};
+ghost use Rattle.row.specs.Words.{no_row};
 ghost use Rattle.reading.specs.declared.read.Block.{Block};
 ghost use Rattle.reading.specs.Walks.{RowWithin, RowsReadable, entry_in, united_from, AlternativeFolded, EmptiesEnd};
 
@@ -26,67 +26,14 @@ pub struct Read {
     pub ended: usize,
 }
 
-// The row of an entry that names a step or a sequence.
-fn named_row(steps: &[u64], table: &[u64], w: u32) -> Row
-    requires { RowWithin steps.now table.now w × (is_entry w ≡ true) × (is_kind 13 w ≡ false) }
-    ensures { (b : Block) → result ≡ entry_in b steps.now table.now (entry_of w) }
-{
-    if is_kind(KIND_STEP_ENTRY, w) {
-        return row_at(steps, payload_of(w) as usize);
-    }
-    row_at(table, payload_of(w) as usize)
-}
-
-// The row of no entry.
-fn start_row(block: Block) -> Row
-    ensures { result ≡ start_row block.all }
-{
-    start(block.all)
-}
-
-// The row of an entry that is a check, made of its fact.
-fn check_row(block: Block, w: u32) -> Row
-    ensures { result ≡ check_row block.number (payload w) }
-{
-    of_check(block.number, payload_of(w))
-}
-
-// What is answered where a walk is left at a dead entry: nothing is possible.
-fn left_at(i: usize) -> Read
-    ensures { (result.row ≡ no_row) × (result.ended ≡ i) }
-{
-    Read {
-        row: none(),
-        ended: i,
-    }
-}
-
-// Reads the entries that stand from index `at` on. The walk ends at the first that names a sequence not found to have a run: nothing further can
-// count. A step has one, so its row passes the same test. A check has one too; it is joined apart, so that the rows of the others are joined from
-// their tables without a copy.
-fn read_alternative(block: Block, steps: &[u64], table: &[u64], part: &[u32], at: usize) -> Read
-    requires { RowsReadable steps.now table.now part.now × (at ≤ length part.now) }
-    ensures { AlternativeFolded block steps.now table.now part.now at result }
-{
-    let mut x = start_row(block);
-    let mut i = at;
-    loop {
-        let w = word_at(part, i);
-        if !part_entry(w) {
-            return Read { row: x, ended: i };
-        }
-        if is_check(w) {
-            x = joined(x, check_row(block, w));
-            i += 1;
-        } else {
-            let y = named_row(steps, table, w);
-            if y.run == 0 {
-                return left_at(i);
-            }
-            x = joined(x, y);
-            i += 1;
-        }
-    }
+// What the words of the sequences are read by: a block of facts, the rows of its steps, and the table of the rows found so far.
+#[derive(Clone, Copy)]
+pub struct Reader<'a> {
+    pub block: Block,
+    pub steps: &'a [u64],
+    pub table: &'a [u64],
+    pub part: &'a [u32],
+    ghost readable: { RowsReadable steps.now table.now part.now },
 }
 
 // The index after the alternatives without entries that stand from index `at` on.
@@ -94,39 +41,86 @@ fn empties_end(part: &[u32], at: usize) -> usize
     requires { at ≤ length part.now }
     ensures { EmptiesEnd part.now at result }
 {
-    let mut i = at;
-    while is_kind(KIND_ALTERNATIVE, word_at(part, i)) {
+    for i in at..part.len() {
+        if !is_kind(KIND_ALTERNATIVE, part[i]) {
+            return i;
+        }
         if is_entry(word_at(part, i + 1)) {
             return i;
         }
-        i += 1;
     }
-    i
+    part.len()
 }
 
-// Unites the alternatives that stand from index `at` on, up to the next sequence, past the entries that a walk has left. An alternative
-// without entries has the row that reading begins with, and where many of them stand in a row it is united once.
-pub fn read_sequence(block: Block, steps: &[u64], table: &[u64], part: &[u32], at: usize) -> Row
-    requires { RowsReadable steps.now table.now part.now × (at ≤ length part.now) }
-    ensures { result ≡ united_from block steps.now table.now no_row (alternatives_from (drop at part.now)) }
-{
-    let mut x = none();
-    let mut i = at;
-    loop {
-        let w = word_at(part, i);
-        i += 1;
-        if is_entry(w) {
-            i = rest_end(part, i);
-        } else if !is_kind(KIND_ALTERNATIVE, w) {
-            return x;
-        } else if is_entry(word_at(part, i)) {
-            let r = read_alternative(block, steps, table, part, i);
-            let row = r.row;
-            x = united(x, row);
-            i = r.ended;
-        } else {
-            x = united(x, start_row(block));
-            i = empties_end(part, i);
+impl<'a> Reader<'a> {
+    // The row of an entry that names a step or a sequence.
+    fn named_row(&self, w: u32) -> Row
+        requires { RowWithin self.now.steps.now self.now.table.now w × (is_entry w ≡ true) × (is_kind 13 w ≡ false) }
+        ensures { (b : Block) → result ≡ entry_in b self.now.steps.now self.now.table.now (entry_of w) }
+    {
+        if is_kind(KIND_STEP_ENTRY, w) {
+            return row_at(self.steps, payload_of(w) as usize);
         }
+        row_at(self.table, payload_of(w) as usize)
+    }
+
+    // Reads the entries that stand from index `at` on. The walk ends at the first that names a sequence not found to have a run: nothing further
+    // can count. A step has one, so its row passes the same test. A check has one too; it is joined apart, so that the rows of the others are
+    // joined from their tables without a copy.
+    fn read_alternative(&self, at: usize) -> Read
+        requires { at ≤ length self.now.part.now }
+        ensures { AlternativeFolded self.now.block self.now.steps.now self.now.table.now self.now.part.now at result }
+    {
+        let mut row = start(self.block.all);
+        for i in at..self.part.len() {
+            let w = self.part[i];
+            if !part_entry(w) {
+                return Read { row, ended: i };
+            }
+            if is_check(w) {
+                row = joined(row, of_check(self.block.number, payload_of(w)));
+            } else {
+                let named = self.named_row(w);
+                if named.run == 0 {
+                    return Read {
+                        row: none(),
+                        ended: i,
+                    };
+                }
+                row = joined(row, named);
+            }
+        }
+        Read {
+            row,
+            ended: self.part.len(),
+        }
+    }
+
+    // Unites the alternatives that stand from index `at` on, up to the next sequence, past the entries that a walk has left. An alternative
+    // without entries has the row that reading begins with, and where many of them stand in a row it is united once.
+    pub fn read_sequence(&self, at: usize) -> Row
+        requires { at ≤ length self.now.part.now }
+        ensures { result ≡ united_from self.now.block self.now.steps.now self.now.table.now no_row (alternatives_from (drop at self.now.part.now)) }
+    {
+        let mut row = none();
+        let mut i = at;
+        // Each turn goes on where a walk over entries or empty alternatives ended, so that no range or iterator counts the turns.
+        while i < self.part.len() {
+            let w = self.part[i];
+            i += 1;
+            if is_entry(w) {
+                i = rest_end(self.part, i);
+            } else if !is_kind(KIND_ALTERNATIVE, w) {
+                return row;
+            } else if is_entry(word_at(self.part, i)) {
+                let read = self.read_alternative(i);
+                row = united(row, read.row);
+                i = read.ended;
+            } else {
+                row = united(row, start(self.block.all));
+                i = empties_end(self.part, i);
+            }
+        }
+        row
     }
 }

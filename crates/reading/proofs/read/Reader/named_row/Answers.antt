@@ -1,11 +1,11 @@
--- `reading::read::named_row` meets its contract: an entry that is neither a step nor a check is a sequence.
+-- `reading::read::Reader::named_row` meets its contract: an entry that is neither a step nor a check is a sequence.
 -- Assumes nothing.
 use borrow.Author.Tests.{eqb-true, eqb-false}
 use mathlib.Core.Path.{sym, ◌∙◌, ap}
 use Rattle.image.specs.Word.{kind}
 use Rattle.row.specs.Words.{row_in}
 use Rattle.image.proofs.Words.{entry_kinds}
-use Rattle.reading.proofs.read.named_row.Goals as goal
+use Rattle.reading.proofs.read.Reader.named_row.Goals as goal
 
 pub row_at-requires : goal.row_at-requires
 row_at-requires c =
@@ -18,7 +18,7 @@ returns-then-is_kind c b =
     let kinds = c in
     let start = kinds in
     simp (sym kinds.is_kind.ensures ∙ c.if-is_kind.true)
-    (c.row_at.ensures ∙ ap (row_in start.args.steps.now) c.payload_of.ensures)
+    (c.row_at.ensures ∙ ap (row_in start.args.self.now.steps.now) c.payload_of.ensures)
 
 pub row_at-requires-2 : goal.row_at-requires-2
 row_at-requires-2 c =
@@ -34,4 +34,4 @@ returns c b =
     let kinds = c in
     let start = kinds in
     simp (sym kinds.is_kind.ensures ∙ c.if-is_kind.false, start.requires.2)
-    (c.row_at-2.ensures ∙ ap (row_in start.args.table.now) c.payload_of-2.ensures)
+    (c.row_at-2.ensures ∙ ap (row_in start.args.self.now.table.now) c.payload_of-2.ensures)
