@@ -5,7 +5,7 @@ ghost use Rattle.settling.specs.Settling.{Scheduled, Visit, Swept, Settles};
 ghost use Rattle.outcome.specs.Visited.{lacking, RowsVisitable, visited};
 
 use callers::sets::{ALL_SEQUENCES, SET_WORDS};
-use reading::read::{Block, read_sequence};
+use reading::read::{Block, Reader};
 use row::words::{same, united};
 use rows::table::{put_row, row_at};
 use settling::turns::{after_visit, first, next};
@@ -25,7 +25,13 @@ fn visit(
 {
     let old = row_at(table, c);
     let at = places[c] as usize + 1;
-    let new = united(old, read_sequence(block, steps, table, part, at));
+    let reader = Reader {
+        block,
+        steps,
+        table,
+        part,
+    };
+    let new = united(old, reader.read_sequence(at));
     put_row(table, c, new);
     !same(old, new)
 }

@@ -22,9 +22,7 @@ pub fn write_step_rows(all: u64, masks: &[u64], n: usize, rows: &mut [u64])
     requires { (mask_words * n ≤ length masks.now) × (row_words * n ≤ length rows.old) }
     ensures { StepRows all masks.now n rows.old rows.new }
 {
-    let mut a = 0;
-    while a < n {
+    for a in 0..n {
         put_row(rows, a, step_row(all, masks, a));
-        a += 1;
     }
 }

@@ -7,7 +7,7 @@ ghost use Rattle.row.specs.Words.{no_row};
 ghost use Rattle.reading.specs.declared.read.Block.{Block};
 ghost use Rattle.reading.specs.Walks.{RowWithin, RowsReadable, entry_in, united_from, AlternativeFolded, EmptiesEnd};
 
-use image::word::{KIND_ALTERNATIVE, KIND_STEP_ENTRY, is_entry, is_kind, payload_of};
+use image::word::{Kind, is_entry, payload_of};
 use row::words::{Row, joined, none, of_check, start, united};
 use rows::table::row_at;
 use walk::sequence::{is_check, part_entry, rest_end, word_at};
@@ -42,7 +42,7 @@ fn empties_end(part: &[u32], at: usize) -> usize
     ensures { EmptiesEnd part.now at result }
 {
     for i in at..part.len() {
-        if !is_kind(KIND_ALTERNATIVE, part[i]) {
+        if !Kind::Alternative.is_of(part[i]) {
             return i;
         }
         if is_entry(word_at(part, i + 1)) {
@@ -58,7 +58,7 @@ impl<'a> Reader<'a> {
         requires { RowWithin self.now.steps.now self.now.table.now w × (is_entry w ≡ true) × (is_kind 13 w ≡ false) }
         ensures { (b : Block) → result ≡ entry_in b self.now.steps.now self.now.table.now (entry_of w) }
     {
-        if is_kind(KIND_STEP_ENTRY, w) {
+        if Kind::StepEntry.is_of(w) {
             return row_at(self.steps, payload_of(w) as usize);
         }
         row_at(self.table, payload_of(w) as usize)
@@ -110,7 +110,7 @@ impl<'a> Reader<'a> {
             i += 1;
             if is_entry(w) {
                 i = rest_end(self.part, i);
-            } else if !is_kind(KIND_ALTERNATIVE, w) {
+            } else if !Kind::Alternative.is_of(w) {
                 return row;
             } else if is_entry(word_at(self.part, i)) {
                 let read = self.read_alternative(i);

@@ -14,10 +14,13 @@ overflow_cast-at c = omega (arith, c.type_inv.places c.args.c)
 pub overflow_add-at : goal.overflow_add-at
 overflow_add-at c = omega (arith, c.type_inv.places c.args.c)
 
+pub invariant_of-reader : goal.invariant_of-reader
+invariant_of-reader c = record { readable = c.requires.0.readable }
+
 pub read_sequence-requires : goal.read_sequence-requires
 read_sequence-requires c =
     let start = c in
-    (start.requires.0.readable, omega (arith, start.requires.0.within start.args.c start.requires.1))
+    omega (arith, start.requires.0.within start.args.c start.requires.1)
 
 pub put_row-requires : goal.put_row-requires
 put_row-requires c =

@@ -14,7 +14,7 @@ loop-i-init c = empties_start _ _ c.requires
 
 pub loop-i-preserved : goal.loop-i-preserved
 loop-i-preserved c =
-    empties_turn c.loop-i.invariant (sym c.is_kind.ensures ∙ c.if-not-is_kind.false)
+    empties_turn c.loop-i.invariant (sym c.is_of.ensures ∙ c.if-not-is_of.false)
     (tested is_entry c.word_at.ensures c.is_entry.ensures c.if-is_entry.false)
 
 pub returns : goal.returns

@@ -11,13 +11,13 @@ pub row_at-requires : goal.row_at-requires
 row_at-requires c =
     let kinds = c in
     let start = kinds in
-    rw c.payload_of.ensures (start.requires.0.step (eqb-true (kind start.args.w) 8 (sym kinds.is_kind.ensures ∙ c.if-is_kind.true)))
+    rw c.payload_of.ensures (start.requires.0.step (eqb-true (kind start.args.w) 8 (sym kinds.is_of.ensures ∙ c.if-is_of.true)))
 
-pub returns-then-is_kind : goal.returns-then-is_kind
-returns-then-is_kind c b =
+pub returns-then-is_of : goal.returns-then-is_of
+returns-then-is_of c b =
     let kinds = c in
     let start = kinds in
-    simp (sym kinds.is_kind.ensures ∙ c.if-is_kind.true)
+    simp (sym kinds.is_of.ensures ∙ c.if-is_of.true)
     (c.row_at.ensures ∙ ap (row_in start.args.self.now.steps.now) c.payload_of.ensures)
 
 pub row_at-requires-2 : goal.row_at-requires-2
@@ -26,12 +26,12 @@ row_at-requires-2 c =
     let start = kinds in
     rw c.payload_of-2.ensures
     (start.requires.0.sequence
-    (entry_kinds start.args.w start.requires.1 (eqb-false (kind start.args.w) 8 (sym kinds.is_kind.ensures ∙ c.if-is_kind.false))
+    (entry_kinds start.args.w start.requires.1 (eqb-false (kind start.args.w) 8 (sym kinds.is_of.ensures ∙ c.if-is_of.false))
     (eqb-false (kind start.args.w) 13 start.requires.2)))
 
 pub returns : goal.returns
 returns c b =
     let kinds = c in
     let start = kinds in
-    simp (sym kinds.is_kind.ensures ∙ c.if-is_kind.false, start.requires.2)
+    simp (sym kinds.is_of.ensures ∙ c.if-is_of.false, start.requires.2)
     (c.row_at-2.ensures ∙ ap (row_in start.args.self.now.table.now) c.payload_of-2.ensures)
