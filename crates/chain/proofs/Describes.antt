@@ -32,21 +32,24 @@ use Rattle.chains.specs.Answer.{Answer, none, shown, newest, chosen_alternative,
 use Rattle.rank.specs.Walk.{newest_link, depth_from, fewest_from}
 use Rattle.slot.specs.Slots.{entry_number, first_step, in_ranks, item_rank, rank_in, pass_in, step_mark, check_mark, mark_rank, check_rank, step_rank, ItemsRanked}
 use Rattle.rank.specs.Tables.{depth_in, every_in, fewest_in, look_in}
-use Rattle.link.specs.Choice.{link_in, alternative_in, link_entry, link_at, links_in, untouched_in, answer_in}
-use Rattle.chain.specs.Described.{is_first, mark_number, Asks, Masked, Placed, ItemsBy, Described}
-use Rattle.question.specs.Asked.{fact_block, fact_bit}
+use Rattle.link.specs.Choice.{link_in, alternative_in, link_entry, link_at, links_in, untouched_in, mark_chain, answer_in}
+use Rattle.chain.specs.Described.{is_first, mark_as, Asks, Masked, Placed, ItemsBy, Described}
+use Rattle.question.specs.Asked.{by_mark, fact_block, fact_bit}
+use Rattle.question.specs.Asked as question
 use Rattle.question.specs.declared.asked.Asked.{Asked}
+use Rattle.question.specs.declared.asked.Mark as code
+use Rattle.question.specs.declared.asked.Mark.TheVariants.{Present, Absent, Untouched, Run}
 use Rattle.chains.proofs.Depth.{step_rank_lem, step_passes}
 use Rattle.chains.proofs.Links.{entries_of, chosen_at, position_at, chosen, chosen_rank, ranked_listed}
 use Rattle.general.proofs.Scan.{get_d_inside}
 use Rattle.rank.proofs.Walk.{depth_from_lem, fewest_from_lem, link_newest}
 
-cond_mark : (x y : Bool) → cond x 0 (cond y 1 2) ≡ mark_number (cond x present (cond y absent untouched))
+cond_mark : (x y : Bool) → cond x Present (cond y Absent Untouched) ≡ mark_as (cond x present (cond y absent untouched))
 cond_mark true y = refl
 cond_mark false true = refl
 cond_mark false false = refl
 
-same_number : (m n : Mark) → eqb (mark_number m) (mark_number n) ≡ same_mark m n
+same_number : (m n : Mark) → question.same_mark (mark_as m) (mark_as n) ≡ same_mark m n
 same_number present present = refl
 same_number present absent = refl
 same_number present untouched = refl
@@ -71,9 +74,9 @@ module _ (L : Library) (q : Asked) (Q : Question) (masks : List ℕ) (asks : Ask
   abbrev asked : ℕ
   asked = q.fact
 
-  -- the mark of an item, as a number
-  abbrev mark_number_of : Item → ℕ
-  mark_number_of x = mark_number (item_touch L Q.side asked x)
+  -- the mark of an item, as the code has it
+  abbrev mark_as_of : Item → code.Mark
+  mark_as_of x = mark_as (item_touch L Q.side asked x)
 
   -- the bit of the fact in a mask of its block
   in_mask : (n : ℕ) (facts : List ℕ) → n ≡ mask_of (fact_block q) facts → in_column n (fact_bit q) ≡ has asked facts
@@ -81,7 +84,7 @@ module _ (L : Library) (q : Asked) (Q : Question) (masks : List ℕ) (asks : Ask
       let whole : 64 * fact_block q + fact_bit q ≡ asked = omega arith in
       ap (λ (x : ℕ). in_column x (fact_bit q)) e ∙ mask_has (fact_block q) facts (fact_bit q) (omega arith) ∙ ap (λ (f : ℕ). has f facts) whole
 
-  step_mark_lem : (a : ℕ) → step_mark q masks a ≡ mark_number_of (step a)
+  step_mark_lem : (a : ℕ) → step_mark q masks a ≡ mark_as_of (step a)
   step_mark_lem a =
       let n = in_mask (get_or masks (3 * a) 0) (action_of L (step a)).needs (masked.needs a) in
       let s = in_mask (get_or masks (3 * a + 1) 0) (action_of L (step a)).sets (masked.sets a) in
@@ -89,9 +92,9 @@ module _ (L : Library) (q : Asked) (Q : Question) (masks : List ℕ) (asks : Ask
       rw (asks.first, n, s, k) (go Q.side)
     where
       go : (s : Side)
-          → cond (is_first s) (cond (has asked (action_of L (step a)).needs) 0 (cond (has asked (action_of L (step a)).sets) 1 2))
-          (cond (has asked (action_of L (step a)).sets) 0 (cond (has asked (action_of L (step a)).clears) 1 2))
-          ≡ mark_number (item_touch L s asked (step a))
+          → cond (is_first s) (cond (has asked (action_of L (step a)).needs) Present (cond (has asked (action_of L (step a)).sets) Absent Untouched))
+          (cond (has asked (action_of L (step a)).sets) Present (cond (has asked (action_of L (step a)).clears) Absent Untouched))
+          ≡ mark_as (item_touch L s asked (step a))
       go last = cond_mark (has asked (action_of L (step a)).sets) (has asked (action_of L (step a)).clears)
       go first = cond_mark (has asked (action_of L (step a)).needs) (has asked (action_of L (step a)).sets)
 
@@ -100,13 +103,13 @@ module _ (L : Library) (q : Asked) (Q : Question) (masks : List ℕ) (asks : Ask
   check_touch last f = rw (has_none asked)
   check_touch first f = rw (has_one asked f, has_none asked)
 
-  check_mark_lem : (f : ℕ) → check_mark q f ≡ mark_number_of (check f)
+  check_mark_lem : (f : ℕ) → check_mark q f ≡ mark_as_of (check f)
   check_mark_lem f = rw (asks.first, check_touch Q.side f) (cond_mark (is_first Q.side && eqb f asked) false)
 
   -- the rank of an item by its mark
-  mark_rank_lem : (x : Item) (k : ℕ) → k ≡ mark_number_of x → mark_rank false q k ≡ cond (has_mark L Q asked x) 0 q.none
+  mark_rank_lem : (x : Item) (k : code.Mark) → k ≡ mark_as_of x → mark_rank false q k ≡ cond (has_mark L Q asked x) 0 q.none
   mark_rank_lem x k e =
-      ap (λ (b : Bool). cond b 0 q.none) (ap₂ eqb e asks.mark ∙ same_number (item_touch L Q.side asked x) Q.mark)
+      ap (λ (b : Bool). cond b 0 q.none) (ap₂ question.same_mark e asks.mark ∙ same_number (item_touch L Q.side asked x) Q.mark)
 
   -- a step past the library's touches nothing, and no more does a check of a fact past those that there may be
   pub mark_past : (a : ℕ) → length L.steps ≤ a → has_mark L Q asked (step a) ≡ same_mark untouched Q.mark
@@ -198,35 +201,25 @@ pass_is n some test run T items ranked (call d) = ranked d
 -- ---- the looks are the library's
 
 -- where it is only asked whether all entries pass
-pub pass_look_lem : (m : ℕ) → 0 < m → (q : Asked) (ahead behind : List ℕ) → q.none ≡ m → q.mark ≡ 3 → (test : Item → Bool) (T : List ℕ) → ItemsBy m 0 test T
+pub pass_look_lem : (m : ℕ) → 0 < m → (q : Asked) (ahead behind : List ℕ) → q.none ≡ m → q.mark ≡ Run → (test : Item → Bool) (T : List ℕ) → ItemsBy m 0 test T
     → look_in q ahead behind T ≡ pass_look m test (in_ranks m T)
 unfolding pass_look
 pass_look_lem m some q ahead behind none_is three test T items =
-    let by : ℕ → ℕ → Alternative → ℕ =
-    λ k n es. cond (eqb k 2) (depth_in n T es) (cond (eqb k 3) (every_in n T es) (fewest_in n ahead behind T es)) in
+    let by : code.Mark → ℕ → Alternative → ℕ =
+    λ k n es. by_mark k (depth_in n T es) (every_in n T es) (fewest_in n ahead behind T es) in
     ap₂ by three none_is
     ∙ fun_ext (λ es. ap (λ (p : Entry → Bool). cond (every p es) 0 m) (fun_ext (pass_is m some test (λ d. ltb (in_ranks m T d) m) T items (λ d. refl))))
 
 module _ (L : Library) (q : Asked) (Q : Question) (asks : Asks L q Q) where
-  two_is : (b : Bool) → eqb (mark_number Q.mark) 2 ≡ b → eqb q.mark 2 ≡ b
-  two_is b e = ap (λ (n : ℕ). eqb n 2) asks.mark ∙ e
-
-  touch_number : (m : Mark) → m ≢ untouched → eqb (mark_number m) 2 ≡ false
-  touch_number present t = refl
-  touch_number absent t = refl
-  touch_number untouched t = absurd (t refl)
-
-  three_is : (m : Mark) → Q.mark ≡ m → eqb q.mark 3 ≡ false
-  three_is present e = ap (λ (n : ℕ). eqb n 3) (asks.mark ∙ ap mark_number e)
-  three_is absent e = ap (λ (n : ℕ). eqb n 3) (asks.mark ∙ ap mark_number e)
-  three_is untouched e = ap (λ (n : ℕ). eqb n 3) (asks.mark ∙ ap mark_number e)
-
-  untouched_number : (m : Mark) → m ≡ untouched → eqb (mark_number m) 2 ≡ true
-  untouched_number m e = ap (λ (n : Mark). eqb (mark_number n) 2) e
+  -- a question that asks for a touch, as the code has it
+  touch_is : {A : Type 0} (m : Mark) → m ≢ untouched → (x y z : A) → by_mark (mark_as m) x y z ≡ z
+  touch_is present t x y z = refl
+  touch_is absent t x y z = refl
+  touch_is untouched t x y z = absurd (t refl)
 
   module _ (ahead behind : List ℕ) where
-    abbrev look_by : List ℕ → ℕ → Bool → Bool → Alternative → ℕ
-    look_by T n b d es = cond b (depth_in n T es) (cond d (every_in n T es) (fewest_in n ahead behind T es))
+    abbrev look_by : List ℕ → ℕ → code.Mark → Alternative → ℕ
+    look_by T n m es = by_mark m (depth_in n T es) (every_in n T es) (fewest_in n ahead behind T es)
 
     -- the depth, by any test of the items
     depth_is : (test : Item → Bool) (T : List ℕ) → ItemsBy (unranked L) 0 test T → depth_in (unranked L) T ≡ depth_look (unranked L) test (in_ranks (unranked L) T)
@@ -236,15 +229,15 @@ module _ (L : Library) (q : Asked) (Q : Question) (asks : Asks L q Q) where
     pub depth_look_lem : Q.mark ≡ untouched → (test : Item → Bool) (T : List ℕ) → ItemsBy (unranked L) 0 test T
         → look_in q ahead behind T ≡ depth_look (unranked L) test (in_ranks (unranked L) T)
     depth_look_lem marks_none test T items =
-        ap₂ (λ (n : ℕ) (b : Bool). look_by T n b (eqb q.mark 3)) asks.none (two_is true (untouched_number Q.mark marks_none)) ∙ depth_is test T items
+        ap₂ (look_by T) asks.none (asks.mark ∙ ap mark_as marks_none) ∙ depth_is test T items
 
     -- the links
     pub touch_look_lem : Q.mark ≢ untouched → Described L Q q.fact ahead behind → (T : List ℕ) → ItemsBy (unranked L) (unranked L) (has_mark L Q q.fact) T
         → look_in q ahead behind T ≡ touch_look L Q q.fact (in_ranks (unranked L) T)
     touch_look_lem touch described T items =
         let n = unranked L in
-        ap₂ (λ (n : ℕ) (b : Bool). look_by T n b (eqb q.mark 3)) asks.none (two_is false (touch_number Q.mark touch))
-        ∙ ap (look_by T n false) (three_is Q.mark refl)
+        ap₂ (look_by T) asks.none asks.mark
+        ∙ fun_ext (λ es. touch_is Q.mark touch (depth_in n T es) (every_in n T es) (fewest_in n ahead behind T es))
         ∙ fun_ext (λ es.
         ap (λ (r : Entry → ℕ). fewest_from n r (pass_in n ahead) (pass_in n behind) 0 n es) (rank_is n n (has_mark L Q q.fact) T items)
         ∙ ap₂ (λ (a b : Entry → Bool). fewest_from n (entry_rank n (has_mark L Q q.fact) (in_ranks n T)) a b 0 n es) (fun_ext described.by_ahead) (fun_ext described.by_behind)
@@ -272,8 +265,8 @@ module _ (L : Library) (q : Asked) (Q : Question) (asks : Asks L q Q) where
           ap₂ (λ (r : ℕ) (alts : List Alternative). alternative_in q.none ranks (pred r) alts) (own c lt) (placed c lt)
           ∙ ap (λ (depth : Alternative → ℕ). newest (λ es. leb (depth es) (pred (T c))) (alternatives_of L.sequences c))
           (ap (λ (n : ℕ). depth_in n ranks) asks.none ∙ depth_is (has_mark L Q f) ranks items) in
-          ap (λ (b : Bool). cond (ltb (get_or ranks c q.none) q.none) (shown (cond b (untouched_in q.none ranks part places c ∷ []) (links_in q.none ahead behind ranks part places (get_or ranks c q.none) c))) none)
-          (two_is true (untouched_number Q.mark marks_none))
+          ap (λ (m : code.Mark). cond (ltb (get_or ranks c q.none) q.none) (shown (mark_chain m (untouched_in q.none ranks part places c ∷ []) (links_in q.none ahead behind ranks part places (get_or ranks c q.none) c))) none)
+          (asks.mark ∙ ap mark_as marks_none)
           ∙ ap₂ (λ (r i : ℕ). cond (ltb r q.none) (shown (untouched_link c i ∷ [])) none) (own c lt) alternative
           ∙ ap (λ (n : ℕ). cond (ltb (T c) n) (shown (untouched_link c chosen ∷ [])) none) asks.none
           ∙ by_test (ltb (T c) (unranked L)) (shown (untouched_link c chosen ∷ [])) none
@@ -320,8 +313,9 @@ module _ (L : Library) (q : Asked) (Q : Question) (asks : Asks L q Q) where
         pub touch_answer_lem : (c : ℕ) → c < length L.sequences → answer_in q ahead behind ranks part places c ≡ touch_answer L Q f T c
         unfolding answer_in touch_answer
         touch_answer_lem c lt =
-            ap (λ (b : Bool). cond (ltb (get_or ranks c q.none) q.none) (shown (cond b (untouched_in q.none ranks part places c ∷ []) (links_in q.none ahead behind ranks part places (get_or ranks c q.none) c))) none)
-            (two_is false (touch_number Q.mark touch))
+            ap (λ (ls : Chain). cond (ltb (get_or ranks c q.none) q.none) (shown ls) none)
+            (ap (λ (m : code.Mark). mark_chain m (untouched_in q.none ranks part places c ∷ []) (links_in q.none ahead behind ranks part places (get_or ranks c q.none) c)) asks.mark
+            ∙ touch_is Q.mark touch (untouched_in q.none ranks part places c ∷ []) (links_in q.none ahead behind ranks part places (get_or ranks c q.none) c) (links_in q.none ahead behind ranks part places (get_or ranks c q.none) c))
             ∙ ap₂ (λ (r n : ℕ). cond (ltb r n) (shown (links_in q.none ahead behind ranks part places r c)) none) (own c lt) asks.none
             ∙ go (ltb (T c) (unranked L)) refl
           where

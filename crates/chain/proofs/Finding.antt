@@ -40,9 +40,11 @@ use Rattle.rank.specs.Visits.{Visits, RanksSettled}
 use Rattle.slot.specs.Slots.{first_step, in_ranks, item_rank, pass_in, ItemsRankable}
 use Rattle.rank.specs.Tables.{look_in, Rankable, RanksReadable, RanksVisitable, Ranked}
 use Rattle.link.specs.Choice.{Choosable, answer_in}
-use Rattle.chain.specs.Described.{Asks, Masked, Placed, ItemsBy, Described, FindAsked, ranks_length, AreasAsked, Findable, EntriesMarked, for_untouched, for_run, is_first, mark_number, side_by, mark_by, question_by}
+use Rattle.chain.specs.Described.{Asks, Masked, Placed, ItemsBy, Described, FindAsked, ranks_length, AreasAsked, Findable, EntriesMarked, for_untouched, for_run, is_first, mark_as, side_by, mark_by, question_by}
 use Rattle.question.specs.Asked.{fact_block}
 use Rattle.question.specs.declared.asked.Asked.{Asked}
+use Rattle.question.specs.declared.asked.Mark as code
+use Rattle.question.specs.declared.asked.Mark.TheVariants.{Present, Absent, Untouched, Run}
 use Rattle.chains.proofs.Entries.{stays_run, any_run}
 use Rattle.chains.proofs.Passing.{Passable, pass_reached, pass_exact}
 use Rattle.chains.proofs.Ranks.{start_unranked}
@@ -207,11 +209,17 @@ module _ {h : Head} {image ps₀ ps callers order : List ℕ} (accepted : Accept
 
 -- ---- the answer
 
-touch_asked : (k : ℕ) → k ≤ 2 → k ≢ 2 → mark_by k ≢ untouched
-touch_asked zero l t = present≢untouched
-touch_asked (suc zero) l t = absent≢untouched
-touch_asked (suc (suc zero)) l t = absurd (t refl)
-touch_asked (suc (suc (suc k))) l t = absurd (omega arith)
+untouched_or : (k : code.Mark) → Dec (k ≡ Untouched)
+untouched_or Present = no (λ e. cc)
+untouched_or Absent = no (λ e. cc)
+untouched_or Untouched = yes refl
+untouched_or Run = no (λ e. cc)
+
+touch_asked : (k : code.Mark) → k ≢ Run → k ≢ Untouched → mark_by k ≢ untouched
+touch_asked Present r t = present≢untouched
+touch_asked Absent r t = absent≢untouched
+touch_asked Untouched r t = absurd (t refl)
+touch_asked Run r t = absurd (r refl)
 
 module _ (image : List ℕ) (h : Head) (accepted : Accepts image h) (ms ps part : List ℕ)
     (places_are : Placed (library_of image) part ps) where
@@ -219,22 +227,22 @@ module _ (image : List ℕ) (h : Head) (accepted : Accepts image h) (ms ps part 
   L = library_of image
 
   -- the question that the code is asked
-  mark_number_lem : (m : ℕ) → m ≤ 2 → m ≡ mark_number (mark_by m)
-  mark_number_lem zero l = refl
-  mark_number_lem (suc zero) l = refl
-  mark_number_lem (suc (suc zero)) l = refl
-  mark_number_lem (suc (suc (suc m))) l = absurd (omega arith)
+  mark_as_lem : (m : code.Mark) → m ≢ Run → m ≡ mark_as (mark_by m)
+  mark_as_lem Present r = refl
+  mark_as_lem Absent r = refl
+  mark_as_lem Untouched r = refl
+  mark_as_lem Run r = absurd (r refl)
 
   first_is : (b : Bool) → b ≡ is_first (side_by b)
   first_is false = refl
   first_is true = refl
 
-  pub asks_by : (q : Asked) → q.mark ≤ 2 → q.fact < h.facts → q.none ≡ h.sequences + 2 → Asks L q (question_by q)
+  pub asks_by : (q : Asked) → q.mark ≢ Run → q.fact < h.facts → q.none ≡ h.sequences + 2 → Asks L q (question_by q)
   asks_by q low fact no_rank =
       let has = counted image h accepted in
       record {
         first = first_is q.first;
-        mark = mark_number_lem q.mark low;
+        mark = mark_as_lem q.mark low;
         none = omega (arith, has.sequences);
         fact = omega (arith, has.facts);
       }
@@ -285,12 +293,12 @@ module _ (image : List ℕ) (h : Head) (accepted : Accepts image h) (ms ps part 
           reads refl ranked.settled
 
     -- where it is only asked whether all entries pass: an entry has a rank exactly where it passes, a sequence where it has a run whose items do
-    module _ (three : q.mark ≡ 3) (test : Item → Bool) (items : ItemsBy p.none 0 test ranked.start) where
+    module _ (run_only : q.mark ≡ Run) (test : Item → Bool) (items : ItemsBy p.none 0 test ranked.start) where
       abbrev look : Look
       look = pass_look m test
 
       looks : (T : List ℕ) → drop m T ≡ drop m ranked.start → look_in q ahead behind T ≡ look (in_ranks m T)
-      looks T same = pass_look_lem m (omega arith) q ahead behind q_none three test T (items_stay 0 test T same items)
+      looks T same = pass_look_lem m (omega arith) q ahead behind q_none run_only test T (items_stay 0 test T same items)
 
       entries_pass : (run : ℕ → Bool) → ((d : ℕ) → (run d ≡ true) ↔ ((w : List Item) × RunOf L.sequences d w × (every test w ≡ true)))
           → (e : Entry) → pass_in m ranks e ≡ entry_passes test run e
@@ -311,7 +319,7 @@ module _ (image : List ℕ) (h : Head) (accepted : Accepts image h) (ms ps part 
     no_rank = omega (arith, asked.none, (counted image h accepted).sequences)
 
     stays_asks : Asks L (for_untouched q) (question_by (for_untouched q))
-    stays_asks = asks_by (for_untouched q) (omega arith) asked.fact asked.none
+    stays_asks = asks_by (for_untouched q) (λ e. cc) asked.fact asked.none
 
     stays_items : (r : Asked) (ahead behind before ranks : List ℕ) → length before ≡ ranks_length h q
         → (ranked : Ranked false (for_untouched q) r h.sequences ms ahead behind part ps before ranks)
@@ -403,9 +411,9 @@ module _ (image : List ℕ) (h : Head) (accepted : Accepts image h) (ms ps part 
       pub found_done : (ahead₀ behind₀ : List ℕ) → length ahead₀ ≡ ranks_length h q → length behind₀ ≡ ranks_length h q
           → EntriesMarked q h.sequences ms links₀ part ps ahead₀ behind₀ ahead behind → answer_in q ahead behind links part ps c ≡ answer L Q c q.fact
       found_done ahead₀ behind₀ a_long b_long marked =
-          elim (ℕ_discrete q.mark 2) [
-            | yes two ↦ untouched_done (ap mark_by two)
-            | no two ↦
-                link_done (touch_asked q.mark asked.mark two)
-                (described_by links₀ ahead₀ behind₀ ahead behind a_long b_long q.first refl (marked.ahead_marked two) (marked.behind_marked two))
+          elim (untouched_or q.mark) [
+            | yes same ↦ untouched_done (ap mark_by same)
+            | no other ↦
+                link_done (touch_asked q.mark asked.mark other)
+                (described_by links₀ ahead₀ behind₀ ahead behind a_long b_long q.first refl (marked.ahead_marked other) (marked.behind_marked other))
           ]

@@ -1,6 +1,6 @@
 -- Tables that describe a library, and the question that the code is asked: what must hold of them for the answer by words to be the
 -- library's.
-use Rattle.std.specs.Prelude.{ℕ, ◌+◌, ◌*◌, ◌≤◌, ◌<◌, ◌≡◌, Bool, true, false, cond, not, ◌≢◌, List, [], ◌∷◌, length, get_or, drop}
+use Rattle.std.specs.Prelude.{ℕ, ◌+◌, ◌*◌, ◌≤◌, ◌<◌, ◌≡◌, Bool, true, false, cond, not, ◌≢◌, List, length, get_or, drop}
 use Rattle.image.specs.Word.{most_facts}
 use Rattle.rules.specs.Checked.{Accepts}
 use Rattle.library.specs.Library.{Library, Entry, library_of, Item, step}
@@ -20,21 +20,23 @@ use Rattle.question.specs.Answer.{by_rank}
 use Rattle.question.specs.Reply.{Answered}
 use Rattle.chains.specs.Answer.{answer}
 use Rattle.question.specs.declared.asked.Asked.{Asked}
+use Rattle.question.specs.declared.asked.Mark as code
+use Rattle.question.specs.declared.asked.Mark.TheVariants.{Present, Absent, Untouched, Run}
 
 -- a side and a mark as the code has them
 abbrev pub is_first : Side → Bool
 is_first last = false
 is_first first = true
 
-abbrev pub mark_number : Mark → ℕ
-mark_number present = 0
-mark_number absent = 1
-mark_number untouched = 2
+abbrev pub mark_as : Mark → code.Mark
+mark_as present = Present
+mark_as absent = Absent
+mark_as untouched = Untouched
 
 -- the code is asked this question of the library
 pub record Asks (L : Library) (q : Asked) (Q : Question) : Type 0 where
   pub first : q.first ≡ is_first Q.side
-  pub mark : q.mark ≡ mark_number Q.mark
+  pub mark : q.mark ≡ mark_as Q.mark
   pub none : q.none ≡ unranked L
   pub fact : q.fact < L.facts
 
@@ -64,8 +66,11 @@ abbrev pub side_by : Bool → Side
 side_by false = last
 side_by true = first
 
-abbrev pub mark_by : ℕ → Mark
-mark_by m = get_or (present ∷ absent ∷ untouched ∷ []) m untouched
+abbrev pub mark_by : code.Mark → Mark
+mark_by Present = present
+mark_by Absent = absent
+mark_by Untouched = untouched
+mark_by Run = untouched
 
 abbrev pub question_by : Asked → Question
 question_by q = record { side = side_by q.first; mark = mark_by q.mark }
@@ -74,7 +79,7 @@ question_by q = record { side = side_by q.first; mark = mark_by q.mark }
 pub record FindAsked (h : Head) (image : List ℕ) (q : Asked) (c : ℕ) : Type 0 where
   pub accepted : Accepts image h
   pub sequence : c < h.sequences
-  pub mark : q.mark ≤ 2
+  pub mark : q.mark ≢ Run
   pub fact : q.fact < h.facts
   pub none : q.none ≡ h.sequences + 2
 
@@ -112,16 +117,16 @@ pub record Findable (q : Asked) (n : ℕ) (masks ahead behind links part places 
 
 -- the same question for "untouched", and where only a rank counts
 abbrev pub for_untouched : Asked → Asked
-for_untouched q = record { first = q.first; mark = 2; fact = q.fact; none = q.none }
+for_untouched q = record { first = q.first; mark = Untouched; fact = q.fact; none = q.none }
 
 abbrev pub for_run : Asked → Asked
-for_run q = record { first = q.first; mark = 3; fact = q.fact; none = q.none }
+for_run q = record { first = q.first; mark = Run; fact = q.fact; none = q.none }
 
 -- the tables of the entries ahead of the position and behind it, for a question that asks for a touch: which can stay untouched, and which
 -- have a run
 pub record EntriesMarked (q : Asked) (n : ℕ) (masks blank part places ahead₀ behind₀ ahead behind : List ℕ) : Type 0 where
-  pub ahead_marked : q.mark ≢ 2 → Ranked (not q.first) (for_untouched q) (for_run q) n masks blank blank part places ahead₀ ahead
-  pub behind_marked : q.mark ≢ 2 → Ranked q.first (for_untouched q) (for_run q) n masks blank blank part places behind₀ behind
+  pub ahead_marked : q.mark ≢ Untouched → Ranked (not q.first) (for_untouched q) (for_run q) n masks blank blank part places ahead₀ ahead
+  pub behind_marked : q.mark ≢ Untouched → Ranked q.first (for_untouched q) (for_run q) n masks blank blank part places behind₀ behind
 
 -- tables of ranks from those before, and the answer by them in the area
 pub record Found (q : Asked) (n c : ℕ) (masks part places ahead₀ behind₀ links₀ area : List ℕ) (rank : ℕ) (after : List ℕ) : Type 0 where

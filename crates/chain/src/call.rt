@@ -12,11 +12,8 @@ use image::answer::{Checked, Head};
 use image::word::{MOST_FACTS, MOST_SEQUENCES, MOST_STEPS};
 use library::parts::sequences_part;
 use link::write::write_chain;
-use question::answer::{Chained, answer_by_rank};
-use question::asked::{
-    Asked, NO_RANK_ABOVE, RUN_MARK, UNTOUCHED_MARK, fact_block, in_range, out_of_range,
-    read_question,
-};
+use question::answer::Chained;
+use question::asked::{Asked, Mark, NO_RANK_ABOVE, in_range};
 use rank::settle::settle;
 use reader::check::check;
 use slot::entry::write_item_ranks;
@@ -76,18 +73,14 @@ fn mark_entries(
     requires { Findable q n masks.now ahead.old behind.old blank.now part.now places.now callers.now order.now }
     ensures { EntriesMarked q n masks.now blank.now part.now places.now ahead.old behind.old ahead.new behind.new }
 {
-    if q.mark != UNTOUCHED_MARK {
+    if q.mark != Mark::Untouched {
         let untouched = Asked {
-            first: q.first,
-            mark: UNTOUCHED_MARK,
-            fact: q.fact,
-            none: q.none,
+            mark: Mark::Untouched,
+            ..q
         };
         let any_run = Asked {
-            first: q.first,
-            mark: RUN_MARK,
-            fact: q.fact,
-            none: q.none,
+            mark: Mark::Run,
+            ..q
         };
         rank(
             !q.first, untouched, any_run, masks, blank, blank, part, places, callers, order, ahead,
@@ -149,7 +142,7 @@ fn find_in(
     let n = h.sequences as usize;
     let words = q.none as usize + MOST_FACTS as usize + h.steps as usize;
     let part = sequences_part(image);
-    prepare_masks(h, image, fact_block(q), masks);
+    prepare_masks(h, image, q.fact_block(), masks);
     prepare(h, image, &mut places, callers, &mut order);
     find_by(
         q,
@@ -231,12 +224,12 @@ fn ask(h: Head, image: &[u32], sequence: u64, question: u64, fact: u64, area: &m
     requires { Accepts image.now h }
     ensures { ChainCalled image.now sequence question fact area.old result area.new }
 {
-    if in_range(h, sequence, question, fact) {
-        let q = read_question(h, question, fact);
-        let room = area.len();
-        return answer_by_rank(q, find(h, image, q, sequence as u32, area), room);
+    if let Err(r) = in_range(h, sequence, question, fact) {
+        return Chained::Refused(r);
     }
-    Chained::Refused(out_of_range(h, sequence, question))
+    let q = Asked::new(h, question, fact);
+    let room = area.len();
+    q.answer_by_rank(find(h, image, q, sequence as u32, area), room)
 }
 
 // The chain call: what it answers, and the words of the area after it, for every image, every number and every area.

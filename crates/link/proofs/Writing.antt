@@ -4,14 +4,13 @@
 -- Assumes nothing.
 use Prim.Native.Nat.{ℕ, zero, suc, pred, ◌+◌, ◌*◌, ◌^◌, ◌≤◌, ◌<◌}
 use native.Mathlib.Omega.{arith}
-use mathlib.Core.Logic.{◌≢◌}
 use mathlib.Core.Path.{◌≡◌, refl, sym, ap, ap₂, ◌∙◌, subst}
 use mathlib.Core.Bool.{Bool, true, false, cond, ◌&&◌}
 use mathlib.Core.List.{List, [], ◌∷◌, ◌++◌, append_assoc, append-nil}
 use lib.ListN.{length, get_or, set, drop, length-append, length-drop}
 use lib.Seq.{set_at, drop-cons}
-use lib.Dec.{eqb, leb, ltb}
-use borrow.Author.Tests.{eq-eqb, ne_eqb, lt-ltb, le-ltb, leb-true}
+use lib.Dec.{leb, ltb}
+use borrow.Author.Tests.{lt-ltb, le-ltb, leb-true}
 use Rattle.general.specs.Tests.{All}
 use Rattle.library.specs.Library.{step, Entry, item, entry_of, alternatives_from, entry_at}
 use Rattle.walk.specs.Walk.{alternatives_at}
@@ -19,11 +18,14 @@ use Rattle.question.specs.Answer.{link_length, link_count, by_rank, shown_links}
 use Rattle.chains.specs.Link.{Link, touch_link, choice_word, link_words, chain_words}
 use Rattle.slot.specs.Slots.{entry_number}
 use Rattle.slot.proofs.Slots.{entry_number_lem}
-use Rattle.link.specs.Choice.{link_in, alternative_in, Chosen, link_entry, link_at, links_in, untouched_in, untouched_words, answer_in}
+use Rattle.link.specs.Choice.{link_in, alternative_in, Chosen, link_entry, link_at, links_in, untouched_in, untouched_words, mark_chain, answer_in}
 use Rattle.link.specs.declared.link.Choice.{Choice}
 use Rattle.chains.specs.Answer.{Answer, none, shown}
 use Rattle.question.specs.Reply.{Answered}
+use Rattle.question.specs.Asked.{by_mark}
 use Rattle.question.specs.declared.answer.Chained.{Chained}
+use Rattle.question.specs.declared.asked.Mark.{Mark}
+use Rattle.question.specs.declared.asked.Mark.TheVariants.{Present, Absent, Untouched, Run}
 use Rattle.general.proofs.Scan.{get_d_inside}
 use Rattle.general.proofs.Tests.{all_default}
 use Rattle.library.proofs.Decode.{alternatives_all}
@@ -187,52 +189,62 @@ module _ (q : Asked) (ahead behind ranks part places : List ℕ) (c rank count :
   own_rank : get_or ranks c q.none ≡ rank
   own_rank = get_d_inside ranks c q.none 0 listed ∙ sym own
 
-  -- what is told and the answer, by whether the question asks for no touch
-  abbrev known : ℕ → Bool → Answer
-  known r b =
+  -- what is told and the answer, by the mark asked for
+  abbrev known : ℕ → Mark → Answer
+  known r m =
       cond (ltb r q.none)
-      (shown (cond b (untouched_in q.none ranks part places c ∷ []) (links_in q.none ahead behind ranks part places r c))) none
+      (shown (mark_chain m (untouched_in q.none ranks part places c ∷ []) (links_in q.none ahead behind ranks part places r c))) none
 
-  abbrev found : Bool → Chained
-  found b =
+  abbrev found : Mark → Chained
+  found m =
       cond (ltb rank q.none)
-      (cond (leb (link_length * cond b 1 rank) (length before)) (Chained.Shown (record { count = cond b 1 rank })) (Chained.Refused ChainArea)) Chained.None
+      (cond (leb (link_length * by_mark m 1 rank rank) (length before)) (Chained.Shown (record { count = by_mark m 1 rank rank })) (Chained.Refused ChainArea)) Chained.None
 
-  by_mark : (b : Bool) → eqb q.mark 2 ≡ b → Answered (known rank b) before (found b) after
+  by_mark_lem : (m : Mark) → q.mark ≡ m → Answered (known rank m) before (found m) after
       → Answered (answer_in q ahead behind ranks part places c) before (by_rank q rank (length before)) after
   unfolding answer_in
-  by_mark b mark answered =
+  by_mark_lem m mark answered =
       subst (λ (x : Chained). Answered (answer_in q ahead behind ranks part places c) before x after) (ap found (sym mark))
       (answered_same (sym (ap₂ known own_rank mark)) answered)
 
-  count_by : (b : Bool) → eqb q.mark 2 ≡ b → count ≡ cond (ltb rank q.none && leb (link_length * cond b 1 rank) (length before)) (cond b 1 rank) 0
-  count_by b mark = counted ∙ ap (λ (x : Bool). cond (ltb rank q.none && leb (link_length * cond x 1 rank) (length before)) (cond x 1 rank) 0) mark
+  count_by : (m : Mark) → q.mark ≡ m
+      → count ≡ cond (ltb rank q.none && leb (link_length * by_mark m 1 rank rank) (length before)) (by_mark m 1 rank rank) 0
+  count_by m mark =
+      counted ∙ ap (λ (x : Mark). cond (ltb rank q.none && leb (link_length * by_mark x 1 rank rank) (length before)) (by_mark x 1 rank rank) 0) mark
 
-  pub answered_untouched : q.mark ≡ 2 → after ≡ untouched_words q.none ranks part places count c before
+  pub answered_untouched : q.mark ≡ Untouched → after ≡ untouched_words q.none ranks part places count c before
       → Answered (answer_in q ahead behind ranks part places c) before (by_rank q rank (length before)) after
-  answered_untouched two words =
-      let mark = eq-eqb q.mark 2 two in
-      by_mark true mark
+  answered_untouched mark words =
+      by_mark_lem Untouched mark
       (by_rank_lem (untouched_in q.none ranks part places c ∷ []) before after 1 (ltb rank q.none) (leb 2 (length before)) refl refl
-      (words ∙ ap (λ (n : ℕ). untouched_words q.none ranks part places n c before) (count_by true mark) ∙ go (ltb rank q.none && leb 2 (length before))))
+      (words ∙ ap (λ (n : ℕ). untouched_words q.none ranks part places n c before) (count_by Untouched mark) ∙ go (ltb rank q.none && leb 2 (length before))))
     where
       go : (b : Bool) → untouched_words q.none ranks part places (cond b 1 0) c before
           ≡ cond b (chain_words (untouched_in q.none ranks part places c ∷ []) ++ drop 2 before) before
       go true = refl
       go false = refl
 
-  pub answered_links : q.mark ≢ 2 → after ≡ chain_words (links_in q.none ahead behind ranks part places count c) ++ drop (link_length * count) before
+  pub answered_links : (q.mark ≡ Untouched → ⊥) → after ≡ chain_words (links_in q.none ahead behind ranks part places count c) ++ drop (link_length * count) before
       → Answered (answer_in q ahead behind ranks part places c) before (by_rank q rank (length before)) after
   unfolding links_in chain_words
-  answered_links other words =
-      let mark = ne_eqb q.mark 2 other in
-      by_mark false mark
-      (by_rank_lem (links_in q.none ahead behind ranks part places rank c) before after rank (ltb rank q.none) (leb (link_length * rank) (length before))
-      (links_count q.none ahead behind ranks part places rank c) refl
-      (words ∙ ap (λ (n : ℕ). chain_words (links_in q.none ahead behind ranks part places n c) ++ drop (link_length * n) before) (count_by false mark)
-      ∙ go (ltb rank q.none && leb (link_length * rank) (length before))))
+  answered_links other words = by q.mark refl
     where
       go : (b : Bool) → chain_words (links_in q.none ahead behind ranks part places (cond b rank 0) c) ++ drop (link_length * cond b rank 0) before
           ≡ cond b (chain_words (links_in q.none ahead behind ranks part places rank c) ++ drop (link_length * rank) before) before
       go true = refl
       go false = refl
+
+      answered : count ≡ cond (ltb rank q.none && leb (link_length * rank) (length before)) rank 0
+          → Answered (cond (ltb rank q.none) (shown (links_in q.none ahead behind ranks part places rank c)) none) before
+          (cond (ltb rank q.none) (cond (leb (link_length * rank) (length before)) (Chained.Shown (record { count = rank })) (Chained.Refused ChainArea)) Chained.None) after
+      answered many =
+          by_rank_lem (links_in q.none ahead behind ranks part places rank c) before after rank (ltb rank q.none) (leb (link_length * rank) (length before))
+          (links_count q.none ahead behind ranks part places rank c) refl
+          (words ∙ ap (λ (n : ℕ). chain_words (links_in q.none ahead behind ranks part places n c) ++ drop (link_length * n) before) many
+          ∙ go (ltb rank q.none && leb (link_length * rank) (length before)))
+
+      by : (m : Mark) → q.mark ≡ m → Answered (answer_in q ahead behind ranks part places c) before (by_rank q rank (length before)) after
+      by Untouched mark = absurd (other mark)
+      by Present mark = by_mark_lem Present mark (answered (count_by Present mark))
+      by Absent mark = by_mark_lem Absent mark (answered (count_by Absent mark))
+      by Run mark = by_mark_lem Run mark (answered (count_by Run mark))

@@ -1,11 +1,13 @@
 -- What the choice of a link promises, by tables of words.
 use Prim.Native.Nat.{ℕ, zero, suc, pred, ◌≤◌, ◌<◌}
-use Rattle.std.specs.Prelude.{◌≡◌, cond, length, get_or, drop, eqb, leb, ltb}
+use Rattle.std.specs.Prelude.{◌≡◌, cond, length, get_or, drop, leb, ltb}
 use mathlib.Core.List.{List, [], ◌∷◌, ◌++◌}
 use Rattle.library.specs.Library.{Alternative, alternatives_from, entry_at}
 use Rattle.walk.specs.Walk.{alternatives_at}
 use Rattle.chains.specs.Link.{Link, touch_link, untouched_link, Chain, chain_words}
+use Rattle.question.specs.Asked.{by_mark}
 use Rattle.question.specs.declared.asked.Asked.{Asked}
+use Rattle.question.specs.declared.asked.Mark.{Mark}
 use Rattle.rank.specs.Walk.{newest_link}
 use Rattle.slot.specs.Slots.{entry_number, rank_in, pass_in}
 use Rattle.rank.specs.Tables.{depth_in, RanksReadable}
@@ -66,10 +68,14 @@ module _ (none : ℕ) (ranks part places : List ℕ) where
   abbrev pub untouched_words : ℕ → ℕ → List ℕ → List ℕ
   untouched_words count c area = cond (ltb 0 count) (chain_words (untouched_in c ∷ []) ++ drop 2 area) area
 
+-- one link where the question asks for no touch, otherwise a link for each call
+abbrev pub mark_chain : Mark → Chain → Chain → Chain
+mark_chain mark untouched links = by_mark mark untouched links links
+
 -- the answer of sequence c by its rank
 unfoldable pub answer_in : Asked → List ℕ → List ℕ → List ℕ → List ℕ → List ℕ → ℕ → Answer
 unfolding links_in untouched_in
 answer_in q ahead behind ranks part places c =
     cond (ltb (get_or ranks c q.none) q.none)
-    (shown (cond (eqb q.mark 2) (untouched_in q.none ranks part places c ∷ []) (links_in q.none ahead behind ranks part places (get_or ranks c q.none) c)))
+    (shown (mark_chain q.mark (untouched_in q.none ranks part places c ∷ []) (links_in q.none ahead behind ranks part places (get_or ranks c q.none) c)))
     known.none

@@ -7,8 +7,7 @@ ghost use Rattle.link.specs.Choice.{Opened, Choosable, links_in, untouched_words
 ghost use Rattle.question.specs.Reply.{Answered};
 
 use crate::link::{chosen_alternative, chosen_link};
-use question::answer::shown_links;
-use question::asked::{Asked, UNTOUCHED_MARK};
+use question::asked::{Asked, Mark};
 use question::words::{LINK_WORDS, POSITION_WORD, UNTOUCHED_WORD, put_link};
 
 // The index of the word after the opener of sequence `c`.
@@ -93,11 +92,10 @@ pub fn write_chain(
     ensures { Answered (answer_in q ahead.now behind.now ranks.now part.now places.now c) area.old (by_rank q result (length area.old)) area.new }
 {
     let rank = ranks[c as usize];
-    let count = shown_links(q, rank, area.len());
-    if q.mark == UNTOUCHED_MARK {
-        write_untouched(q.none, ranks, part, places, area, count, c);
-    } else {
-        write_links(q.none, ahead, behind, ranks, part, places, area, count, c);
+    let count = q.shown_links(rank, area.len());
+    match q.mark {
+        Mark::Untouched => write_untouched(q.none, ranks, part, places, area, count, c),
+        _ => write_links(q.none, ahead, behind, ranks, part, places, area, count, c),
     }
     rank
 }

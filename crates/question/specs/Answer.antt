@@ -1,7 +1,8 @@
 -- The chain call's answer as the enum that the code has, by the rank of the sequence asked about, and the number that the C side gets.
-use Rattle.std.specs.Prelude.{ℕ, ◌*◌, cond, ◌&&◌, eqb, leb, ltb}
+use Rattle.std.specs.Prelude.{ℕ, ◌*◌, cond, ◌&&◌, leb, ltb}
 use Rattle.image.specs.Answer.{refusal_answer}
 use Rattle.image.specs.declared.answer.Refusal.TheVariants.{ChainArea}
+use Rattle.question.specs.Asked.{by_mark}
 use Rattle.question.specs.declared.answer.Chained.{Chained}
 use Rattle.question.specs.declared.asked.Asked.{Asked}
 
@@ -14,7 +15,7 @@ chain_answer (Chained.Refused r) = refusal_answer r
 
 -- "Questions 2 and 5: one link", and otherwise as many as the rank
 abbrev pub link_count : Asked → ℕ → ℕ
-link_count q rank = cond (eqb q.mark 2) 1 rank
+link_count q rank = by_mark q.mark 1 rank rank
 
 -- how many words a link has in the area
 abbrev pub link_length : ℕ

@@ -2,7 +2,7 @@
 ghost use Rattle.std.specs.Prelude.{◌≡◌};
 ghost use Rattle.question.specs.Answer.{chain_answer, link_count, in_room, by_rank, shown_links};
 
-use crate::asked::{Asked, UNTOUCHED_MARK};
+use crate::asked::{Asked, Mark};
 use crate::words::LINK_WORDS;
 use image::answer::{Refusal, refusal_answer};
 
@@ -32,16 +32,6 @@ pub fn chain_answer(found: Chained) -> u64
     }
 }
 
-// How many links answer the question about a sequence with this rank.
-fn link_count(q: Asked, rank: u32) -> u32
-    ensures { result ≡ link_count q rank }
-{
-    if q.mark == UNTOUCHED_MARK {
-        return 1;
-    }
-    rank
-}
-
 // The reply about a chain with so many links, in an area of so many words.
 fn in_room(room: usize, count: u32) -> Chained
     ensures { result ≡ in_room room count }
@@ -49,26 +39,37 @@ fn in_room(room: usize, count: u32) -> Chained
     if room < LINK_WORDS * count as usize {
         return Chained::Refused(Refusal::ChainArea);
     }
-    Chained::Shown(Links { count: count })
+    Chained::Shown(Links { count })
 }
 
-// The reply about a sequence with this rank, in an area of so many words.
-pub fn answer_by_rank(q: Asked, rank: u32, room: usize) -> Chained
-    ensures { result ≡ by_rank q rank room }
-{
-    if q.none <= rank {
-        return Chained::None;
+impl Asked {
+    // How many links answer the question about a sequence with this rank.
+    fn link_count(self, rank: u32) -> u32
+        ensures { result ≡ link_count self rank }
+    {
+        match self.mark {
+            Mark::Untouched => 1,
+            _ => rank,
+        }
     }
-    in_room(room, link_count(q, rank))
-}
 
-// How many links are written there: none where the reply is another.
-pub fn shown_links(q: Asked, rank: u32, room: usize) -> u32
-    ensures { result ≡ shown_links q rank room }
-{
-    let count = link_count(q, rank);
-    if (rank < q.none) & (LINK_WORDS * count as usize <= room) {
-        return count;
+    // The reply about a sequence with this rank, in an area of so many words.
+    pub fn answer_by_rank(self, rank: u32, room: usize) -> Chained
+        ensures { result ≡ by_rank self rank room }
+    {
+        if self.none <= rank {
+            return Chained::None;
+        }
+        in_room(room, self.link_count(rank))
     }
-    0
+
+    // How many links are written there: none where the reply is another.
+    pub fn shown_links(self, rank: u32, room: usize) -> u32
+        ensures { result ≡ shown_links self rank room }
+    {
+        match self.answer_by_rank(rank, room) {
+            Chained::Shown(links) => links.count,
+            _ => 0,
+        }
+    }
 }

@@ -6,7 +6,7 @@ use native.Mathlib.Decide.{ℕ_discrete}
 use mathlib.Core.Path.{◌≡◌, refl, sym, ap, ap₂, ◌∙◌, subst}
 use mathlib.Core.Bool.{Bool, true, false, cond, ◌&&◌, false≢true}
 use mathlib.Core.List.{List, [], ◌∷◌}
-use lib.Dec.{eqb, ltb}
+use lib.Dec.{ltb}
 use lib.ListN.{length, get_or, set, take}
 use lib.Seq.{set-get_or, take-set-lt, drop-set-lt, get_or-set_same, get_or-set_other}
 use Rattle.library.specs.Library.{Entry, Alternative}
@@ -19,7 +19,8 @@ use Rattle.settling.proofs.Stale.{Local}
 use Rattle.question.specs.declared.asked.Asked.{Asked}
 use Rattle.rank.specs.Walk.{lowered_from, depth_from, fewest_from}
 use Rattle.slot.specs.Slots.{item_rank, rank_in, pass_in}
-use Rattle.rank.specs.Tables.{look_in, visited_rank, visited_ranks}
+use Rattle.question.specs.Asked.{by_mark}
+use Rattle.rank.specs.Tables.{depth_in, every_in, fewest_in, look_in, visited_rank, visited_ranks}
 
 -- ---- what is made of entries depends on what is said of each
 
@@ -87,9 +88,11 @@ module _ (q : Asked) (ahead behind T U : List ℕ) where
   look_local : (es : List Entry) → All Same es → look_in q ahead behind T es ≡ look_in q ahead behind U es
   look_local es a =
       let none = q.none in
-      ap₂ (λ (x y : ℕ). cond (eqb q.mark 2) x y) (depth_same none (rank_in none 0 T) (rank_in none 0 U) 0 es (ranks_same 0 es a))
-      (ap₂ (λ (x y : ℕ). cond (eqb q.mark 3) x y) (ap (λ (b : Bool). cond b 0 none) (every_same (pass_in none T) (pass_in none U) es (pass_same es a)))
-      (fewest_same none (rank_in none none T) (rank_in none none U) (pass_in none ahead) (pass_in none behind) 0 none es (ranks_same none es a)))
+      let depth = depth_same none (rank_in none 0 T) (rank_in none 0 U) 0 es (ranks_same 0 es a) in
+      let run = ap (λ (b : Bool). cond b 0 none) (every_same (pass_in none T) (pass_in none U) es (pass_same es a)) in
+      ap₂ (λ (x y : ℕ). by_mark q.mark x y (fewest_in none ahead behind T es)) depth run
+      ∙ ap (by_mark q.mark (depth_in none U es) (every_in none U es))
+      (fewest_same none (rank_in none none T) (rank_in none none U) (pass_in none ahead) (pass_in none behind) 0 none es (ranks_same none es a))
 
   looks_local : (alts : List Alternative) → All (All Same) alts → All (λ es. look_in q ahead behind T es ≡ look_in q ahead behind U es) alts
   looks_local [] a = tt

@@ -8,8 +8,8 @@ use mathlib.Core.Logic.{⊎_elim}
 use mathlib.Core.Bool.{Bool, true, false, cond, not, ◌&&◌, ◌||◌, false≢true}
 use mathlib.Core.List.{List, [], ◌∷◌}
 use lib.ListN.{length, get_or, drop}
-use lib.Dec.{eqb, leb, ltb}
-use borrow.Author.Tests.{eq-eqb, ne_eqb, leb-true, ltb-false, not-true}
+use lib.Dec.{leb, ltb}
+use borrow.Author.Tests.{leb-true, ltb-false, not-true}
 use Rattle.image.specs.Word.{is_kind, is_entry}
 use Rattle.library.specs.Library.{Entry, entry_of, Alternative, entries_from, alternatives_from}
 use Rattle.general.specs.Scan.{every}
@@ -123,42 +123,6 @@ module _ {none : ℕ} {ahead behind ranks part : List ℕ} {whole at : ℕ} {x :
                 (more.1 ∙ ap (λ (t : Traits). cond t.ahead x.floor none) (found.traits stands))
                 (more.0 ∙ ap (λ (t : Traits). min (cond t.behind x.best none) (max t.rank x.floor)) (found.traits stands))));
           }
-
--- what it comes to, and where the walk ends, by the mark asked for
-module _ (q : Asked) (ahead behind ranks part : List ℕ) (at : ℕ) (r : Read) where
-  -- the looks and the dead entries of the three walks
-  abbrev by : {A : Type 0} → A → A → A → Bool → Bool → A
-  by depth run links b d = cond b depth (cond d run links)
-
-  look_same : (worth : Alternative → ℕ) (dead : Entry → Bool) → ((es : Alternative) → look_in q ahead behind ranks es ≡ worth es)
-      → ((e : Entry) → dead_in q ahead behind ranks e ≡ dead e) → AlternativeRanked worth dead part at r
-      → AlternativeRanked (look_in q ahead behind ranks) (dead_in q ahead behind ranks) part at r
-  look_same worth dead same ends read =
-      record {
-        value = read.value ∙ sym (same (entries_from (drop at part)));
-        ended = read.ended ∙ ap (λ (test : Entry → Bool). walk_end test part at) (sym (fun_ext ends));
-      }
-
-  -- by what the mark is found to be
-  look_by_lem : (b d : Bool) → eqb q.mark 2 ≡ b → eqb q.mark 3 ≡ d
-      → AlternativeRanked (λ es. by (depth_in q.none ranks es) (every_in q.none ranks es) (fewest_in q.none ahead behind ranks es) b d)
-      (λ e. by (lacks_in q.none ranks e) (lacks_in q.none ranks e) (lost_in q.none ahead behind ranks e) b d) part at r
-      → AlternativeRanked (look_in q ahead behind ranks) (dead_in q ahead behind ranks) part at r
-  look_by_lem b d two three =
-      look_same _ _ (λ es. ap₂ (by (depth_in q.none ranks es) (every_in q.none ranks es) (fewest_in q.none ahead behind ranks es)) two three)
-      (λ e. ap₂ (by (lacks_in q.none ranks e) (lacks_in q.none ranks e) (lost_in q.none ahead behind ranks e)) two three)
-
-  pub look_depth : q.mark ≡ 2 → AlternativeRanked (depth_in q.none ranks) (lacks_in q.none ranks) part at r
-      → AlternativeRanked (look_in q ahead behind ranks) (dead_in q ahead behind ranks) part at r
-  look_depth e = look_by_lem true (eqb q.mark 3) (eq-eqb q.mark 2 e) refl
-
-  pub look_every : (q.mark ≡ 2 → ⊥) → q.mark ≡ 3 → AlternativeRanked (every_in q.none ranks) (lacks_in q.none ranks) part at r
-      → AlternativeRanked (look_in q ahead behind ranks) (dead_in q ahead behind ranks) part at r
-  look_every e d = look_by_lem false true (ne_eqb q.mark 2 e) (eq-eqb q.mark 3 d)
-
-  pub look_links : (q.mark ≡ 2 → ⊥) → (q.mark ≡ 3 → ⊥) → AlternativeRanked (fewest_in q.none ahead behind ranks) (lost_in q.none ahead behind ranks) part at r
-      → AlternativeRanked (look_in q ahead behind ranks) (dead_in q ahead behind ranks) part at r
-  look_links e d = look_by_lem false false (ne_eqb q.mark 2 e) (ne_eqb q.mark 3 d)
 
 -- ---- the alternatives of a sequence
 

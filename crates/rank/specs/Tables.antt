@@ -1,7 +1,7 @@
 -- What tables of ranks say of the alternatives of a sequence, for the question that is asked: which entries are dead, what an alternative
 -- comes to, and the ranks after a visit. What they say of an entry stands in crate `slot`. Crate `chain` (proofs/Describes) shows that the
 -- tables of an accepted image say what `Ranks` says of its library.
-use Rattle.std.specs.Prelude.{ℕ, ◌≤◌, ◌<◌, ◌≡◌, Bool, true, cond, not, ◌||◌, List, length, get_or, set, drop, eqb, ltb}
+use Rattle.std.specs.Prelude.{ℕ, ◌≤◌, ◌<◌, ◌≡◌, Bool, true, cond, not, ◌||◌, List, length, get_or, set, drop, ltb}
 use Rattle.image.specs.Word.{is_entry}
 use Rattle.library.specs.Library.{Alternative, Entry, entry_of, entries_from}
 use Rattle.walk.specs.Walk.{walk_end, alternatives_at}
@@ -9,6 +9,7 @@ use Rattle.settling.specs.Settling.{Settles}
 use Rattle.general.specs.Scan.{every}
 use Rattle.slot.specs.Slots.{rank_in, pass_in, traits_in, RankWithin, ItemsRanked}
 use Rattle.rank.specs.Walk.{lowered_from, depth_from, fewest_from}
+use Rattle.question.specs.Asked.{by_mark}
 use Rattle.question.specs.declared.asked.Asked.{Asked}
 use Rattle.rank.specs.declared.read.Found.{Found}
 use Rattle.rank.specs.declared.read.Positions.{Positions}
@@ -27,10 +28,10 @@ lost_in none ahead behind ranks e = not ((pass_in none ahead e || pass_in none b
 
 abbrev pub dead_in : Asked → List ℕ → List ℕ → List ℕ → Entry → Bool
 dead_in q ahead behind ranks e =
-    cond (eqb q.mark 2) (lacks_in q.none ranks e) (cond (eqb q.mark 3) (lacks_in q.none ranks e) (lost_in q.none ahead behind ranks e))
+    by_mark q.mark (lacks_in q.none ranks e) (lacks_in q.none ranks e) (lost_in q.none ahead behind ranks e)
 
--- what an alternative comes to: its greatest depth where no touch is asked for (mark 2), 0 where all its entries have a rank if only that is
--- asked (mark 3), otherwise the fewest links after this one
+-- what an alternative comes to: its greatest depth where no touch is asked for, 0 where all its entries have a rank if only that is asked,
+-- otherwise the fewest links after this one
 abbrev pub depth_in : ℕ → List ℕ → Alternative → ℕ
 depth_in none ranks es = depth_from none (rank_in none 0 ranks) 0 es
 
@@ -47,8 +48,7 @@ fewest_in none ahead behind ranks es = fewest_after none ahead behind ranks (rec
 
 abbrev pub look_in : Asked → List ℕ → List ℕ → List ℕ → Alternative → ℕ
 look_in q ahead behind ranks es =
-    cond (eqb q.mark 2) (depth_in q.none ranks es)
-    (cond (eqb q.mark 3) (every_in q.none ranks es) (fewest_in q.none ahead behind ranks es))
+    by_mark q.mark (depth_in q.none ranks es) (every_in q.none ranks es) (fewest_in q.none ahead behind ranks es)
 
 -- each of the words is one of the sequences' part, which has a rank in a table if it is an entry
 pub record Rankable (none : ℕ) (T part : List ℕ) : Type 0 where

@@ -5,7 +5,7 @@ ghost use Rattle.rank.specs.Walk.{lowered_from};
 ghost use Rattle.rank.specs.Tables.{depth_in, every_in, fewest_after, fewest_in, look_in, lacks_in, lost_in, dead_in, RanksReadable, Rankable, TraitsFound, AlternativeRanked};
 
 use image::word::{KIND_ALTERNATIVE, is_kind};
-use question::asked::{Asked, RUN_MARK, UNTOUCHED_MARK};
+use question::asked::{Asked, Mark};
 use slot::entry::{Traits, choose, passes, rank_of, traits_of};
 use walk::sequence::{part_entry, word_at};
 
@@ -220,16 +220,12 @@ pub fn read_alternative(
     requires { RanksReadable q.none ahead.now behind.now ranks.now part.now × (at ≤ length part.now) }
     ensures { AlternativeRanked (look_in q ahead.now behind.now ranks.now) (dead_in q ahead.now behind.now ranks.now) part.now at result }
 {
-    if q.mark == UNTOUCHED_MARK {
-        return greatest_depth(q.none, ranks, part, at);
+    match q.mark {
+        Mark::Untouched => greatest_depth(q.none, ranks, part, at),
+        Mark::Run => all_ranked(q.none, ranks, part, at),
+        _ if q.first => fewest_links(true, q.none, ahead, behind, ranks, part, at),
+        _ => fewest_links(false, q.none, ahead, behind, ranks, part, at),
     }
-    if q.mark == RUN_MARK {
-        return all_ranked(q.none, ranks, part, at);
-    }
-    if q.first {
-        return fewest_links(true, q.none, ahead, behind, ranks, part, at);
-    }
-    fewest_links(false, q.none, ahead, behind, ranks, part, at)
 }
 
 // A rank lowered by an alternative: a sequence is one above the least of its alternatives.

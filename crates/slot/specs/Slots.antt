@@ -7,8 +7,10 @@ use Rattle.image.specs.Word.{most_facts, kind, payload, is_kind}
 use Rattle.library.specs.Library.{Item, step, check, Entry, item, call}
 use Rattle.library.specs.Accepted.{HighEntry}
 use Rattle.chains.specs.Ranks.{Ranks}
-use Rattle.question.specs.Asked.{fact_bit}
+use Rattle.question.specs.Asked.{fact_bit, same_mark}
 use Rattle.question.specs.declared.asked.Asked.{Asked}
+use Rattle.question.specs.declared.asked.Mark.{Mark}
+use Rattle.question.specs.declared.asked.Mark.TheVariants.{Present, Absent, Untouched}
 use Rattle.slot.specs.declared.entry.Traits.{Traits}
 
 -- the number that an entry names
@@ -58,24 +60,24 @@ pub record RankWithin (none : ℕ) (T : List ℕ) (w : ℕ) : Type 0 where
 
 -- ---- the ranks of the items
 
--- the mark that two columns give the fact that has bit b in them, as a number: 0 by the first, otherwise 1 by the second, otherwise 2 for untouched
-abbrev pub mark_of : ℕ → ℕ → ℕ → ℕ
-mark_of b one other = cond (in_column one b) 0 (cond (in_column other b) 1 2)
+-- the mark that two columns give the fact that has bit b in them
+abbrev pub mark_of : ℕ → ℕ → ℕ → Mark
+mark_of b one other = cond (in_column one b) Present (cond (in_column other b) Absent Untouched)
 
 -- what a step needs and sets decides on the first side, what it sets and clears on the last; the masks are of the block of the fact asked about
-abbrev pub step_mark : Asked → List ℕ → ℕ → ℕ
+abbrev pub step_mark : Asked → List ℕ → ℕ → Mark
 step_mark q masks a =
     cond q.first (mark_of (fact_bit q) (get_or masks (3 * a) 0) (get_or masks (3 * a + 1) 0))
     (mark_of (fact_bit q) (get_or masks (3 * a + 1) 0) (get_or masks (3 * a + 2) 0))
 
 -- "On the first side a check counts as a need": a check of fact f touches that fact there; otherwise it leaves the fact asked about untouched
-abbrev pub check_mark : Asked → ℕ → ℕ
-check_mark q f = cond (q.first && eqb f q.fact) 0 2
+abbrev pub check_mark : Asked → ℕ → Mark
+check_mark q f = cond (q.first && eqb f q.fact) Present Untouched
 
 -- the rank of an item with a mark: 0 where it is the mark asked for, or any will do. So "a chain may end on" a check, and a check "has depth 0",
 -- as a step has
-abbrev pub mark_rank : Bool → Asked → ℕ → ℕ
-mark_rank all q mark = cond (all || eqb mark q.mark) 0 q.none
+abbrev pub mark_rank : Bool → Asked → Mark → ℕ
+mark_rank all q mark = cond (all || same_mark mark q.mark) 0 q.none
 
 abbrev pub check_rank : Bool → Asked → ℕ → ℕ
 check_rank all q f = mark_rank all q (check_mark q f)

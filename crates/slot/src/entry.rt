@@ -8,7 +8,7 @@ ghost use Rattle.slot.specs.Slots.{first_step, slot_of, rank_in, pass_in, traits
 use column::sets::holds;
 use image::word::{KIND_CHECK, KIND_STEP_ENTRY, MOST_FACTS, PAYLOADS, payload_of};
 use library::tables::MASK_WORDS;
-use question::asked::{ABSENT_MARK, Asked, PRESENT_MARK, UNTOUCHED_MARK, fact_bit};
+use question::asked::{Asked, Mark};
 use walk::sequence::selected_index;
 
 // An entry's rank, and whether it passes as one ahead of the position and as one behind it.
@@ -19,8 +19,8 @@ pub struct Traits {
     pub behind: bool,
 }
 
-// The number where the test holds, otherwise the other one.
-pub fn choose(test: bool, x: u32, other: u32) -> u32
+// The value where the test holds, otherwise the other one.
+pub fn choose<T: Copy>(test: bool, x: T, other: T) -> T
     ensures { result ≡ cond test x other }
 {
     if test {
@@ -30,43 +30,31 @@ pub fn choose(test: bool, x: u32, other: u32) -> u32
 }
 
 // The mark that two columns give the fact that has bit `b` in them.
-fn mark_of(b: u32, one: u64, other: u64) -> u32
+fn mark_of(b: u32, one: u64, other: u64) -> Mark
     requires { b < 64 }
     ensures { result ≡ mark_of b one other }
 {
     choose(
         holds(one, b),
-        PRESENT_MARK,
-        choose(holds(other, b), ABSENT_MARK, UNTOUCHED_MARK),
+        Mark::Present,
+        choose(holds(other, b), Mark::Absent, Mark::Untouched),
     )
 }
 
 // The mark of step `a` on the question's side, by the masks of the block of the fact asked about.
-fn step_mark(q: Asked, masks: &[u64], a: usize) -> u32
+fn step_mark(q: Asked, masks: &[u64], a: usize) -> Mark
     requires { mask_words * a + mask_words ≤ length masks.now }
     ensures { result ≡ step_mark q masks.now a }
 {
-    let at = MASK_WORDS * a + choose(q.first, 0, 1) as usize;
-    mark_of(fact_bit(q), masks[at], masks[at + 1])
+    let at = MASK_WORDS * a + choose(q.first, 0, 1);
+    mark_of(q.fact_bit(), masks[at], masks[at + 1])
 }
 
 // The rank of an item by its mark: 0 where it is the mark asked for, or where any will do.
-fn mark_rank(all: bool, q: Asked, mark: u32) -> u32
+fn mark_rank(all: bool, q: Asked, mark: Mark) -> u32
     ensures { result ≡ mark_rank all q mark }
 {
     choose(all | (mark == q.mark), 0, q.none)
-}
-
-// Writes one rank into so many words of a table, from index `from` on.
-fn fill(ranks: &mut [u32], from: usize, count: usize, rank: u32)
-    requires { from + count ≤ length ranks.old }
-    ensures { Written from (from + count) (λ _. rank) ranks.old ranks.new }
-{
-    let mut j = 0;
-    while j < count {
-        ranks[from + j] = rank;
-        j += 1;
-    }
 }
 
 // Writes the ranks of the checks into a table: those of all facts that there may be stand from word `none` on. They are alike but for that of
@@ -76,16 +64,11 @@ fn write_check_ranks(all: bool, q: Asked, ranks: &mut [u32])
     ensures { Written q.none (first_step q.none) (check_rank all q) ranks.old ranks.new }
 {
     let base = q.none as usize;
-    fill(
-        ranks,
-        base,
-        MOST_FACTS as usize,
-        mark_rank(all, q, UNTOUCHED_MARK),
-    );
+    ranks[base..base + MOST_FACTS as usize].fill(mark_rank(all, q, Mark::Untouched));
     ranks[base + q.fact as usize] = mark_rank(
         all,
         q,
-        choose(q.first, PRESENT_MARK, UNTOUCHED_MARK),
+        choose(q.first, Mark::Present, Mark::Untouched),
     );
 }
 
@@ -95,10 +78,8 @@ fn write_step_ranks(all: bool, q: Asked, masks: &[u64], ranks: &mut [u32])
     ensures { Written (first_step q.none) (length ranks.old) (step_rank all q masks.now) ranks.old ranks.new }
 {
     let base = q.none as usize + MOST_FACTS as usize;
-    let mut a = 0;
-    while base + a < ranks.len() {
-        ranks[base + a] = mark_rank(all, q, step_mark(q, masks, a));
-        a += 1;
+    for (a, rank) in ranks[base..].iter_mut().enumerate() {
+        *rank = mark_rank(all, q, step_mark(q, masks, a));
     }
 }
 
@@ -107,7 +88,7 @@ pub fn write_item_ranks(all: bool, q: Asked, masks: &[u64], ranks: &mut [u32])
     requires { ItemsRankable q masks.now ranks.old }
     ensures { ItemsRanked all q masks.now ranks.old ranks.new }
 {
-    fill(ranks, 0, q.none as usize, q.none);
+    ranks[..q.none as usize].fill(q.none);
     write_check_ranks(all, q, ranks);
     write_step_ranks(all, q, masks, ranks);
 }
