@@ -6,8 +6,7 @@ use Rattle.column.specs.Words.{all_in}
 use Rattle.cards.specs.Layout.{CardColumn, column_words, card_words, first_word, may_need, may_set, may_clear}
 use Rattle.cards.specs.Layout.{may_first_set, may_first_untouched, may_last_untouched, may_end_cleared, may_end_unmentioned}
 use Rattle.cards.specs.Area.{part_word}
-use Rattle.row.specs.Words.{join_rows, start_row, all_bits, words_of}
-use Rattle.row.specs.declared.words.Marks.{Marks}
+use Rattle.row.specs.Words.{join_rows, start_row, all_bits, kept_marks, words_of}
 use Rattle.row.specs.declared.words.Row.{Row}
 use Rattle.writer.specs.Card.{flags_of, row_numbers}
 use Rattle.writer.specs.Block.{with_block}
@@ -64,9 +63,6 @@ abbrev pub list_row : List ℕ → ℕ → List ℕ → Row
 list_row area k ms = folded_from area k (start_row all_bits) ms
 
 -- the row of the facts in `all`, for each of which a run exists
-abbrev pub kept_marks : Marks → ℕ → Marks
-kept_marks x all = record { present = bit_and x.present all; absent = bit_and x.absent all; untouched = bit_and x.untouched all }
-
 abbrev pub kept_row : Row → ℕ → Row
 kept_row x all =
     record {

@@ -5,10 +5,10 @@ ghost use Rattle.cards.specs.Layout.{card_numbers, column_words, card_words};
 ghost use Rattle.cards.specs.Area.{part_word};
 ghost use Rattle.cards.specs.Composed.{list_card};
 ghost use Rattle.writer.specs.Block.{with_block};
-ghost use Rattle.list.specs.Fold.{MembersIn, member_row, followed_row, list_row, kept_marks, kept_row, row_written, is_due, row_added};
+ghost use Rattle.list.specs.Fold.{MembersIn, member_row, followed_row, list_row, kept_row, row_written, is_due, row_added};
 
 use column::{BLOCK_FACTS, all_in};
-use row::words::{ALL_BITS, Marks, ROW_WORDS, Row, joined, start};
+use row::words::{ALL_BITS, Marks, ROW_WORDS, Row};
 use rows::table::put_row;
 use writer::block::{CARD_WORDS, COLUMN_WORDS, clear, put_block};
 use writer::card::{
@@ -61,17 +61,9 @@ fn member_row(cards: &[u64], block: u32, m: u32) -> Row
 fn followed(x: Row, y: Row) -> Row
     ensures { result ≡ followed_row x y }
 {
-    let run = x.run & y.run;
-    let both = joined(x, y);
-    let last = both.last;
-    let first = both.first;
     Row {
-        run: run,
-        empty: both.empty,
-        last: last,
-        first: first,
-        cleared: both.cleared,
-        unmentioned: both.unmentioned,
+        run: x.run & y.run,
+        ..x.joined(y)
     }
 }
 
@@ -80,7 +72,7 @@ fn folded(cards: &[u64], block: u32, list: &[u32]) -> Row
     requires { MembersIn cards.now list.now × (block < column_words) }
     ensures { result ≡ list_row cards.now block list.now }
 {
-    let mut x = start(ALL_BITS);
+    let mut x = Row::start(ALL_BITS);
     let mut i = 0;
     while i < list.len() {
         x = followed(x, member_row(cards, block, list[i]));
@@ -89,28 +81,15 @@ fn folded(cards: &[u64], block: u32, list: &[u32]) -> Row
     x
 }
 
-// The marks of the facts in `all`.
-fn kept_marks(x: Marks, all: u64) -> Marks
-    ensures { result ≡ kept_marks x all }
-{
-    Marks {
-        present: x.present & all,
-        absent: x.absent & all,
-        untouched: x.untouched & all,
-    }
-}
-
 // The row of the facts in `all`. A run exists for each of them.
 fn kept_row(x: Row, all: u64) -> Row
     ensures { result ≡ kept_row x all }
 {
-    let last = x.last;
-    let first = x.first;
     Row {
         run: all,
         empty: x.empty,
-        last: kept_marks(last, all),
-        first: kept_marks(first, all),
+        last: x.last.kept(all),
+        first: x.first.kept(all),
         cleared: x.cleared & all,
         unmentioned: x.unmentioned & all,
     }
@@ -126,8 +105,7 @@ fn write_row(x: Row, all: u64, block: u32, card: &mut [u64])
     put_row(&mut words, 0, kept);
     let mut numbers = [0u64; CARD_NUMBERS];
     write_numbers(&words, &mut numbers);
-    let last = kept.last;
-    numbers[FLAGS] = flags(x.run, x.empty, last.present, last.absent);
+    numbers[FLAGS] = flags(x.run, x.empty, kept.last.present, kept.last.absent);
     put_block(&numbers, block, card);
 }
 

@@ -6,7 +6,6 @@ ghost use Rattle.outcome.specs.Visited.{lacking, RowsVisitable, visited};
 
 use callers::sets::{ALL_SEQUENCES, SET_WORDS};
 use reading::read::{Block, Reader};
-use row::words::{same, united};
 use rows::table::{put_row, row_at};
 use settling::turns::{after_visit, first, next};
 
@@ -31,9 +30,9 @@ fn visit(
         table,
         part,
     };
-    let new = united(old, reader.read_sequence(at));
+    let new = old.united(reader.read_sequence(at));
     put_row(table, c, new);
-    !same(old, new)
+    old != new
 }
 
 // Visits each sequence that the order names once. At first every sequence is stale, and afterwards those that a visit may still change.

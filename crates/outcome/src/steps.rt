@@ -5,7 +5,7 @@ ghost use Rattle.row.specs.Words.{row_words};
 ghost use Rattle.library.specs.Tables.{mask_words};
 
 use library::tables::MASK_WORDS;
-use row::words::{Row, of_step};
+use row::words::Row;
 use rows::table::put_row;
 
 // The row of step `a`, by the table of masks.
@@ -14,7 +14,7 @@ fn step_row(all: u64, masks: &[u64], a: usize) -> Row
     ensures { result ≡ mask_row all masks.now a }
 {
     let at = MASK_WORDS * a;
-    of_step(all, masks[at], masks[at + 1], masks[at + 2])
+    Row::of_step(all, masks[at], masks[at + 1], masks[at + 2])
 }
 
 // Writes the rows of the steps below `n`, by the table of masks.

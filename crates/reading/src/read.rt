@@ -8,7 +8,7 @@ ghost use Rattle.reading.specs.declared.read.Block.{Block};
 ghost use Rattle.reading.specs.Walks.{RowWithin, RowsReadable, entry_in, united_from, AlternativeFolded, EmptiesEnd};
 
 use image::word::{Kind, is_entry, payload_of};
-use row::words::{Row, joined, none, of_check, start, united};
+use row::words::Row;
 use rows::table::row_at;
 use walk::sequence::{is_check, part_entry, rest_end, word_at};
 
@@ -71,23 +71,23 @@ impl<'a> Reader<'a> {
         requires { at ≤ length self.now.part.now }
         ensures { AlternativeFolded self.now.block self.now.steps.now self.now.table.now self.now.part.now at result }
     {
-        let mut row = start(self.block.all);
+        let mut row = Row::start(self.block.all);
         for i in at..self.part.len() {
             let w = self.part[i];
             if !part_entry(w) {
                 return Read { row, ended: i };
             }
             if is_check(w) {
-                row = joined(row, of_check(self.block.number, payload_of(w)));
+                row = row.joined(Row::of_check(self.block.number, payload_of(w)));
             } else {
                 let named = self.named_row(w);
                 if named.run == 0 {
                     return Read {
-                        row: none(),
+                        row: Row::default(),
                         ended: i,
                     };
                 }
-                row = joined(row, named);
+                row = row.joined(named);
             }
         }
         Read {
@@ -102,7 +102,7 @@ impl<'a> Reader<'a> {
         requires { at ≤ length self.now.part.now }
         ensures { result ≡ united_from self.now.block self.now.steps.now self.now.table.now no_row (alternatives_from (drop at self.now.part.now)) }
     {
-        let mut row = none();
+        let mut row = Row::default();
         let mut i = at;
         // Each turn goes on where a walk over entries or empty alternatives ended, so that no range or iterator counts the turns.
         while i < self.part.len() {
@@ -114,10 +114,10 @@ impl<'a> Reader<'a> {
                 return row;
             } else if is_entry(word_at(self.part, i)) {
                 let read = self.read_alternative(i);
-                row = united(row, read.row);
+                row = row.united(read.row);
                 i = read.ended;
             } else {
-                row = united(row, start(self.block.all));
+                row = row.united(Row::start(self.block.all));
                 i = empties_end(self.part, i);
             }
         }

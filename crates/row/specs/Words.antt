@@ -106,6 +106,10 @@ or_rows x y =
       unmentioned = bit_or x.unmentioned y.unmentioned;
     }
 
+-- the marks of the facts in `all`
+abbrev pub kept_marks : Marks → ℕ → Marks
+kept_marks x all = record { present = bit_and x.present all; absent = bit_and x.absent all; untouched = bit_and x.untouched all }
+
 abbrev pub same_marks : Marks → Marks → Bool
 same_marks x y = eqb x.present y.present && eqb x.absent y.absent && eqb x.untouched y.untouched
 

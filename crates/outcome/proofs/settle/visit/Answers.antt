@@ -3,6 +3,7 @@
 use native.Mathlib.Omega.{arith}
 use mathlib.Core.Path.{◌≡◌, ap, ap₂, ◌∙◌, subst}
 use Rattle.row.specs.Words.{or_rows, with_row, same_rows}
+use Rattle.row.proofs.Same.{equal_rows, equal_same}
 use Rattle.outcome.specs.Visited.{visited_row}
 use Rattle.outcome.proofs.Stores.{Fitting}
 use Rattle.outcome.proofs.Visited.{visit_made}
@@ -29,14 +30,11 @@ put_row-requires c =
 
 pub returns : goal.returns
 returns c =
-    let put = c in
-    let new = put in
-    let read = new in
-    let old = read in
-    let start = old in
-    let a = start.args in
-    let row : new.united-new.result ≡ visited_row a.block a.steps.now a.part.now a.places.now a.table.now a.c =
-    new.united-new.ensures ∙ ap₂ or_rows old.row_at-old.ensures read.read_sequence.ensures in
-    visit_made a.block a.steps.now a.part.now a.places.now a.table.now a.c put.put_row.new.table c.same.result
-    (omega (arith, start.requires.0.rows, start.requires.1)) (put.put_row.ensures ∙ ap (with_row a.table.now a.c) row)
-    (subst Fitting row (omega (arith, new.united-new.type_inv))) (c.same.ensures ∙ ap₂ same_rows old.row_at-old.ensures row)
+    let a = c.args in
+    let row : c.united-new.result ≡ visited_row a.block a.steps.now a.part.now a.places.now a.table.now a.c =
+    c.united-new.ensures ∙ ap₂ or_rows c.row_at-old.ensures c.read_sequence.ensures in
+    rw c.ne.ensures
+    (visit_made a.block a.steps.now a.part.now a.places.now a.table.now a.c c.put_row.new.table (equal_rows c.row_at-old.result c.united-new.result)
+    (omega (arith, c.requires.0.rows, c.requires.1)) (c.put_row.ensures ∙ ap (with_row a.table.now a.c) row)
+    (subst Fitting row (omega (arith, c.united-new.type_inv)))
+    (equal_same c.row_at-old.result c.united-new.result ∙ ap₂ same_rows c.row_at-old.ensures row))

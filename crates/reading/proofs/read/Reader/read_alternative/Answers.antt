@@ -1,5 +1,6 @@
 -- `reading::read::Reader::read_alternative` meets its contract: what is joined so far, with the entries to come, is the whole alternative.
 -- Assumes nothing.
+use borrow.Author.Rules.{rules}
 use native.Mathlib.Omega.{arith}
 use mathlib.Core.Path.{◌≡◌, refl, sym, ap, ◌∙◌}
 use mathlib.Core.Bool.{false, not}
@@ -10,7 +11,7 @@ use borrow.Author.Tests.{lt-ltb, eqb-true}
 use Rattle.image.specs.Word.{kind, is_entry}
 use Rattle.library.proofs.Decode.{check_entry}
 use Rattle.walk.proofs.Walking.{folding_out, leaving_start, leaving_out}
-use Rattle.row.specs.Words.{check_row}
+use Rattle.row.specs.Words.{no_row, check_row}
 use Rattle.row.specs.declared.words.Row.{Row}
 use Rattle.reading.specs.Walks.{is_dead, entry_in, joined_from}
 use Rattle.reading.proofs.Walks.{dead_is, live_turn, dead_end}
@@ -40,7 +41,8 @@ returns-then-named-eq0 c =
     let entry = sym c.part_entry.ensures ∙ c.if-not-part_entry.false in
     let named = ap (λ (r : Row). not (ltb 0 r.run)) (sym (c.named_row-named.ensures s.block)) in
     let dead = dead_is s.block _ _ _ (s.readable c.loop-i.i c.loop-i-test.true) entry ∙ named ∙ ap (λ (n : ℕ). not (ltb 0 n)) c.if-named-eq0.true in
-    let left = dead_end s.block _ _ _ c.loop-i.invariant entry c.none.ensures dead in
+    let nothing : c.default.result ≡ no_row = search rules in
+    let left = dead_end s.block _ _ _ c.loop-i.invariant entry nothing dead in
     record { row = left.0; ended = left.1 }
 
 pub loop-i-preserved : goal.loop-i-preserved
