@@ -11,6 +11,7 @@ ghost use Rattle.card.specs.Fill.{FillAsked, BlockAsked, block_filled};
 use crate::answer::Cards;
 use column::BLOCK_FACTS;
 use image::answer::{Checked, Head, Refusal};
+use library::checked::Accepted;
 use outcome::table::{MOST_ROWS, MOST_STEP_ROWS, SMALL_ROWS, SMALL_STEP_ROWS, outcome_table};
 use reader::check::check;
 use tables::prepare::prepare;
@@ -92,10 +93,10 @@ fn fill_blocks(
     order: &mut [usize],
     area: &mut [u64],
 )
-    requires { FillAsked h image.now area.old × TablesAsked h image.now places.old callers.old order.old }
+    requires { FillAsked h image.now area.old × TablesAsked h places.old callers.old order.old }
     ensures { area.new ≡ cards (library_of image.now) ++ drop (card_words * h.sequences) area.old }
 {
-    prepare(h, image, places, callers, order);
+    prepare(&Accepted { image, head: h }, places, callers, order);
     clear(h.sequences as usize, area);
     let mut block = 0;
     while BLOCK_FACTS * block < h.facts {

@@ -84,13 +84,12 @@ module _ {h : Head} {q : Asked} {masks callers ahead behind links : List ℕ} (a
 
   -- what the makers of the tables ask
   module _ {image : List ℕ} {c : ℕ} (asked : FindAsked h image q c) where
-    pub masks_asked : MasksAsked h image masks
-    masks_asked = record { accepted = asked.accepted; room = areas.masks_room }
+    pub masks_asked : MasksAsked h masks
+    masks_asked = record { room = areas.masks_room }
 
-    pub tables_asked : TablesAsked h image (replicate most_sequences 0) callers (replicate most_sequences 0)
+    pub tables_asked : TablesAsked h (replicate most_sequences 0) callers (replicate most_sequences 0)
     tables_asked =
         record {
-          accepted = asked.accepted;
           places_room = few_sequences image h asked.accepted;
           callers_room = areas.callers_room;
           callers_blank = areas.callers_blank;

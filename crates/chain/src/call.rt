@@ -10,6 +10,7 @@ ghost use Rattle.question.specs.Reply.{ChainCalled};
 
 use image::answer::{Checked, Head};
 use image::word::{MOST_FACTS, MOST_SEQUENCES, MOST_STEPS};
+use library::checked::Accepted;
 use library::parts::sequences_part;
 use link::write::write_chain;
 use question::answer::Chained;
@@ -142,8 +143,9 @@ fn find_in(
     let n = h.sequences as usize;
     let words = q.none as usize + MOST_FACTS as usize + h.steps as usize;
     let part = sequences_part(image);
-    prepare_masks(h, image, q.fact_block(), masks);
-    prepare(h, image, &mut places, callers, &mut order);
+    let accepted = Accepted { image, head: h };
+    prepare_masks(&accepted, q.fact_block(), masks);
+    prepare(&accepted, &mut places, callers, &mut order);
     find_by(
         q,
         masks,

@@ -9,6 +9,7 @@ use crate::steps::write_step_rows;
 use column::all_in;
 use image::answer::Head;
 use image::word::{MOST_SEQUENCES, MOST_STEPS};
+use library::checked::Accepted;
 use library::parts::sequences_part;
 use reading::read::Block;
 use row::words::ROW_WORDS;
@@ -48,7 +49,7 @@ pub fn outcome_table(
         all: all,
     };
     let part = sequences_part(image);
-    prepare_masks(h, image, number, masks);
+    prepare_masks(&Accepted { image, head: h }, number, masks);
     write_step_rows(all, masks, h.steps as usize, rows);
     settle(
         block,

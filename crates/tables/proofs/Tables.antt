@@ -45,19 +45,18 @@ module _ (image : List ℕ) (h : Head) (accepted : Accepts image h) where
   pub few_sequences : h.sequences ≤ 256
   few_sequences = (faultless image h accepted).sequences_high
 
-  -- areas of zeros for so many steps and sequences
-  pub areas_asked : (steps sequences : ℕ) → h.steps ≤ steps → h.sequences ≤ sequences
-      → MasksAsked h image (replicate (3 * steps) 0) × TablesAsked h image (replicate sequences 0) (replicate (4 * sequences) 0) (replicate sequences 0)
-  areas_asked steps sequences a c = (
-    record { accepted = accepted; room = omega (arith, length-replicate {A = ℕ} (3 * steps) 0) },
-    record {
-      accepted = accepted;
-      places_room = omega (arith, length-replicate {A = ℕ} sequences 0);
-      callers_room = omega (arith, length-replicate {A = ℕ} (4 * sequences) 0);
-      callers_blank = zeros (4 * sequences);
-      order_room = omega (arith, length-replicate {A = ℕ} sequences 0);
-    },
-  )
+-- areas of zeros for so many steps and sequences
+pub areas_asked : (h : Head) (steps sequences : ℕ) → h.steps ≤ steps → h.sequences ≤ sequences
+    → MasksAsked h (replicate (3 * steps) 0) × TablesAsked h (replicate sequences 0) (replicate (4 * sequences) 0) (replicate sequences 0)
+areas_asked h steps sequences a c = (
+  record { room = omega (arith, length-replicate {A = ℕ} (3 * steps) 0) },
+  record {
+    places_room = omega (arith, length-replicate {A = ℕ} sequences 0);
+    callers_room = omega (arith, length-replicate {A = ℕ} (4 * sequences) 0);
+    callers_blank = zeros (4 * sequences);
+    order_room = omega (arith, length-replicate {A = ℕ} sequences 0);
+  },
+)
 
 -- ---- the places
 
@@ -93,10 +92,10 @@ module _ (image : List ℕ) (h : Head) (accepted : Accepts image h) {part : List
 
 -- ---- what the makers ask, and what they have made
 
-module _ {h : Head} {image ms₀ : List ℕ} (asked : MasksAsked h image ms₀) where
-  pub steps_asked : {first : List ℕ} → first ≡ steps_part image → StepsAsked h first ms₀
-  steps_asked e =
-      let p = parts image h asked.accepted in
+module _ (image : List ℕ) (h : Head) (accepted : Accepts image h) (ms₀ : List ℕ) where
+  pub steps_asked : MasksAsked h ms₀ → {first : List ℕ} → first ≡ steps_part image → StepsAsked h first ms₀
+  steps_asked asked e =
+      let p = parts image h accepted in
       subst (λ (x : List ℕ). StepsAsked h x ms₀) (sym e)
       (record { words = p.steps; numbered = p.steps_numbered; opened = p.steps_opened; room = asked.room })
 
@@ -104,19 +103,19 @@ module _ {h : Head} {image ms₀ : List ℕ} (asked : MasksAsked h image ms₀) 
       → ms ≡ masks k (library_of image).steps ++ drop (3 * h.steps) ms₀
   masked k first made =
       made
-      ∙ ap (λ (x : List Step). masks k x ++ drop (3 * h.steps) ms₀) (ap steps_from first ∙ ap (λ (L : Library). L.steps) (sym (library_is image h asked.accepted)))
+      ∙ ap (λ (x : List Step). masks k x ++ drop (3 * h.steps) ms₀) (ap steps_from first ∙ ap (λ (L : Library). L.steps) (sym (library_is image h accepted)))
 
-module _ {h : Head} {image ps₀ callers₀ order₀ : List ℕ} (asked : TablesAsked h image ps₀ callers₀ order₀) where
+module _ (image : List ℕ) {h : Head} {ps₀ callers₀ order₀ : List ℕ} (accepted : Accepts image h) (asked : TablesAsked h ps₀ callers₀ order₀) where
   pub sequences_asked : {part : List ℕ} → part ≡ sequences_part image → SequencesAsked h part ps₀
-  sequences_asked e = places_asked image h asked.accepted e asked.places_room
+  sequences_asked e = places_asked image h accepted e asked.places_room
 
   pub callers_asked : {part ps : List ℕ} → part ≡ sequences_part image → ps ≡ places_from 0 part ++ drop h.sequences ps₀ → length ps ≡ length ps₀
       → CallersAsked h.sequences part ps callers₀
   callers_asked e placed long =
       record {
-        few = few_sequences image h asked.accepted;
+        few = few_sequences image h accepted;
         placed = omega (arith, asked.places_room);
-        within = λ c l. (place_in image h asked.accepted e (drop h.sequences ps₀) placed c l).within;
+        within = λ c l. (place_in image h accepted e (drop h.sequences ps₀) placed c l).within;
         zeros = asked.callers_blank;
       }
 

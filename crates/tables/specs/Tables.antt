@@ -1,6 +1,5 @@
 -- What every call starts from: the tables that are made of an accepted image, and the areas that are lent for them.
 use Rattle.std.specs.Prelude.{ℕ, ◌*◌, ◌≤◌, ◌≡◌, Bool, ◌&&◌, List, ◌++◌, length, take, drop, leb}
-use Rattle.rules.specs.Checked.{Accepts}
 use Rattle.library.specs.Library.{sequences_part}
 use Rattle.library.specs.Tables.{mask_words, places_from}
 use Rattle.general.specs.Numbers.{Zeros, Complete}
@@ -18,15 +17,13 @@ small_sequences = 32
 abbrev pub is_small : Head → Bool
 is_small h = leb h.steps small_steps && leb h.sequences small_sequences
 
--- what the masks of the steps ask: an accepted image, and room for three words a step
-pub record MasksAsked (h : Head) (image ms : List ℕ) : Type 0 where
-  pub accepted : Accepts image h
+-- what the masks of the steps ask beside an accepted image: room for three words a step
+pub record MasksAsked (h : Head) (ms : List ℕ) : Type 0 where
   pub room : mask_words * h.steps ≤ length ms
 
--- what the other tables ask: an accepted image, and room for a place of each sequence, four words a sequence for its callers, and a number of each
+-- what the other tables ask beside an accepted image: room for a place of each sequence, four words a sequence for its callers, and a number of each
 -- sequence. The sets of callers are blank
-pub record TablesAsked (h : Head) (image ps callers order : List ℕ) : Type 0 where
-  pub accepted : Accepts image h
+pub record TablesAsked (h : Head) (ps callers order : List ℕ) : Type 0 where
   pub places_room : h.sequences ≤ length ps
   pub callers_room : 4 * h.sequences ≤ length callers
   pub callers_blank : Zeros callers

@@ -8,4 +8,4 @@ fill_blocks-requires c =
     let start = c in
     let asked = start.requires in
     let h = start.args.h in
-    (asked, (areas_asked start.args.image.now h asked.accepted 1023 256 (few_steps start.args.image.now h asked.accepted) (few_sequences start.args.image.now h asked.accepted)).1)
+    (asked, (areas_asked h 1023 256 (few_steps start.args.image.now h asked.accepted) (few_sequences start.args.image.now h asked.accepted)).1)

@@ -8,4 +8,4 @@ fill_blocks-requires c =
     let start = c in
     let asked = start.requires.0 in
     let h = start.args.h in
-    (asked, (areas_asked start.args.image.now h asked.accepted 64 32 (small_steps_lem h start.requires.1) (small_sequences_lem h start.requires.1)).1)
+    (asked, (areas_asked h 64 32 (small_steps_lem h start.requires.1) (small_sequences_lem h start.requires.1)).1)
