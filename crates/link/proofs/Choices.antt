@@ -1,6 +1,6 @@
 -- The loops that choose: what holds at the head of each, a turn, and the ways out.
 -- It has: the newest alternative that passes a test, from the last one back (`seeking_` start, turn, found, out); the index from which on all
--- entries pass (`tail_cons`); the first position of an alternative (`placing_` start, turn, found, out); and the link that both make
+-- entries pass (`tail_cons`); the first position of an alternative (`placing_` turn, found, out); and the link that both make
 -- (`choosing_turn`, `chosen_found`, `chosen_out`).
 -- Assumes nothing.
 use Prim.Native.Nat.{ℕ, suc, ◌+◌, ◌-◌, ◌≤◌, ◌<◌}
@@ -9,7 +9,8 @@ use native.Mathlib.Numerals.{add-one}
 use mathlib.Core.Path.{◌≡◌, refl, sym, ap, ap₂, ◌∙◌, subst}
 use mathlib.Core.Bool.{Bool, true, false, cond, ◌&&◌}
 use mathlib.Core.List.{List, [], ◌∷◌}
-use lib.ListN.{length, get_or, drop, get_or-eq_default}
+use lib.ListN.{length, get_or, take, drop, length-drop, get_or-eq_default}
+use lib.Seq.{take_all}
 use lib.Dec.{leb, ltb}
 use borrow.Author.Tests.{lt-ltb, le-ltb}
 use Rattle.image.specs.Word.{payload, is_entry}
@@ -23,7 +24,7 @@ use Rattle.slot.specs.Slots.{entry_number, rank_in, pass_in, traits_in}
 use Rattle.link.specs.Choice.{link_in, Chosen}
 use Rattle.walk.specs.declared.sequence.Alternatives.{Alternatives}
 use Rattle.slot.specs.declared.entry.Traits.{Traits}
-use Rattle.walk.proofs.Walking.{Folding, folding_start, folding_inside, folding_turn, folding_read, folding_entry, folding_out}
+use Rattle.walk.proofs.Walking.{Folding, folding_inside, folding_turn, folding_read, folding_entry, folding_out}
 use Rattle.walk.proofs.Before.{before_few, Back, before_back}
 use Rattle.slot.proofs.Slots.{entry_number_lem}
 use Rattle.rank.proofs.Walk.{tail_from_lem}
@@ -49,9 +50,9 @@ module _ (test : Alternative → Bool) (part : List ℕ) (at : ℕ) where
   seeking_start r counted = record { index = counted.end; last = counted.last; same = ap below counted.all }
 
   -- none passes
-  pub seeking_out : (n o : ℕ) → Seeking n o → n ≡ 0 → length alternatives ≡ newest test alternatives
+  pub seeking_out : (n o : ℕ) → Seeking n o → n ≤ 0 → length alternatives ≡ newest test alternatives
   unfolding last_index
-  seeking_out n o here over = ap below (sym over) ∙ here.same
+  seeking_out n o here over = let none : 0 ≡ n = omega arith in ap below none ∙ here.same
 
   -- the last of them, whose entries stand after o
   module _ (n o : ℕ) (here : Seeking n o) (some : 0 < n) where
@@ -84,97 +85,107 @@ pub tail_cons : (test : Entry → Bool) (i start : ℕ) (e : Entry) (es : List E
 unfolding tail_from
 tail_cons test i start e es b traits = rw (add-one i) (ap (λ (x : Bool). tail_from test (suc i) (cond x start (suc i)) es) traits)
 
+-- ---- the words of an alternative, which begin with its entries
+
+-- the words after an opener, as a slice
+abbrev pub words_after : List ℕ → ℕ → List ℕ
+words_after part o = take (length part - (o + 1)) (drop (o + 1) part)
+
+words_after_lem : (part : List ℕ) (o : ℕ) → words_after part o ≡ drop (o + 1) part
+words_after_lem part o = take_all (length part - (o + 1)) (drop (o + 1) part) (omega (arith, length-drop (o + 1) part))
+
+-- past the words stands no entry
+pub none_past : (words : List ℕ) → is_entry (get_or words (length words) 0) ≡ false
+none_past words = ap is_entry (get_or-eq_default words 0 {n = length words} (omega arith))
+
 -- ---- the first position of an alternative
 
-module _ (none : ℕ) (ahead behind ranks part : List ℕ) (k : ℕ) where
+module _ (none : ℕ) (ahead behind ranks : List ℕ) (k : ℕ) where
   abbrev rank : Entry → ℕ
   rank = rank_in none none ranks
 
   abbrev position : Bool → ℕ → List Entry → ℕ
   position = position_from none rank (pass_in none ahead) (pass_in none behind) k
 
-  module _ (s : ℕ) where
+  -- an alternative has a position that is chosen
+  abbrev pub placed : Alternative → Bool
+  placed es = ltb (position true 0 es) (length es)
+
+  module _ (words : List ℕ) where
     abbrev entries : List Entry
-    entries = entries_from (drop s part)
+    entries = entries_from words
 
     -- the position that is chosen, and the number of entries, by those that are left
     abbrev whole : ℕ × ℕ
     whole = (position true 0 entries, length entries)
 
     abbrev rest : Bool → ℕ → List Entry → ℕ × ℕ
-    rest ok i es = (position ok (i - s) es, (i - s) + length es)
+    rest ok i es = (position ok i es, i + length es)
 
     abbrev pub Placing : Bool → ℕ → Type 0
-    Placing ok i = Folding part whole s (rest ok i) i
-
-    pub placing_start : s ≤ length part → Placing true s
-    placing_start l =
-        let z : s - s ≡ 0 = omega arith in
-        folding_start l (rw z (ap (λ (n : ℕ). (position true 0 entries, n)) (omega arith)))
+    Placing ok i = Folding words whole 0 (rest ok i) i
 
     -- an entry, with its traits, where `tail` is the index from which on all entries pass as those behind
-    module _ (tail : ℕ) (tailed : tail ≡ tail_from (pass_in none behind) s s entries) (ok : Bool) (i : ℕ) (here : Placing ok i)
-        (e : is_entry (get_or part i 0) ≡ true) (t : Traits)
-        (traits : t ≡ traits_in none ahead behind ranks (entry_of (get_or part i 0))) where
+    module _ (tail : ℕ) (tailed : tail ≡ tail_from (pass_in none behind) 0 0 entries) (ok : Bool) (i : ℕ) (here : Placing ok i)
+        (e : is_entry (get_or words i 0) ≡ true) (t : Traits)
+        (traits : t ≡ traits_in none ahead behind ranks (entry_of (get_or words i 0))) where
       abbrev entry : Entry
-      entry = entry_of (get_or part i 0)
+      entry = entry_of (get_or words i 0)
 
       abbrev later : List Entry
-      later = entries_from (drop (i + 1) part)
+      later = entries_from (drop (i + 1) words)
 
       -- the fold with this entry at its head
-      opened : Folding part whole s (λ es. rest ok i (entry ∷ es)) (i + 1)
+      opened : Folding words whole 0 (λ es. rest ok i (entry ∷ es)) (i + 1)
       opened = folding_read here e
 
       -- the entries behind the position pass
       behind_passes : leb tail (i + 1) ≡ every (pass_in none behind) later
       behind_passes =
-          let n : s + (i + 1 - s) ≡ i + 1 = omega (arith, here.low) in
-          let h = tail_from_lem (pass_in none behind) s s (i + 1 - s) entries (omega arith) in
-          ap (λ (x : ℕ). leb x (i + 1)) tailed ∙ ap (leb (tail_from (pass_in none behind) s s entries)) (sym n) ∙ h
-          ∙ ap (every (pass_in none behind)) opened.passed
+          let n : 0 + (i + 1) ≡ i + 1 = omega arith in
+          let m : i + 1 - 0 ≡ i + 1 = omega arith in
+          let h = tail_from_lem (pass_in none behind) 0 0 (i + 1) entries (omega arith) in
+          ap (λ (x : ℕ). leb x (i + 1)) tailed ∙ ap (leb (tail_from (pass_in none behind) 0 0 entries)) (sym n) ∙ h
+          ∙ ap (λ (x : ℕ). every (pass_in none behind) (drop x entries)) (sym m) ∙ ap (every (pass_in none behind)) opened.passed
 
       -- whether this position is chosen
       abbrev pub Taken : Bool
       Taken = (ok && leb tail (i + 1)) && leb t.rank k
 
-      position_here : (b : Bool) → Taken ≡ b → position ok (i - s) (entry ∷ later) ≡ cond b (i - s) (position (ok && t.ahead) (suc (i - s)) later)
+      position_here : (b : Bool) → Taken ≡ b → position ok i (entry ∷ later) ≡ cond b i (position (ok && t.ahead) (suc i) later)
       unfolding position_from
       position_here b taken =
           let test : ((ok && every (pass_in none behind) later) && leb (rank entry) k) ≡ b =
           ap (λ (x : Bool). (ok && x) && leb (rank entry) k) (sym behind_passes)
           ∙ ap (λ (x : Traits). (ok && leb tail (i + 1)) && leb x.rank k) (sym traits)
           ∙ taken in
-          ap (λ (x : Bool). cond x (i - s) (position (ok && pass_in none ahead entry) (suc (i - s)) later)) test
-          ∙ ap (λ (x : Traits). cond b (i - s) (position (ok && x.ahead) (suc (i - s)) later)) (sym traits)
+          ap (λ (x : Bool). cond x i (position (ok && pass_in none ahead entry) (suc i) later)) test
+          ∙ ap (λ (x : Traits). cond b i (position (ok && x.ahead) (suc i) later)) (sym traits)
 
       pub placing_turn : Taken ≡ false → Placing (ok && t.ahead) (i + 1)
       placing_turn taken =
-          let index : suc (i - s) ≡ i + 1 - s = omega (arith, here.low) in
-          let count : i - s + length (entry ∷ later) ≡ i + 1 - s + length later = omega (arith, here.low) in
+          let index : suc i ≡ i + 1 = omega arith in
+          let count : i + length (entry ∷ later) ≡ i + 1 + length later = omega arith in
           folding_turn here e
           (ap₂ (λ (x y : ℕ). (x, y)) (position_here false taken ∙ ap (λ (n : ℕ). position (ok && t.ahead) n later) index) count)
 
-      placing_found : Taken ≡ true → (position true 0 entries ≡ i - s) × (i - s < length entries)
+      placing_found : Taken ≡ true → (position true 0 entries ≡ i) × (i < length entries)
       placing_found taken =
-          let count : i - s + length (entry ∷ later) ≡ length entries = ap (λ (p : ℕ × ℕ). p.1) opened.same in
+          let count : i + length (entry ∷ later) ≡ length entries = ap (λ (p : ℕ × ℕ). p.1) opened.same in
           (sym (ap (λ (p : ℕ × ℕ). p.0) opened.same) ∙ position_here true taken, omega arith)
 
     -- no position is chosen
-    placing_out : (ok : Bool) (i : ℕ) → Placing ok i → is_entry (get_or part i 0) ≡ false → position true 0 entries ≡ length entries
+    pub placing_out : (ok : Bool) (i : ℕ) → Placing ok i → is_entry (get_or words i 0) ≡ false → placed entries ≡ false
     unfolding position_from
     placing_out ok i here e =
         let h = folding_out here e in
-        let count : i - s + 0 ≡ length entries = ap (λ (p : ℕ × ℕ). p.1) h in
-        sym (ap (λ (p : ℕ × ℕ). p.0) h) ∙ omega arith
+        let count : i + 0 ≡ length entries = ap (λ (p : ℕ × ℕ). p.1) h in
+        let last : position true 0 entries ≡ length entries = sym (ap (λ (p : ℕ × ℕ). p.0) h) ∙ omega arith in
+        le-ltb (position true 0 entries) (length entries) (omega arith)
 
   -- ---- the link
 
-  module _ (at : ℕ) where
-    -- an alternative has a position that is chosen
-    abbrev pub placed : Alternative → Bool
-    placed es = ltb (position true 0 es) (length es)
-
+  module _ (part : List ℕ) (at : ℕ) where
     abbrev pub Choosing : ℕ → ℕ → Type 0
     Choosing = Seeking placed part at
 
@@ -194,7 +205,7 @@ module _ (none : ℕ) (ahead behind ranks part : List ℕ) (k : ℕ) where
         }
 
     -- no alternative has one
-    pub chosen_out : (r : Alternatives) → AllBefore part at r → (n o : ℕ) → Choosing n o → n ≡ 0
+    pub chosen_out : (r : Alternatives) → AllBefore part at r → (n o : ℕ) → Choosing n o → n ≤ 0
         → Chosen none ahead behind ranks part at k (record { alternative = r.count; position = 0; entry = 0 })
     unfolding position_from
     chosen_out r counted n o here over =
@@ -203,23 +214,26 @@ module _ (none : ℕ) (ahead behind ranks part : List ℕ) (k : ℕ) where
 
     -- the last alternative that is left has none, or has one
     module _ (n o : ℕ) (here : Choosing n o) (some : 0 < n) where
-      abbrev entries_there : Alternative
-      entries_there = entries_from (drop (o + 1) part)
+      abbrev words : List ℕ
+      words = words_after part o
 
-      pub choosing_turn : (ok : Bool) (j : ℕ) → Placing (o + 1) ok j → is_entry (get_or part j 0) ≡ false → (p : ℕ) → p ≡ opener_before part o
+      pub choosing_turn : (ok : Bool) (j : ℕ) → Placing words ok j → is_entry (get_or words j 0) ≡ false → (p : ℕ) → p ≡ opener_before part o
           → Choosing (n - 1) p
       choosing_turn ok j placing out =
-          seeking_turn placed part at n o here some
-          (le-ltb (position true 0 entries_there) (length entries_there) (omega (arith, placing_out (o + 1) ok j placing out)))
+          seeking_turn placed part at n o here some (ap (λ (ws : List ℕ). placed (entries_from ws)) (sym (words_after_lem part o)) ∙ placing_out words ok j placing out)
 
-      pub chosen_found : (tail : ℕ) → tail ≡ tail_from (pass_in none behind) (o + 1) (o + 1) entries_there → (ok : Bool) (j : ℕ) → Placing (o + 1) ok j
-          → is_entry (get_or part j 0) ≡ true → (t : Traits) → t ≡ traits_in none ahead behind ranks (entry_of (get_or part j 0))
+      pub chosen_found : (tail : ℕ) → tail ≡ tail_from (pass_in none behind) 0 0 (entries_from words) → (ok : Bool) (j : ℕ) → Placing words ok j
+          → is_entry (get_or words j 0) ≡ true → (t : Traits) → t ≡ traits_in none ahead behind ranks (entry_of (get_or words j 0))
           → (ok && leb tail (j + 1)) && leb t.rank k ≡ true
-          → Chosen none ahead behind ranks part at k (record { alternative = n - 1; position = j - (o + 1); entry = payload (get_or part j 0) })
+          → Chosen none ahead behind ranks part at k (record { alternative = n - 1; position = j; entry = payload (get_or words j 0) })
       chosen_found tail tailed ok j placing e t traits taken =
-          let found = placing_found (o + 1) tail tailed ok j placing e t traits taken in
-          chosen (n - 1) (j - (o + 1)) (payload (get_or part j 0)) entries_there
-          (seeking_found placed part at n o here some (lt-ltb (position true 0 entries_there) (length entries_there) (omega (arith, found.0, found.1))))
-          (last_back placed part at n o here some).entries (sym found.0)
-          (sym (entry_number_lem (get_or part j 0)) ∙ ap entry_number (sym (folding_entry placing e (item (step 0)))))
-          (omega (arith, before_few part at n _ here.last.before)) (omega (arith, folding_inside placing e))
+          let found = placing_found words tail tailed ok j placing e t traits taken in
+          let index : j - 0 ≡ j = omega arith in
+          let same = words_after_lem part o in
+          chosen (n - 1) j (payload (get_or words j 0)) (entries_from words)
+          (seeking_found placed part at n o here some
+          (ap (λ (ws : List ℕ). placed (entries_from ws)) (sym same) ∙ lt-ltb (position true 0 (entries_from words)) (length (entries_from words)) (omega (arith, found.0, found.1))))
+          ((last_back placed part at n o here some).entries ∙ ap entries_from (sym same)) (sym found.0)
+          (sym (entry_number_lem (get_or words j 0))
+          ∙ ap entry_number (sym (folding_entry placing e (item (step 0))) ∙ ap (λ (m : ℕ). get_or (entries_from words) m (item (step 0))) index))
+          (omega (arith, before_few part at n _ here.last.before)) (omega (arith, folding_inside placing e, ap length same, length-drop (o + 1) part))

@@ -1,16 +1,16 @@
 -- The words of a chain in the area: the links so far are written, and the words past them stay.
--- It has: numbers that have 28 bits (`entry_low`); two words more (`put_first`); the loop over links (`Writing`, with start, turn, next and
--- end); the answer by the ranks in the area (`answered_untouched`, `answered_links`).
+-- It has: numbers that have 28 bits (`entry_low`); two words more (`put_first`); the loop over links (`Writing`, with turn, next and end); the answer by the ranks in the area (`answered_untouched`, `answered_links`).
 -- Assumes nothing.
-use Prim.Native.Nat.{ℕ, zero, suc, pred, ◌+◌, ◌*◌, ◌^◌, ◌≤◌, ◌<◌}
+use Prim.Native.Nat.{ℕ, zero, suc, pred, ◌+◌, ◌-◌, ◌*◌, ◌^◌, ◌≤◌, ◌<◌}
+use native.Mathlib.Numerals.{sub-one}
 use native.Mathlib.Omega.{arith}
 use mathlib.Core.Path.{◌≡◌, refl, sym, ap, ap₂, ◌∙◌, subst}
 use mathlib.Core.Bool.{Bool, true, false, cond, ◌&&◌}
 use mathlib.Core.List.{List, [], ◌∷◌, ◌++◌, append_assoc, append-nil}
-use lib.ListN.{length, get_or, set, drop, length-append, length-drop}
+use lib.ListN.{length, get_or, set, drop, length-append}
 use lib.Seq.{set_at, drop-cons}
 use lib.Dec.{leb, ltb}
-use borrow.Author.Tests.{lt-ltb, le-ltb, leb-true}
+use borrow.Author.Tests.{lt-ltb, leb-true}
 use Rattle.general.specs.Tests.{All}
 use Rattle.library.specs.Library.{step, Entry, item, entry_of, alternatives_from, entry_at}
 use Rattle.walk.specs.Walk.{alternatives_at}
@@ -81,16 +81,7 @@ module _ (m : ℕ) (ahead behind ranks part places : List ℕ) (before : List �
     pub written : area ≡ done ++ drop at before
     pub rest : done ++ chain_words (links k c) ≡ chain_words (links count first)
 
-  pub writing_start : first < 2 ^ 28 → Writing before count first 0
-  writing_start low = record { sequence = low; left = omega arith; done = []; long = refl; written = refl; rest = refl }
-
   module _ (room : link_length * count ≤ length before) (area : List ℕ) (k c at : ℕ) (here : Writing area k c at) where
-    pub writing_length : length area ≡ length before
-    writing_length =
-        let n = here.long in
-        let l = here.left in
-        omega (arith, ap length here.written, length-append here.done (drop at before), length-drop at before)
-
     -- the words so far are the whole chain's
     pub writing_end : k ≡ 0 → area ≡ chain_words (links count first) ++ drop (link_length * count) before
     unfolding links_in chain_words
@@ -139,20 +130,16 @@ links_count m ahead behind ranks part places (suc k) c =
     ap suc (links_count m ahead behind ranks part places k (link_entry (alternatives_at part places c) (link_at m ahead behind ranks part places k c)))
 
 -- the one link by what the functions promise that choose its alternative and write its words
-pub untouched_written : (m : ℕ) (ranks part places : List ℕ) (c k from i count : ℕ) (area after : List ℕ) → c < length ranks → k ≡ pred (get_or ranks c 0)
+pub untouched_written : (m : ℕ) (ranks part places : List ℕ) (c k from i count : ℕ) (area after : List ℕ) → c < length ranks → k ≡ get_or ranks c 0 - 1
     → from ≡ get_or places c 0 + 1 → i ≡ alternative_in m ranks k (alternatives_from (drop from part)) → 0 < count → link_length * count ≤ length area
     → after ≡ set (set area 0 (choice_word c i)) (0 + 1) (12 * 2 ^ 28) → after ≡ untouched_words m ranks part places count c area
 unfolding untouched_in chain_words
 untouched_written m ranks part places c k from i count area after listed before opener choice some room put =
-    let least : k ≡ pred (get_or ranks c m) = before ∙ ap pred (get_d_inside ranks c 0 m listed) in
+    let least : k ≡ pred (get_or ranks c m) = before ∙ sub-one (get_or ranks c 0) ∙ ap pred (get_d_inside ranks c 0 m listed) in
     put ∙ put_first area (choice_word c i) (12 * 2 ^ 28) (omega arith)
     ∙ ap (λ (j : ℕ). (choice_word c j ∷ 12 * 2 ^ 28 ∷ []) ++ drop 2 area)
     (choice ∙ ap₂ (λ (p n : ℕ). alternative_in m ranks p (alternatives_from (drop n part))) least opener)
     ∙ ap (λ (b : Bool). cond b (chain_words (untouched_in m ranks part places c ∷ []) ++ drop 2 area) area) (sym (lt-ltb 0 count some))
-
-pub untouched_unwritten : (m : ℕ) (ranks part places : List ℕ) (c count : ℕ) (area : List ℕ) → count ≤ 0 → area ≡ untouched_words m ranks part places count c area
-untouched_unwritten m ranks part places c count area le =
-    ap (λ (b : Bool). cond b (chain_words (untouched_in m ranks part places c ∷ []) ++ drop 2 area) area) (sym (le-ltb 0 count le))
 
 -- the links that are written have room
 pub shown_room : (q : Asked) (rank room : ℕ) → link_length * shown_links q rank room ≤ room

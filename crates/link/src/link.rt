@@ -1,5 +1,5 @@
 // The choice of a link: "Among equally good choices a link takes the highest alternative, then the lowest position."
-ghost use Rattle.std.specs.Prelude.{◌≡◌, ◌+◌, ◌≤◌, ◌<◌, length, drop};
+ghost use Rattle.std.specs.Prelude.{◌≡◌, ◌≤◌, length, drop};
 ghost use Rattle.image.specs.Word.{most_words};
 ghost use Rattle.library.specs.Library.{entries_from, alternatives_from};
 ghost use Rattle.rank.specs.Walk.{tail_from};
@@ -10,7 +10,7 @@ ghost use Rattle.link.specs.Choice.{alternative_in, Chosen};
 use image::word::payload_of;
 use rank::read::greatest_depth;
 use slot::entry::{passes, traits_of};
-use walk::sequence::{alternatives_of, opener_before, part_entry, selected_index, word_at};
+use walk::sequence::{alternatives_of, opener_before, part_entry, selected_index};
 
 // An alternative, the position of an entry there, and the number that the entry names.
 #[derive(Clone, Copy)]
@@ -20,24 +20,24 @@ pub struct Choice {
     pub entry: u32,
 }
 
-// The index from which on all entries pass as those behind a position, for the entries that stand from index `at` on.
-fn tail_from(none: u32, behind: &[u32], part: &[u32], at: usize) -> usize
-    requires { Rankable none behind.now part.now × (at ≤ length part.now) }
-    ensures { result ≡ tail_from (pass_in none behind.now) at at (entries_from (drop at part.now)) }
+// The index from which on all entries pass as those behind a position, for the entries that these words begin with.
+fn tail_from(none: u32, behind: &[u32], words: &[u32]) -> usize
+    requires { Rankable none behind.now words.now }
+    ensures { result ≡ tail_from (pass_in none behind.now) 0 0 (entries_from words.now) }
 {
-    let mut start = at;
-    let mut i = at;
-    loop {
-        let w = word_at(part, i);
+    let mut start = 0;
+    for (i, &w) in words.iter().enumerate() {
         if !part_entry(w) {
-            return start;
+            break;
         }
-        i += 1;
-        start = selected_index(passes(none, behind, w), start, i);
+        start = selected_index(passes(none, behind, w), start, i + 1);
     }
+    start
 }
 
-// The last alternative, then its first position, that comes to no more than `k`, among the alternatives that stand from index `at` on.
+// The last alternative, then its first position, that comes to no more than `k`, among the alternatives that stand from index `at` on. Document
+// 01 asks for nested loops here, left by label with the chosen link. Where no alternative fits, definition `newest` names the number past the
+// last one, so that the result is no Option.
 pub fn chosen_link(
     none: u32,
     ahead: &[u32],
@@ -51,39 +51,33 @@ pub fn chosen_link(
     ensures { Chosen none ahead.now behind.now ranks.now part.now at k result }
 {
     let all = alternatives_of(part, at);
-    let mut alternative = all.count;
     let mut opener = all.last;
-    'found: loop {
-        if alternative == 0 {
-            break 'found Choice {
-                alternative: all.count,
-                position: 0,
-                entry: 0,
-            };
-        }
-        alternative -= 1;
-        let start = opener + 1;
-        let tail = tail_from(none, behind, part, start);
-        let mut ok = true;
-        let mut i = start;
-        loop {
-            let e = word_at(part, i);
-            if !part_entry(e) {
-                break;
+    'found: {
+        for alternative in (0..all.count).rev() {
+            let words = &part[opener + 1..];
+            let tail = tail_from(none, behind, words);
+            let mut ok = true;
+            for (position, &e) in words.iter().enumerate() {
+                if !part_entry(e) {
+                    break;
+                }
+                let t = traits_of(none, ahead, behind, ranks, e);
+                if ok & (tail <= position + 1) & (t.rank <= k) {
+                    break 'found Choice {
+                        alternative,
+                        position: position as u32,
+                        entry: payload_of(e),
+                    };
+                }
+                ok &= t.ahead;
             }
-            let t = traits_of(none, ahead, behind, ranks, e);
-            let next = i + 1;
-            if ok & (tail <= next) & (t.rank <= k) {
-                break 'found Choice {
-                    alternative: alternative,
-                    position: (i - start) as u32,
-                    entry: payload_of(e),
-                };
-            }
-            ok = ok & t.ahead;
-            i = next;
+            opener = opener_before(part, opener);
         }
-        opener = opener_before(part, opener);
+        Choice {
+            alternative: all.count,
+            position: 0,
+            entry: 0,
+        }
     }
 }
 
@@ -93,16 +87,12 @@ pub fn chosen_alternative(none: u32, ranks: &[u32], part: &[u32], at: usize, k: 
     ensures { (result ≡ alternative_in none ranks.now k (alternatives_from (drop at part.now))) × (result ≤ most_words) }
 {
     let all = alternatives_of(part, at);
-    let mut alternative = all.count;
     let mut opener = all.last;
-    'found: loop {
-        if alternative == 0 {
-            break 'found all.count;
-        }
-        alternative -= 1;
+    for alternative in (0..all.count).rev() {
         if greatest_depth(none, ranks, part, opener + 1).value <= k {
-            break 'found alternative;
+            return alternative;
         }
         opener = opener_before(part, opener);
     }
+    all.count
 }

@@ -1,5 +1,5 @@
 // The words of a chain: two for each link, written into the chain area.
-ghost use Rattle.std.specs.Prelude.{◌≡◌, ◌++◌, ◌+◌, ◌*◌, ◌^◌, ◌≤◌, ◌<◌, pred, length, get_or, drop};
+ghost use Rattle.std.specs.Prelude.{◌≡◌, ◌++◌, ◌+◌, ◌*◌, ◌^◌, ◌≤◌, ◌<◌, length, get_or, drop};
 ghost use Rattle.chains.specs.Link.{chain_words};
 ghost use Rattle.question.specs.Answer.{link_length, by_rank};
 ghost use Rattle.rank.specs.Tables.{Rankable};
@@ -14,11 +14,9 @@ use question::words::{LINK_WORDS, POSITION_WORD, UNTOUCHED_WORD, put_link};
 fn after_opener(places: &[u32], c: u32) -> usize
     ensures { result ≡ get_or places.now c 0 + 1 }
 {
-    let i = c as usize;
-    if i < places.len() {
-        return places[i] as usize + 1;
-    }
-    1
+    places
+        .get(c as usize)
+        .map_or(1, |opener| *opener as usize + 1)
 }
 
 // Writes the words of `count` links, the first about sequence `c`. Words past them stay.
@@ -37,24 +35,13 @@ fn write_links(
     ensures { area.new ≡ chain_words (links_in none ahead.now behind.now ranks.now part.now places.now count c) ++ drop (link_length * count) area.old }
 {
     let mut d = c;
-    let mut k = count;
     let mut at = 0;
-    while 0 < k {
-        k -= 1;
+    for k in (0..count).rev() {
         let link = chosen_link(none, ahead, behind, ranks, part, after_opener(places, d), k);
         put_link(area, at, d, link.alternative, POSITION_WORD + link.position);
         at += LINK_WORDS;
         d = link.entry;
     }
-}
-
-fn before(rank: u32) -> u32
-    ensures { result ≡ pred rank }
-{
-    if 0 < rank {
-        return rank - 1;
-    }
-    0
 }
 
 // Writes the one link of a question that asks for no touch, where there is one to write.
@@ -71,7 +58,7 @@ fn write_untouched(
     ensures { area.new ≡ untouched_words none ranks.now part.now places.now count c area.old }
 {
     if 0 < count {
-        let k = before(ranks[c as usize]);
+        let k = ranks[c as usize].saturating_sub(1);
         let alternative = chosen_alternative(none, ranks, part, after_opener(places, c), k);
         put_link(area, 0, c, alternative, UNTOUCHED_WORD);
     }

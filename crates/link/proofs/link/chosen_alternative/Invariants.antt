@@ -6,8 +6,5 @@ use Rattle.rank.specs.Tables.{depth_in}
 use Rattle.link.proofs.Choices.{Seeking}
 use Rattle.link.proofs.link.chosen_alternative.Given as goal
 
-abbrev pub invariant-found : goal.invariant-found
-invariant-found l = Seeking (λ (es : Alternative). leb (depth_in l.none l.ranks es) l.k) l.part l.at l.alternative l.opener
-
-abbrev pub decreases-found : goal.decreases-found
-decreases-found l = l.alternative
+abbrev pub invariant-loop-alternative : goal.invariant-loop-alternative
+invariant-loop-alternative l = Seeking (λ (es : Alternative). leb (depth_in l.none l.ranks es) l.k) l.part l.at l.alternative l.opener

@@ -5,6 +5,3 @@ use Rattle.link.proofs.write.write_links.Given as goal
 
 abbrev pub invariant-loop-k : goal.invariant-loop-k
 invariant-loop-k l = Writing l.none l.ahead l.behind l.ranks l.part l.places l.initial.area l.count l.c l.area l.k l.d l.at
-
-abbrev pub decreases-loop-k : goal.decreases-loop-k
-decreases-loop-k l = l.k
