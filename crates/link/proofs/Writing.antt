@@ -1,5 +1,6 @@
 -- The words of a chain in the area: the links so far are written, and the words past them stay.
--- It has: numbers that have 28 bits (`entry_low`); two words more (`put_first`); the loop over links (`Writing`, with turn, next and end); the answer by the ranks in the area (`answered_untouched`, `answered_links`).
+-- It has: numbers that have 28 bits (`entry_low`); two words more (`put_first`); the loop over links (`Writing`, with turn, next and end); the
+-- answer by the ranks in the area (`answered_untouched`, `answered_links`).
 -- Assumes nothing.
 use Prim.Native.Nat.{ℕ, zero, suc, pred, ◌+◌, ◌-◌, ◌*◌, ◌^◌, ◌≤◌, ◌<◌}
 use native.Mathlib.Numerals.{sub-one}
