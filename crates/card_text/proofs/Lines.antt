@@ -3,18 +3,20 @@
 use Prim.Native.Nat.{ℕ, suc, ◌+◌, ◌*◌, ◌-◌, ◌^◌, ◌≤◌, ◌<◌}
 use native.Mathlib.Omega.{arith}
 use mathlib.Core.Path.{◌≡◌, sym, ap, ap₂, ◌∙◌, subst}
-use mathlib.Core.List.{List, [], ◌∷◌, ◌++◌}
-use lib.ListN.{length, take, drop, get_or, length-take}
-use lib.Seq.{drop-cons, drop-length}
+use mathlib.Core.List.{List, [], ◌∷◌}
+use lib.ListN.{length, take, drop, get_or}
+use lib.Seq.{drop-cons}
 use Rattle.column.specs.Words.{number}
 use Rattle.general.proofs.Scan.{length_list_below, get_d_list_below}
 use Rattle.cards.specs.Layout.{card_numbers, column_words, card_words}
 use Rattle.cards.specs.Area.{part_number}
-use Rattle.text.specs.Text.{InFront, PutWithin, DigitsAsked}
+use Rattle.std.proofs.lemmas.List.{drop_all, length-drop, length-take-le}
+use Rattle.text.specs.declared.area.Text.{Text}
+use Rattle.text.specs.Text.{Put, PutWithin, DigitsAsked}
 use Rattle.text.specs.Number.{numeral}
 use Rattle.card_text.specs.Writers.{numbers_of, number_bytes, numbers_bytes, line_bytes}
 use Rattle.card_text.specs.Line.{spaced, card_line, lines_from, card_lines, refused_text, at_text, refusal_line}
-use Rattle.text.proofs.Text.{front_none, front_join}
+use Rattle.text.proofs.Text.{put_none, put_more}
 use Rattle.text.proofs.Numeral.{numeral_length}
 
 -- ---- how long numerals are
@@ -25,11 +27,12 @@ decimal_length w l = numeral_length 10 (omega arith) 9 w (omega arith)
 pub long_length : (w : ℕ) → w < 2 ^ 64 → length (numeral 10 w) ≤ 20
 long_length w l = numeral_length 10 (omega arith) 19 w (omega arith)
 
-pub decimal_asked : (area : List ℕ) (at w : ℕ) → w < 2 ^ 32 → 10 ≤ at → at ≤ length area → DigitsAsked area at 10 (length (numeral 10 w))
-decimal_asked area at w l r u = record { low = omega arith; high = omega arith; room = omega (arith, decimal_length w l); within = u }
+-- what a numeral in decimal asks
+pub decimal_asked : (text : Text) (w : ℕ) → w < 2 ^ 32 → 10 ≤ text.begin → DigitsAsked text 10 (length (numeral 10 w))
+decimal_asked text w l r = record { low = omega arith; high = omega arith; room = omega (arith, decimal_length w l) }
 
-pub long_asked : (area : List ℕ) (at w : ℕ) → w < 2 ^ 64 → 20 ≤ at → at ≤ length area → DigitsAsked area at 10 (length (numeral 10 w))
-long_asked area at w l r u = record { low = omega arith; high = omega arith; room = omega (arith, long_length w l); within = u }
+pub long_asked : (text : Text) (w : ℕ) → w < 2 ^ 64 → 20 ≤ text.begin → DigitsAsked text 10 (length (numeral 10 w))
+long_asked text w l r = record { low = omega arith; high = omega arith; room = omega (arith, long_length w l) }
 
 -- ---- the numbers of a card
 
@@ -53,133 +56,101 @@ module _ (cards : List ℕ) (c : ℕ) where
       ∙ omega arith
       ∙ ap (λ (i : ℕ). get_or cards i 0) (sym first)
 
--- the columns from column k on stand in front, column 0 after the flags
-pub record ColumnsAt (cards : List ℕ) (c : ℕ) (a₀ : List ℕ) (at : ℕ) (a : List ℕ) (start k : ℕ) : Type 0 where
-  pub below : k < card_numbers
-  pub put : InFront a₀ at a start (spaced (drop (suc k) (numbers_of cards c)))
-  pub within : at ≤ start + number_bytes column_words * (card_numbers - 1 - k)
+-- how long the part of n words from word a on is
+pub part_length : (ws : List ℕ) (a n : ℕ) → a + n ≤ length ws → length (take ((a + n) - a) (drop a ws)) ≡ n
+part_length ws a n fits = length-take-le ((a + n) - a) (drop a ws) (omega (arith, length-drop a ws)) ∙ omega arith
 
-module _ (cards : List ℕ) (c : ℕ) (a₀ : List ℕ) (at : ℕ) where
-  pub columns_start : ColumnsAt cards c a₀ at a₀ at (card_numbers - 1)
+-- the columns from column k on stand in front, column 0 after the flags
+pub record ColumnsAt (cards : List ℕ) (c : ℕ) (before : Text) (k : ℕ) (after : Text) : Type 0 where
+  pub below : k < card_numbers
+  pub put : Put before (spaced (drop (suc k) (numbers_of cards c))) after
+  pub within : before.begin ≤ after.begin + number_bytes column_words * (card_numbers - 1 - k)
+
+module _ (cards : List ℕ) (c : ℕ) (before : Text) where
+  pub columns_start : ColumnsAt cards c before (card_numbers - 1) before
   unfolding spaced
   columns_start =
-      let none : drop card_numbers (numbers_of cards c) ≡ [] =
-      ap (λ (n : ℕ). drop n (numbers_of cards c)) (sym (length_numbers cards c)) ∙ drop-length (numbers_of cards c) in
+      let none : drop card_numbers (numbers_of cards c) ≡ [] = drop_all card_numbers (numbers_of cards c) (omega (arith, length_numbers cards c)) in
       record {
         below = omega arith;
-        put = subst (λ (xs : List ℕ). InFront a₀ at a₀ at (spaced xs)) (sym none) (front_none a₀ at);
+        put = subst (λ xs. Put before (spaced xs) before) (sym none) (put_none before);
         within = omega arith;
       }
 
-  module _ (a : List ℕ) (start k : ℕ) (p : ColumnsAt cards c a₀ at a start k) where
-    pub columns_room : numbers_bytes ≤ at → at ≤ length a₀ → (number_bytes 1 + number_bytes column_words * k ≤ start) × (start ≤ length a)
-    columns_room fits within = omega (arith, p.below, p.within, p.put.room, p.put.long)
-
-    pub columns_next : 0 < k → (n : ℕ) → n ≡ column_words → (a' : List ℕ) (start' : ℕ)
-        → (let ws = take n (drop (card_words * c + 1 + column_words * (k - 1)) cards) in PutWithin (number_bytes (length ws)) a start a' start' (32 ∷ numeral 16 (number ws)))
-        → ColumnsAt cards c a₀ at a' start' (k - 1)
+  module _ (k : ℕ) (middle : Text) (p : ColumnsAt cards c before k middle) (ws : List ℕ) (after : Text)
+      (q : PutWithin (number_bytes (length ws)) middle (32 ∷ numeral 16 (number ws)) after) where
+    -- the number that stands before these, by its words
+    number_more : (j : ℕ) → j ≡ k → number ws ≡ part_number cards c j → Put before (spaced (drop j (numbers_of cards c))) after
     unfolding spaced
-    columns_next l n long a' start' q =
-        let j = k - 1 in
-        let back : suc j ≡ k = omega arith in
-        let ws = take n (drop (card_words * c + 1 + column_words * j) cards) in
-        let word : number ws ≡ part_number cards c (suc j) = ap (λ (m : ℕ). number (take m (drop (card_words * c + 1 + column_words * j) cards))) long in
-        let cut : drop (suc j) (numbers_of cards c) ≡ number ws ∷ drop (suc k) (numbers_of cards c) =
-        numbers_cut cards c (suc j) (omega (arith, p.below)) ∙ ap₂ (λ (x i : ℕ). x ∷ drop (suc i) (numbers_of cards c)) (sym word) back in
+    number_more j same e =
+        let cut : drop j (numbers_of cards c) ≡ number ws ∷ drop (suc k) (numbers_of cards c) =
+        numbers_cut cards c j (omega (arith, p.below)) ∙ ap₂ (λ (x i : ℕ). x ∷ drop (suc i) (numbers_of cards c)) (sym e) same in
+        subst (λ xs. Put before (spaced xs) after) (sym cut) (put_more before _ middle _ after p.put q.put)
+
+    pub columns_next : (j n : ℕ) → suc j ≡ k → n ≡ column_words → ws ≡ take n (drop (card_words * c + 1 + column_words * j) cards) → length ws ≡ column_words
+        → ColumnsAt cards c before j after
+    columns_next j n next four part long =
         record {
           below = omega (arith, p.below);
-          put =
-              subst (λ (xs : List ℕ). InFront a₀ at a' start' (spaced xs)) (sym cut)
-              (front_join a₀ at a start (spaced (drop (suc k) (numbers_of cards c))) a' start' (32 ∷ numeral 16 (number ws)) p.put q.put);
-          within = omega (arith, p.below, p.within, q.within, length-take n (drop (card_words * c + 1 + column_words * j) cards));
+          put = number_more (suc j) next (ap number part ∙ ap (λ m. number (take m (drop (card_words * c + 1 + column_words * j) cards))) four);
+          within = omega (arith, p.below, p.within, q.within);
         }
 
-    pub columns_end : k ≤ 0 → card_words * (c + 1) ≤ length cards → (n : ℕ) → n ≡ 1 → (a' : List ℕ) (start' : ℕ)
-        → (let ws = take n (drop (card_words * c) cards) in PutWithin (number_bytes (length ws)) a start a' start' (32 ∷ numeral 16 (number ws)))
-        → PutWithin numbers_bytes a₀ at a' start' (spaced (numbers_of cards c))
-    unfolding spaced
-    columns_end none fits n long a' start' q =
-        let ws = take n (drop (card_words * c) cards) in
-        let flags : number ws ≡ part_number cards c 0 = ap (λ (m : ℕ). number (take m (drop (card_words * c) cards))) long ∙ flags_number cards c fits in
-        let zero_left : 0 ≡ k = omega arith in
-        let cut : numbers_of cards c ≡ number ws ∷ drop (suc k) (numbers_of cards c) =
-        numbers_cut cards c 0 (omega arith) ∙ ap₂ (λ (x i : ℕ). x ∷ drop (suc i) (numbers_of cards c)) (sym flags) zero_left in
+    pub columns_end : (n : ℕ) → 0 ≡ k → n ≡ 1 → ws ≡ take n (drop (card_words * c) cards) → length ws ≡ 1 → card_words * (c + 1) ≤ length cards
+        → PutWithin numbers_bytes before (spaced (numbers_of cards c)) after
+    columns_end n none one part long fits =
         record {
-          put =
-              subst (λ (xs : List ℕ). InFront a₀ at a' start' (spaced xs)) (sym cut)
-              (front_join a₀ at a start (spaced (drop (suc k) (numbers_of cards c))) a' start' (32 ∷ numeral 16 (number ws)) p.put q.put);
-          within = omega (arith, p.below, p.within, q.within, length-take n (drop (card_words * c) cards));
+          put = number_more 0 none (ap number part ∙ ap (λ m. number (take m (drop (card_words * c) cards))) one ∙ flags_number cards c fits);
+          within = omega (arith, p.below, p.within, q.within);
         }
 
 -- ---- a card's line
 
-pub line_put : (numbers a₀ : List ℕ) (at : ℕ) (a₁ : List ℕ) (r₁ : ℕ) (a₂ : List ℕ) (r₂ : ℕ) (a₃ : List ℕ) (r₃ c : ℕ) → c < 2 ^ 32
-    → InFront a₀ at a₁ r₁ (10 ∷ []) → PutWithin numbers_bytes a₁ r₁ a₂ r₂ (spaced numbers) → InFront a₂ r₂ a₃ r₃ (numeral 10 c)
-    → PutWithin line_bytes a₀ at a₃ r₃ (card_line c numbers)
+pub line_put : (numbers : List ℕ) (a₀ a₁ a₂ a₃ : Text) (c : ℕ) → c < 2 ^ 32 → Put a₀ (10 ∷ []) a₁ → PutWithin numbers_bytes a₁ (spaced numbers) a₂
+    → Put a₂ (numeral 10 c) a₃ → PutWithin line_bytes a₀ (card_line c numbers) a₃
 unfolding card_line
-line_put numbers a₀ at a₁ r₁ a₂ r₂ a₃ r₃ c l p q s =
+line_put numbers a₀ a₁ a₂ a₃ c l p q s =
     record {
-      put =
-          front_join a₀ at a₂ r₂ (spaced numbers ++ (10 ∷ [])) a₃ r₃ (numeral 10 c)
-          (front_join a₀ at a₁ r₁ (10 ∷ []) a₂ r₂ (spaced numbers) p q.put) s;
-      within = omega (arith, p.room, q.within, s.room, decimal_length c l);
+      put = put_more a₀ _ a₂ _ a₃ (put_more a₀ _ a₁ _ a₂ p q.put) s;
+      within = omega (arith, p.front.room, q.within, s.front.room, decimal_length c l);
     }
 
 -- ---- all lines
 
 -- the lines from sequence c on stand in front
-pub record LinesAt (numbers : ℕ → List ℕ) (a₀ : List ℕ) (at n : ℕ) (a : List ℕ) (start c : ℕ) : Type 0 where
-  pub below : c ≤ n
-  pub put : InFront a₀ at a start (lines_from numbers c (n - c))
-  pub within : at ≤ start + line_bytes * (n - c)
+pub record LinesAt (numbers : ℕ → List ℕ) (n : ℕ) (before : Text) (c : ℕ) (after : Text) : Type 0 where
+  pub put : Put before (lines_from numbers c (n - c)) after
+  pub within : before.begin ≤ after.begin + line_bytes * (n - c)
 
-module _ (numbers : ℕ → List ℕ) (a₀ : List ℕ) (at n : ℕ) where
-  pub lines_start : LinesAt numbers a₀ at n a₀ at n
+module _ (numbers : ℕ → List ℕ) (n : ℕ) (before : Text) where
+  pub lines_start : LinesAt numbers n before n before
   unfolding lines_from
   lines_start =
       let none : n - n ≡ 0 = omega arith in
+      record { put = subst (λ k. Put before (lines_from numbers n k) before) (sym none) (put_none before); within = omega arith }
+
+  pub lines_next : (c d : ℕ) (middle after : Text) → d ≡ suc c → d ≤ n → LinesAt numbers n before d middle → PutWithin line_bytes middle (card_line c (numbers c)) after
+      → LinesAt numbers n before c after
+  unfolding lines_from
+  lines_next c d middle after next l p q =
+      let more : n - c ≡ suc (n - d) = omega arith in
+      let later = subst (λ e. Put before (lines_from numbers e (n - d)) middle) next p.put in
       record {
-        below = omega arith;
-        put = subst (λ (k : ℕ). InFront a₀ at a₀ at (lines_from numbers n k)) (sym none) (front_none a₀ at);
-        within = omega arith;
+        put = subst (λ k. Put before (lines_from numbers c k) after) (sym more) (put_more before _ middle _ after later q.put);
+        within = omega (arith, p.within, q.within);
       }
 
-  module _ (a : List ℕ) (start c : ℕ) (l : 0 < c) (p : LinesAt numbers a₀ at n a start c) where
-    pub lines_room : line_bytes * n ≤ at → at ≤ length a₀ → (line_bytes ≤ start) × (start ≤ length a)
-    lines_room fits within = omega (arith, p.below, p.within, p.put.room, p.put.long)
-
-    pub lines_next : (a' : List ℕ) (start' : ℕ) → PutWithin line_bytes a start a' start' (card_line (c - 1) (numbers (c - 1)))
-        → LinesAt numbers a₀ at n a' start' (c - 1)
-    unfolding lines_from
-    lines_next a' start' q =
-        let j = c - 1 in
-        let back : c ≡ suc j = omega arith in
-        let more : suc (n - c) ≡ n - j = omega (arith, p.below) in
-        let line = card_line j (numbers j) in
-        let same : line ++ lines_from numbers c (n - c) ≡ lines_from numbers j (n - j) =
-        ap (λ (d : ℕ). line ++ lines_from numbers d (n - c)) back ∙ ap (lines_from numbers j) more in
-        record {
-          below = omega (arith, p.below);
-          put = subst (InFront a₀ at a' start') same (front_join a₀ at a start (lines_from numbers c (n - c)) a' start' line p.put q.put);
-          within = omega (arith, p.below, p.within, q.within);
-        }
-
-  pub lines_end : (a : List ℕ) (start c : ℕ) → c ≤ 0 → LinesAt numbers a₀ at n a start c → InFront a₀ at a start (card_lines numbers n)
+  pub lines_end : (c : ℕ) (after : Text) → c ≤ 0 → LinesAt numbers n before c after → Put before (card_lines numbers n) after
   unfolding card_lines
-  lines_end a start c none p =
-      let zero_left : c ≡ 0 = omega arith in
+  lines_end c after none p =
+      let first : c ≡ 0 = omega arith in
       let all : n - c ≡ n = omega arith in
-      subst (λ (k : ℕ). InFront a₀ at a start (lines_from numbers 0 k)) all (subst (λ (d : ℕ). InFront a₀ at a start (lines_from numbers d (n - c))) zero_left p.put)
+      subst (λ t. Put before t after) (ap₂ (lines_from numbers) first all) p.put
 
 -- ---- a refusal's line
 
-pub refusal_put : (a₀ : List ℕ) (at : ℕ) (a₁ : List ℕ) (r₁ : ℕ) (a₂ : List ℕ) (r₂ : ℕ) (a₃ : List ℕ) (r₃ : ℕ) (a₄ : List ℕ) (r₄ : ℕ)
-    (a₅ : List ℕ) (r₅ number position : ℕ) → InFront a₀ at a₁ r₁ (10 ∷ []) → InFront a₁ r₁ a₂ r₂ (numeral 10 position)
-    → InFront a₂ r₂ a₃ r₃ at_text → InFront a₃ r₃ a₄ r₄ (numeral 10 number) → InFront a₄ r₄ a₅ r₅ refused_text
-    → InFront a₀ at a₅ r₅ (refusal_line number position)
+pub refusal_put : (a₀ a₁ a₂ a₃ a₄ a₅ : Text) (number position : ℕ) → Put a₀ (10 ∷ []) a₁ → Put a₁ (numeral 10 position) a₂ → Put a₂ at_text a₃
+    → Put a₃ (numeral 10 number) a₄ → Put a₄ refused_text a₅ → Put a₀ (refusal_line number position) a₅
 unfolding refusal_line
-refusal_put a₀ at a₁ r₁ a₂ r₂ a₃ r₃ a₄ r₄ a₅ r₅ number position p q s t u =
-    front_join a₀ at a₄ r₄ (numeral 10 number ++ (at_text ++ (numeral 10 position ++ (10 ∷ [])))) a₅ r₅ refused_text
-    (front_join a₀ at a₃ r₃ (at_text ++ (numeral 10 position ++ (10 ∷ []))) a₄ r₄ (numeral 10 number)
-    (front_join a₀ at a₂ r₂ (numeral 10 position ++ (10 ∷ [])) a₃ r₃ at_text
-    (front_join a₀ at a₁ r₁ (10 ∷ []) a₂ r₂ (numeral 10 position) p q) s) t) u
+refusal_put a₀ a₁ a₂ a₃ a₄ a₅ number position p q s t u =
+    put_more a₀ _ a₄ _ a₅ (put_more a₀ _ a₃ _ a₄ (put_more a₀ _ a₂ _ a₃ (put_more a₀ _ a₁ _ a₂ p q) s) t) u

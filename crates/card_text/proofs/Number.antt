@@ -1,23 +1,25 @@
--- The number that words are, as text: the numeral of the highest word that is not 0, and the digits of the words below it; the scan for that word,
--- and the digits put word by word.
+-- The number that words are, as text: the numeral of the highest word that is not 0, and the digits of the words below it.
 -- Assumes nothing.
-use Prim.Native.Nat.{ℕ, zero, suc, ◌+◌, ◌*◌, ◌-◌, ◌^◌, ◌≤◌, ◌<◌}
+use Prim.Native.Nat.{ℕ, zero, suc, ◌+◌, ◌*◌, ◌^◌, ◌≤◌, ◌<◌}
 use native.Mathlib.Decide.{dec_lt}
 use native.Mathlib.Nat.{zero-lt-suc}
 use native.Mathlib.Omega.{arith}
-use mathlib.Core.Path.{◌≡◌, refl, sym, ap, ◌∙◌, subst}
+use mathlib.Core.Path.{◌≡◌, refl, sym, ap, ap₂, ◌∙◌, subst}
 use mathlib.Core.Logic.{◌⊎◌, inl, inr, ⊎_elim}
 use mathlib.Core.Bool.{Bool, true, false, cond}
 use mathlib.Core.List.{List, [], ◌∷◌, ◌++◌, append-nil, append_assoc}
 use lib.ListN.{length, get_or, length-append}
 use lib.Dec.{ltb}
-use borrow.Author.Tests.{lt-ltb, le-ltb, ltb-true}
+use borrow.Author.Tests.{lt-ltb, ltb-true}
 use Rattle.column.specs.Words.{number}
 use Rattle.general.specs.Scan.{last_index}
 use Rattle.general.proofs.Scan.{last_found}
 use Rattle.text.specs.Number.{numeral, digits_in}
-use Rattle.text.specs.Text.{InFront, PutWithin, DigitsAsked}
-use Rattle.text.proofs.Text.{front_none, front_join}
+use Rattle.text.specs.declared.area.Text.{Text}
+use Rattle.text.specs.Text.{Put, PutWithin, DigitsAsked}
+use Rattle.text.proofs.Text.{put_more}
+use Rattle.std.specs.Prelude.{Option, None, Some, MatchOption, unwrap_or, ◌≢◌, take}
+use Rattle.std.proofs.lemmas.List.{length-take-le, get_or-take}
 use Rattle.text.proofs.Numeral.{numeral_length, numeral_digits, length_digits}
 use Rattle.card_text.specs.Writers.{highest_word, digits_below, number_bytes}
 
@@ -97,111 +99,68 @@ pub numeral_number : (ws : List ℕ) → ((k : ℕ) → get_or ws k 0 < 2 ^ 64)
     → numeral 16 (number ws) ≡ numeral 16 (get_or ws (highest_word ws) 0) ++ digits_below ws (highest_word ws)
 numeral_number ws low = numeral_at ws low (highest_word ws) (above_highest ws) (highest_some ws)
 
-length_below : (ws : List ℕ) (n : ℕ) → length (digits_below ws n) ≡ 16 * n
+pub length_below : (ws : List ℕ) (n : ℕ) → length (digits_below ws n) ≡ 16 * n
 unfolding digits_below
 length_below ws zero = refl
 length_below ws (suc n) =
     omega (arith, length-append (digits_in 16 16 (get_or ws n 0)) (digits_below ws n), length_digits 16 16 (get_or ws n 0), length_below ws n)
 
--- ---- the scan for the highest word, from the last to the first
+-- ---- the highest word that is not 0, found from the last to the first
 
--- every word from word i on is 0
-pub record HighestAt (ws : List ℕ) (i : ℕ) : Type 0 where
-  pub within : i ≤ length ws
-  pub same : last_index (λ (k : ℕ). ltb 0 (get_or ws k 0)) 0 i ≡ highest_word ws
-
-module _ (ws : List ℕ) where
-  pub highest_start : HighestAt ws (length ws)
-  unfolding highest_word
-  highest_start = record { within = omega arith; same = refl }
-
-  module _ (i : ℕ) (l : 0 < i) (p : HighestAt ws i) where
-    -- the test of one word more
-    highest_cut : cond (ltb 0 (get_or ws (i - 1) 0)) (i - 1) (last_index (λ (k : ℕ). ltb 0 (get_or ws k 0)) 0 (i - 1)) ≡ highest_word ws
-    unfolding last_index
-    highest_cut = let back : suc (i - 1) ≡ i = omega arith in ap (last_index (λ (k : ℕ). ltb 0 (get_or ws k 0)) 0) back ∙ p.same
-
-    pub highest_found : 0 < get_or ws (i - 1) 0 → i - 1 ≡ highest_word ws
-    highest_found some =
-        ap (λ (b : Bool). cond b (i - 1) (last_index (λ (k : ℕ). ltb 0 (get_or ws k 0)) 0 (i - 1))) (sym (lt-ltb 0 (get_or ws (i - 1) 0) some)) ∙ highest_cut
-
-    pub highest_next : get_or ws (i - 1) 0 ≤ 0 → HighestAt ws (i - 1)
-    highest_next none =
-        record {
-          within = omega (arith, p.within);
-          same = ap (λ (b : Bool). cond b (i - 1) (last_index (λ (k : ℕ). ltb 0 (get_or ws k 0)) 0 (i - 1))) (sym (le-ltb 0 (get_or ws (i - 1) 0) none)) ∙ highest_cut;
-        }
-
-  pub highest_end : (i : ℕ) → i ≤ 0 → HighestAt ws i → 0 ≡ highest_word ws
-  unfolding last_index
-  highest_end i none p =
-      let zero_left : 0 ≡ i = omega arith in
-      ap (last_index (λ (k : ℕ). ltb 0 (get_or ws k 0)) 0) zero_left ∙ p.same
-
--- ---- the digits put word by word, from the lowest on
-
--- the digits of the words below word i stand in front
-pub record LowAt (ws a₀ : List ℕ) (at n : ℕ) (a : List ℕ) (start i : ℕ) : Type 0 where
-  pub within : i ≤ n
-  pub put : InFront a₀ at a start (digits_below ws i)
-
-module _ (ws a₀ : List ℕ) (at n : ℕ) where
-  pub low_start : LowAt ws a₀ at n a₀ at 0
-  unfolding digits_below
-  low_start = record { within = omega arith; put = front_none a₀ at }
-
-  module _ (a : List ℕ) (start i : ℕ) (l : i < n) (p : LowAt ws a₀ at n a start i) where
-    pub low_room : 16 * n ≤ at → at ≤ length a₀ → (16 ≤ start) × (start ≤ length a)
-    low_room fits within = omega (arith, p.put.room, p.put.long, length_below ws i)
-
-    pub low_next : (a' : List ℕ) (start' : ℕ) → InFront a start a' start' (digits_in 16 16 (get_or ws i 0)) → LowAt ws a₀ at n a' start' (i + 1)
-    unfolding digits_below
-    low_next a' start' q =
-        let next : suc i ≡ i + 1 = omega arith in
-        record {
-          within = omega arith;
-          put =
-              subst (λ (j : ℕ). InFront a₀ at a' start' (digits_below ws j)) next
-              (front_join a₀ at a start (digits_below ws i) a' start' (digits_in 16 16 (get_or ws i 0)) p.put q);
-        }
-
-  pub low_end : (a : List ℕ) (start i : ℕ) → n ≤ i → LowAt ws a₀ at n a start i → InFront a₀ at a start (digits_below ws n)
-  low_end a start i done p =
-      let all : i ≡ n = omega (arith, p.within) in
-      subst (λ (j : ℕ). InFront a₀ at a start (digits_below ws j)) all p.put
+pub highest_is : (ws : List ℕ) (r : Option ℕ)
+    → MatchOption r ((k : ℕ) → k < length ws → get_or ws k 0 ≡ 0)
+    (λ i. (i < length ws) × (get_or ws i 0 ≢ 0) × ((k : ℕ) → i < k → k < length ws → get_or ws k 0 ≡ 0))
+    → unwrap_or r 0 ≡ highest_word ws
+unfolding highest_word last_index
+highest_is [] None none = refl
+highest_is (w ∷ ws) None none =
+    let h = highest_word (w ∷ ws) in
+    let low : h < length (w ∷ ws) = highest_within (w ∷ ws) (zero-lt-suc _) in
+    ⊎_elim (λ e. sym e) (λ l. absurd (omega (arith, none h low))) (highest_some (w ∷ ws))
+highest_is ws (Some i) found =
+    let h = highest_word ws in
+    let low : h < length ws = highest_within ws (omega (arith, found.0)) in
+    let not_above : i ≤ h = elim (dec_lt h i) [ yes l ↦ absurd (found.1 (above_highest ws i l found.0)) | no l ↦ omega arith ] in
+    let not_below : h ≤ i = elim (dec_lt i h) [ yes l ↦ ⊎_elim (λ e. omega (arith, e)) (λ some. absurd (omega (arith, some, found.2 h l low))) (highest_some ws) | no l ↦ omega arith ] in
+    omega arith
 
 -- ---- the number, after a space
+
+-- the digits of the words in front of word h, by these words alone
+below_front : (ws : List ℕ) (h n : ℕ) → n ≤ h → digits_below (take h ws) n ≡ digits_below ws n
+unfolding digits_below
+below_front ws h zero l = refl
+below_front ws h (suc n) l = ap₂ (λ w t. digits_in 16 16 w ++ t) (get_or-take h ws n 0 (omega arith)) (below_front ws h n (omega arith))
 
 module _ (ws : List ℕ) (some : 0 < length ws) (h : ℕ) (is : h ≡ highest_word ws) where
   pub top_within : h < length ws
   top_within = omega (arith, is, highest_within ws some)
 
-  module _ (low : (k : ℕ) → get_or ws k 0 < 2 ^ 64) (a₀ : List ℕ) (at : ℕ) (a₁ : List ℕ) (r₁ : ℕ) (p : InFront a₀ at a₁ r₁ (digits_below ws h)) where
-    pub top_asked : number_bytes (length ws) ≤ at → at ≤ length a₀ → DigitsAsked a₁ r₁ 16 (length (numeral 16 (get_or ws h 0)))
-    top_asked fits within =
-        let top = hex_length (get_or ws h 0) (low h) in
+  module _ (low : (k : ℕ) → get_or ws k 0 < 2 ^ 64) (front : List ℕ) (part : front ≡ take h ws) (a₀ a₁ : Text) (p : Put a₀ (digits_below front (length front)) a₁) where
+    low_put : Put a₀ (digits_below ws h) a₁
+    low_put =
+        let long : length front ≡ h = ap length part ∙ length-take-le h ws (omega (arith, top_within)) in
+        subst (λ t. Put a₀ t a₁) (ap₂ digits_below part long ∙ below_front ws h h (omega arith)) p
+
+    pub top_asked : number_bytes (length ws) ≤ a₀.begin → DigitsAsked a₁ 16 (length (numeral 16 (get_or ws h 0)))
+    top_asked fits =
         record {
           low = omega arith;
           high = omega arith;
-          room = omega (arith, top, top_within, p.room, length_below ws h);
-          within = omega (arith, p.room, p.long);
+          room = omega (arith, hex_length (get_or ws h 0) (low h), top_within, low_put.front.room, length_below ws h);
         }
 
-    module _ (a₂ : List ℕ) (r₂ : ℕ) (q : InFront a₁ r₁ a₂ r₂ (numeral 16 (get_or ws h 0))) where
-      pub space_room : number_bytes (length ws) ≤ at → at ≤ length a₀ → (0 < r₂) × (r₂ ≤ length a₂)
-      space_room fits within =
-          let top = hex_length (get_or ws h 0) (low h) in
-          omega (arith, top, top_within, p.room, p.long, q.room, q.long, length_below ws h)
+    module _ (a₂ : Text) (q : Put a₁ (numeral 16 (get_or ws h 0)) a₂) where
+      pub space_room : number_bytes (length ws) ≤ a₀.begin → 0 < a₂.begin
+      space_room fits = omega (arith, hex_length (get_or ws h 0) (low h), top_within, low_put.front.room, q.front.room, length_below ws h)
 
-      pub number_put : (a₃ : List ℕ) (r₃ : ℕ) → InFront a₂ r₂ a₃ r₃ (32 ∷ []) → PutWithin (number_bytes (length ws)) a₀ at a₃ r₃ (32 ∷ numeral 16 (number ws))
-      number_put a₃ r₃ s =
+      pub number_put : (a₃ : Text) → Put a₂ (32 ∷ []) a₃ → PutWithin (number_bytes (length ws)) a₀ (32 ∷ numeral 16 (number ws)) a₃
+      number_put a₃ s =
           let top = numeral 16 (get_or ws h 0) in
           let digits = digits_below ws h in
           let whole : top ++ digits ≡ numeral 16 (number ws) =
           ap (λ (k : ℕ). numeral 16 (get_or ws k 0) ++ digits_below ws k) is ∙ sym (numeral_number ws low) in
           record {
-            put =
-                subst (λ (t : List ℕ). InFront a₀ at a₃ r₃ (32 ∷ t)) whole
-                (front_join a₀ at a₂ r₂ (top ++ digits) a₃ r₃ (32 ∷ []) (front_join a₀ at a₁ r₁ digits a₂ r₂ top p q) s);
-            within = omega (arith, hex_length (get_or ws h 0) (low h), top_within, p.room, q.room, s.room, length_below ws h);
+            put = subst (λ t. Put a₀ (32 ∷ t) a₃) whole (put_more a₀ (top ++ digits) a₂ (32 ∷ []) a₃ (put_more a₀ digits a₁ top a₂ low_put q) s);
+            within = omega (arith, hex_length (get_or ws h 0) (low h), top_within, low_put.front.room, q.front.room, s.front.room, length_below ws h);
           }

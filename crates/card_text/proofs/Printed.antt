@@ -4,7 +4,7 @@ use Prim.Native.Nat.{ℕ, zero, suc, ◌+◌, ◌*◌, ◌/◌, ◌%◌, ◌≤�
 use native.Mathlib.Omega.{arith}
 use mathlib.Core.Path.{◌≡◌, refl, sym, ap, ap₂, ◌∙◌}
 use mathlib.Core.Bool.{Bool, true, false, cond, ◌&&◌}
-use mathlib.Core.List.{List, [], ◌∷◌, ◌++◌}
+use mathlib.Core.List.{List, ◌++◌}
 use lib.ListN.{length, take, drop}
 use lib.Seq.{take_at, ext_get_or}
 use lib.Dec.{eqb, ltb}
@@ -26,18 +26,11 @@ use Rattle.card.specs.Answer.{cards_given, cards_of, area_with, CardsCalled}
 use Rattle.card.specs.declared.answer.Cards.{Cards}
 use Rattle.card.proofs.Filled.{filled}
 use Rattle.text.specs.Words.{words_of}
+use Rattle.text.specs.declared.area.Text.{Text}
+use Rattle.text.proofs.Words.{length_words}
 use Rattle.card_text.specs.Line.{card_line, lines_from, card_lines, refusal_line}
 use Rattle.card_text.specs.Print.{answer_text, program_words, image_text, printed}
 use Rattle.card_text.specs.Writers.{numbers_of, text_bytes, AnswerAsked}
-
--- four bytes a word
-pub length_words : (bytes : List ℕ) → length (words_of bytes) ≡ length bytes / 4
-unfolding words_of
-length_words [] = refl
-length_words (a ∷ []) = omega arith
-length_words (a ∷ b ∷ []) = omega arith
-length_words (a ∷ b ∷ c ∷ []) = omega arith
-length_words (a ∷ b ∷ c ∷ d ∷ bytes) = omega (arith, length_words bytes)
 
 -- the part of the words that was written
 pub words_part : (bytes rest words : List ℕ) (n : ℕ) → n ≡ length bytes / 4 → words ≡ words_of bytes ++ rest → take n words ≡ words_of bytes
@@ -75,14 +68,13 @@ module _ (image area : List ℕ) (room : length area ≡ program_words) where
       (λ c l. numbers_card L (drop (card_words * n) area) c (omega (arith, l, count, has.sequences)) few)
 
   module _ (found : Cards) (after : List ℕ) (call : CardsCalled image area found after) where
-    pub answer_asked : (text : List ℕ) (at : ℕ) → length after ≡ length area → text_bytes ≤ at → at ≤ length text → AnswerAsked text at found after
-    answer_asked text at long fits within =
+    pub answer_asked : (text : Text) → length after ≡ length area → text_bytes ≤ text.begin → AnswerAsked text found after
+    answer_asked text long fits =
         record {
           filled = λ n e.
               let (h, accepted, count, big) = filled (checked image) (length area) n (sym call.answer ∙ e) in
               (omega (arith, room), omega arith);
           room = fits;
-          within = within;
         }
 
     pub answer_text_lem : answer_text found (numbers_of after) ≡ image_text image

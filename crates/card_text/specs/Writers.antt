@@ -5,6 +5,7 @@ use Rattle.text.specs.Number.{digits_in}
 use Rattle.cards.specs.Layout.{card_numbers, column_words, card_words}
 use Rattle.cards.specs.Area.{part_number}
 use Rattle.card.specs.declared.answer.Cards.{Cards}
+use Rattle.text.specs.declared.area.Text.{Text}
 
 -- the highest word that is not 0, word 0 where there is none
 unfoldable pub highest_word : List ℕ → ℕ
@@ -48,8 +49,7 @@ most_lines = 160
 abbrev pub text_bytes : ℕ
 text_bytes = line_bytes * most_lines
 
--- what the writer of an answer asks: the words of the cards of so many sequences, and room in front of the text that begins at `at`
-pub record AnswerAsked (area : List ℕ) (at : ℕ) (found : Cards) (words : List ℕ) : Type 0 where
+-- what the writer of an answer asks: the words of the cards of so many sequences, and room in front of the text
+pub record AnswerAsked (text : Text) (found : Cards) (words : List ℕ) : Type 0 where
   pub filled : (n : ℕ) → found ≡ Cards.Filled n → (n ≤ most_lines) × (card_words * n ≤ length words)
-  pub room : text_bytes ≤ at
-  pub within : at ≤ length area
+  pub room : text_bytes ≤ text.begin

@@ -2,13 +2,13 @@
 ghost use Rattle.std.specs.Prelude.{◌≡◌, ◌∷◌, ◌+◌, ◌*◌, ◌≤◌, ◌<◌, length};
 ghost use Rattle.column.specs.Words.{number};
 ghost use Rattle.cards.specs.Layout.{card_words};
-ghost use Rattle.text.specs.Text.{InFront, PutWithin};
+ghost use Rattle.text.specs.Text.{Put, PutWithin};
 ghost use Rattle.text.specs.Number.{numeral};
 ghost use Rattle.card_text.specs.Line.{spaced, card_line, card_lines, refusal_line};
 ghost use Rattle.card_text.specs.Writers.{highest_word, word_digits, digits_below, numbers_of, number_bytes, numbers_bytes, line_bytes, refusal_bytes};
 
-use text::bytes::{put_byte, put_bytes};
-use text::number::{DECIMAL, HEXADECIMAL, put_digits, put_numeral};
+use text::area::Text;
+use text::number::{DECIMAL, HEXADECIMAL};
 use writer::block::{CARD_WORDS, COLUMN_WORDS};
 use writer::card::COLUMNS;
 
@@ -32,91 +32,71 @@ pub const MOST_TEXT_BYTES: usize = MOST_LINE_BYTES * MOST_LINES;
 fn highest(words: &[u64]) -> usize
     ensures { result ≡ highest_word words.now }
 {
-    let mut i = words.len();
-    while 0 < i {
-        i -= 1;
-        if 0 < words[i] {
-            return i;
-        }
-    }
-    0
+    words.iter().rposition(|w| *w != 0).unwrap_or(0)
 }
 
-// Puts the digits of the first `n` words, all of each, in front of the text that begins at `at`: the lowest word has the last digits.
-fn put_low(text: &mut [u8], at: usize, n: usize, words: &[u64]) -> usize
-    requires { (n ≤ length words.now) × (word_digits * n ≤ at) × (at ≤ length text.old) }
-    ensures { InFront text.old at text.new result (digits_below words.now n) }
+// Puts the digits of words, all of each, in front of the text: the lowest word has the last digits.
+fn put_low(text: &mut Text, words: &[u64])
+    requires { word_digits * length words.now ≤ text.old.begin }
+    ensures { Put text.old (digits_below words.now (length words.now)) text.new }
 {
-    let mut i = 0;
-    let mut begin = at;
-    while i < n {
-        begin = put_digits(text, begin, HEXADECIMAL, WORD_DIGITS, words[i]);
-        i += 1;
+    for w in words {
+        text.put_digits::<HEXADECIMAL>(WORD_DIGITS, *w);
     }
-    begin
 }
 
-// Puts the number that words are, after a space, in front of the text that begins at `at`: the highest word that is not 0 has no zeros in front.
-fn put_number(text: &mut [u8], at: usize, words: &[u64]) -> usize
-    requires { (0 < length words.now) × (number_bytes (length words.now) ≤ at) × (at ≤ length text.old) }
-    ensures { PutWithin (number_bytes (length words.now)) text.old at text.new result (32 ∷ numeral 16 (number words.now)) }
+// Puts the number that words are, after a space, in front of the text: the highest word that is not 0 has no zeros in front.
+fn put_number(text: &mut Text, words: &[u64])
+    requires { (0 < length words.now) × (number_bytes (length words.now) ≤ text.old.begin) }
+    ensures { PutWithin (number_bytes (length words.now)) text.old (32 ∷ numeral 16 (number words.now)) text.new }
 {
     let top = highest(words);
-    let low = put_low(text, at, top, words);
-    let begin = put_numeral(text, low, HEXADECIMAL, words[top]);
-    put_byte(text, begin, b' ')
+    put_low(text, &words[..top]);
+    text.put_numeral::<HEXADECIMAL>(words[top]);
+    text.put_byte(b' ');
 }
 
-// Puts the numbers of a sequence's card, each after a space, in front of the text that begins at `at`.
-fn put_numbers(text: &mut [u8], at: usize, sequence: usize, cards: &[u64]) -> usize
-    requires { (numbers_bytes ≤ at) × (at ≤ length text.old) × (card_words * (sequence + 1) ≤ length cards.now) }
-    ensures { PutWithin numbers_bytes text.old at text.new result (spaced (numbers_of cards.now sequence)) }
+// Puts the numbers of a sequence's card, each after a space, in front of the text.
+fn put_numbers(text: &mut Text, sequence: usize, cards: &[u64])
+    requires { (numbers_bytes ≤ text.old.begin) × (card_words * (sequence + 1) ≤ length cards.now) }
+    ensures { PutWithin numbers_bytes text.old (spaced (numbers_of cards.now sequence)) text.new }
 {
     let flags = CARD_WORDS * sequence;
-    let mut k = COLUMNS;
-    let mut begin = at;
-    while 0 < k {
-        k -= 1;
+    for k in (0..COLUMNS).rev() {
         let from = flags + 1 + COLUMN_WORDS * k;
-        let to = from + COLUMN_WORDS;
-        begin = put_number(text, begin, &cards[from..to]);
+        put_number(text, &cards[from..from + COLUMN_WORDS]);
     }
-    let after = flags + 1;
-    put_number(text, begin, &cards[flags..after])
+    put_number(text, &cards[flags..flags + 1]);
 }
 
-// Puts a sequence's line in front of the text that begins at `at`.
-pub fn put_line(text: &mut [u8], at: usize, sequence: u32, cards: &[u64]) -> usize
-    requires { (line_bytes ≤ at) × (at ≤ length text.old) × (card_words * (sequence + 1) ≤ length cards.now) }
-    ensures { PutWithin line_bytes text.old at text.new result (card_line sequence (numbers_of cards.now sequence)) }
+// Puts a sequence's line in front of the text.
+pub fn put_line(text: &mut Text, sequence: u32, cards: &[u64])
+    requires { (line_bytes ≤ text.old.begin) × (card_words * (sequence + 1) ≤ length cards.now) }
+    ensures { PutWithin line_bytes text.old (card_line sequence (numbers_of cards.now sequence)) text.new }
 {
-    let end = put_byte(text, at, b'\n');
-    let numbers = put_numbers(text, end, sequence as usize, cards);
-    put_numeral(text, numbers, DECIMAL, sequence as u64)
+    text.put_byte(b'\n');
+    put_numbers(text, sequence as usize, cards);
+    text.put_numeral::<DECIMAL>(sequence as u64);
 }
 
-// Puts the lines of the first `n` sequences, whose cards stand one after the other, in front of the text that begins at `at`.
-pub fn put_lines(text: &mut [u8], at: usize, n: u32, cards: &[u64]) -> usize
-    requires { (line_bytes * n ≤ at) × (at ≤ length text.old) × (card_words * n ≤ length cards.now) }
-    ensures { InFront text.old at text.new result (card_lines (numbers_of cards.now) n) }
+// Puts the lines of the first `n` sequences, whose cards stand one after the other, in front of the text.
+pub fn put_lines(text: &mut Text, n: u32, cards: &[u64])
+    requires { (line_bytes * n ≤ text.old.begin) × (card_words * n ≤ length cards.now) }
+    ensures { Put text.old (card_lines (numbers_of cards.now) n) text.new }
 {
-    let mut c = n;
-    let mut begin = at;
-    while 0 < c {
-        c -= 1;
-        begin = put_line(text, begin, c, cards);
+    for c in (0..n).rev() {
+        put_line(text, c, cards);
     }
-    begin
 }
 
-// Puts the line of a refusal in front of the text that begins at `at`.
-pub fn put_refusal(text: &mut [u8], at: usize, number: u64, position: u64) -> usize
-    requires { (refusal_bytes ≤ at) × (at ≤ length text.old) }
-    ensures { InFront text.old at text.new result (refusal_line number position) }
+// Puts the line of a refusal in front of the text.
+pub fn put_refusal(text: &mut Text, number: u64, position: u64)
+    requires { refusal_bytes ≤ text.old.begin }
+    ensures { Put text.old (refusal_line number position) text.new }
 {
-    let end = put_byte(text, at, b'\n');
-    let after = put_numeral(text, end, DECIMAL, position);
-    let between = put_bytes(text, after, b" at ");
-    let before = put_numeral(text, between, DECIMAL, number);
-    put_bytes(text, before, b"refused ")
+    text.put_byte(b'\n');
+    text.put_numeral::<DECIMAL>(position);
+    text.put_bytes(b" at ");
+    text.put_numeral::<DECIMAL>(number);
+    text.put_bytes(b"refused ");
 }

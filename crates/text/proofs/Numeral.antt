@@ -1,19 +1,20 @@
--- Numerals: one digit, one digit more, how many there are, and a number in two pieces; a numeral, and so many digits, written from the last digit
--- to the first.
+-- Numerals: one digit, one digit more, how many there are, and a number in two pieces.
 -- Assumes nothing.
-use Prim.Native.Nat.{ℕ, zero, suc, ◌+◌, ◌*◌, ◌-◌, ◌/◌, ◌%◌, ◌^◌, ◌≤◌, ◌<◌}
+use Prim.Native.Nat.{ℕ, zero, suc, ◌+◌, ◌*◌, ◌/◌, ◌%◌, ◌^◌, ◌≤◌, ◌<◌}
 use native.Mathlib.Nat.{one-mul, mul_assoc, mul-pos, le-mul_of_pos_right, pow-zero, pow-suc, pow-succ', one-le-pow, div-lt_self, div-le_self, div-lt_iff_lt-mul}
-use native.Mathlib.Nat.{add-mul-div_left, add-mul-mod_self_left}
+use native.Mathlib.Nat.{add-mul-div_left, add-mul-mod_self_left, mod-eq_of_lt}
 use native.Mathlib.Decide.{le_ind, dec_lt}
 use native.Mathlib.Omega.{arith}
 use mathlib.Core.Path.{◌≡◌, refl, sym, ap, ap₂, ◌∙◌, subst}
 use mathlib.Core.Logic.{◌⊎◌, inl, inr, ⊎_elim}
 use mathlib.Core.Bool.{Bool, cond}
 use mathlib.Core.List.{List, [], ◌∷◌, ◌++◌, append-nil, append_assoc}
-use lib.ListN.{length, drop, length-append}
+use lib.ListN.{length, length-append}
 use lib.Dec.{ltb}
 use borrow.Author.Tests.{lt-ltb, le-ltb}
-use Rattle.text.specs.Text.{InFront, DigitsAsked}
+use Rattle.text.specs.declared.area.Text.{Text}
+use Rattle.text.specs.Text.{Put}
+use Rattle.text.proofs.Text.{put_more}
 use Rattle.text.specs.Number.{digit, numeral_in, numeral, digits_in}
 
 below_or_not : (n b : ℕ) → (n < b) ⊎ (b ≤ n)
@@ -50,7 +51,7 @@ module _ (b : ℕ) (two : 2 ≤ b) where
       ap (λ (t : Bool). cond t (digit (suc n) ∷ []) (numeral_in b n (suc n / b) ++ (digit (suc n % b) ∷ []))) (le-ltb (suc n) b l)
       ∙ ap (λ (front : List ℕ). front ++ (digit (suc n % b) ∷ [])) (enough n (suc n / b) (quotient_less (suc n) n (omega arith)))
 
-  length_more : (n : ℕ) → b ≤ n → length (numeral b n) ≡ length (numeral b (n / b)) + 1
+  pub length_more : (n : ℕ) → b ≤ n → length (numeral b n) ≡ length (numeral b (n / b)) + 1
   length_more n l = ap length (numeral_more n l) ∙ length-append (numeral b (n / b)) (digit (n % b) ∷ [])
 
   pub numeral_some : (n : ℕ) → 0 < length (numeral b n)
@@ -87,90 +88,28 @@ unfolding digits_in
 length_digits b zero n = refl
 length_digits b (suc k) n = omega (arith, length-append (digits_in b k (n / b)) (digit (n % b) ∷ []), length_digits b k (n / b))
 
--- ---- a numeral put digit by digit
+-- ---- digits put in front, the last first
 
--- what is left of the numeral, and what stands behind it, make the whole
-pub record DigitsAt (area₀ : List ℕ) (at b n : ℕ) (area : List ℕ) (rest start : ℕ) : Type 0 where
-  pub long : length area ≡ length area₀
-  pub within : start ≤ at
-  pub room : start + length (numeral b n) ≡ at + length (numeral b rest)
-  pub whole : numeral b rest ++ drop start area ≡ numeral b n ++ drop at area₀
+module _ (b : ℕ) (before : Text) (rest : ℕ) (middle : Text) (q : ℕ) (after : Text) where
+  -- the digits before the last one, put in front of it, make one digit more
+  pub put_digit_more : (k j : ℕ) → k ≡ suc j → Put before (digit (rest % b) ∷ []) middle → q ≡ rest / b → Put middle (digits_in b j q) after
+      → Put before (digits_in b k rest) after
+  unfolding digits_in
+  put_digit_more k j e p r more =
+      subst (λ n. Put before (digits_in b n rest) after) (sym e)
+      (put_more before _ middle _ after p (subst (λ n. Put middle (digits_in b j n) after) r more))
 
-module _ (area₀ : List ℕ) (at b n : ℕ) (asked : DigitsAsked area₀ at b (length (numeral b n))) where
-  pub digits_start : DigitsAt area₀ at b n area₀ n at
-  digits_start = record { long = refl; within = omega arith; room = refl; whole = refl }
+  pub put_numeral_more : 2 ≤ b → b ≤ rest → Put before (digit (rest % b) ∷ []) middle → q ≡ rest / b → Put middle (numeral b q) after
+      → Put before (numeral b rest) after
+  put_numeral_more low l p r more =
+      subst (λ t. Put before t after) (sym (numeral_more b low rest l))
+      (put_more before _ middle _ after p (subst (λ n. Put middle (numeral b n) after) r more))
 
-  module _ (area : List ℕ) (rest start : ℕ) (p : DigitsAt area₀ at b n area rest start) where
-    pub digit_room : (0 < start) × (start ≤ length area)
-    digit_room = omega (arith, asked.room, asked.within, p.long, p.within, p.room, numeral_some b asked.low rest)
+-- a number below the base is its own last digit
+pub put_numeral_last : (b : ℕ) (before : Text) (rest : ℕ) (after : Text) → 2 ≤ b → rest < b → Put before (digit (rest % b) ∷ []) after
+    → Put before (numeral b rest) after
+put_numeral_last b before rest after low l p =
+    subst (λ t. Put before t after) (ap (λ d. digit d ∷ []) (mod-eq_of_lt l) ∙ sym (numeral_digit b low rest l)) p
 
-    pub digits_next : b ≤ rest → (d : ℕ) → d ≡ digit (rest % b) → (area' : List ℕ) (start' : ℕ) → InFront area start area' start' (d ∷ [])
-        → DigitsAt area₀ at b n area' (rest / b) start'
-    digits_next l d e area' start' put =
-        let q = subst (λ (x : ℕ). InFront area start area' start' (x ∷ [])) e put in
-        record {
-          long = q.long ∙ p.long;
-          within = omega (arith, p.within, q.room);
-          room = omega (arith, p.room, q.room, length_more b asked.low rest l);
-          whole =
-              ap (λ (t : List ℕ). numeral b (rest / b) ++ t) q.text
-              ∙ sym (append_assoc (numeral b (rest / b)) (digit (rest % b) ∷ []) (drop start area))
-              ∙ ap (λ (t : List ℕ). t ++ drop start area) (sym (numeral_more b asked.low rest l))
-              ∙ p.whole;
-        }
-
-    pub digits_end : rest < b → (d : ℕ) → d ≡ digit rest → (area' : List ℕ) (start' : ℕ) → InFront area start area' start' (d ∷ [])
-        → InFront area₀ at area' start' (numeral b n)
-    digits_end l d e area' start' put =
-        let q = subst (λ (x : ℕ). InFront area start area' start' (x ∷ [])) e put in
-        let last = numeral_digit b asked.low rest l in
-        record {
-          long = q.long ∙ p.long;
-          room = omega (arith, p.room, q.room, ap length last);
-          text = q.text ∙ ap (λ (t : List ℕ). t ++ drop start area) (sym last) ∙ p.whole;
-        }
-
--- ---- so many digits put one by one
-
--- the digits that are left, and what stands behind them, make all of them
-pub record CountedAt (area₀ : List ℕ) (at b k n : ℕ) (area : List ℕ) (left rest start : ℕ) : Type 0 where
-  pub long : length area ≡ length area₀
-  pub within : start ≤ at
-  pub room : start + k ≡ at + left
-  pub whole : digits_in b left rest ++ drop start area ≡ digits_in b k n ++ drop at area₀
-
-module _ (area₀ : List ℕ) (at b k n : ℕ) where
-  pub counted_start : CountedAt area₀ at b k n area₀ k n at
-  counted_start = record { long = refl; within = omega arith; room = refl; whole = refl }
-
-  module _ (area : List ℕ) (left rest start : ℕ) (p : CountedAt area₀ at b k n area left rest start) where
-    pub counted_room : DigitsAsked area₀ at b k → 0 < left → (0 < start) × (start ≤ length area)
-    counted_room asked l = omega (arith, asked.room, asked.within, p.long, p.within, p.room)
-
-    pub counted_next : 0 < left → (d : ℕ) → d ≡ digit (rest % b) → (area' : List ℕ) (start' : ℕ) → InFront area start area' start' (d ∷ [])
-        → CountedAt area₀ at b k n area' (left - 1) (rest / b) start'
-    unfolding digits_in
-    counted_next l d e area' start' put =
-        let q = subst (λ (x : ℕ). InFront area start area' start' (x ∷ [])) e put in
-        let front = digits_in b (left - 1) (rest / b) in
-        let back : suc (left - 1) ≡ left = omega arith in
-        record {
-          long = q.long ∙ p.long;
-          within = omega (arith, p.within, q.room);
-          room = omega (arith, p.room, q.room);
-          whole =
-              ap (λ (t : List ℕ). front ++ t) q.text
-              ∙ sym (append_assoc front (digit (rest % b) ∷ []) (drop start area))
-              ∙ ap (λ (j : ℕ). digits_in b j rest ++ drop start area) back
-              ∙ p.whole;
-        }
-
-    pub counted_end : left ≤ 0 → InFront area₀ at area start (digits_in b k n)
-    unfolding digits_in
-    counted_end none =
-        let zero_left : 0 ≡ left = omega arith in
-        record {
-          long = p.long;
-          room = omega (arith, p.room, length_digits b k n);
-          text = ap (λ (j : ℕ). digits_in b j rest ++ drop start area) zero_left ∙ p.whole;
-        }
+pub less_left : (b rest q : ℕ) → 2 ≤ b → b ≤ rest → q ≡ rest / b → q < rest
+less_left b rest q low l e = let less = div-lt_self {n = rest} {k = b} (omega arith) low in omega arith

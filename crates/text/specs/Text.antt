@@ -1,5 +1,6 @@
 -- A text in a lent area, written from its end to its start.
 use Rattle.std.specs.Prelude.{ℕ, ◌+◌, ◌≤◌, ◌≡◌, List, ◌++◌, length, drop}
+use Rattle.text.specs.declared.area.Text.{Text}
 
 -- In area₀ a text begins at `at`. In `area` it begins at `start`, with `new` in front of what there was.
 pub record InFront (area₀ : List ℕ) (at : ℕ) (area : List ℕ) (start : ℕ) (new : List ℕ) : Type 0 where
@@ -7,14 +8,18 @@ pub record InFront (area₀ : List ℕ) (at : ℕ) (area : List ℕ) (start : �
   pub room : start + length new ≡ at
   pub text : drop start area ≡ new ++ drop at area₀
 
--- the same, where the new part has no more bytes than a bound
-pub record PutWithin (most : ℕ) (area₀ : List ℕ) (at : ℕ) (area : List ℕ) (start : ℕ) (new : List ℕ) : Type 0 where
-  pub put : InFront area₀ at area start new
-  pub within : at ≤ start + most
+-- `new` is put in front of the text, in the same area
+pub record Put (before : Text) (new : List ℕ) (after : Text) : Type 0 where
+  pub same_reference : after.area.ghost_name ≡ before.area.ghost_name
+  pub front : InFront before.area.now before.begin after.area.now after.begin new
 
--- what a writer of k digits asks: a base with digits, and room in front of the text that begins at `at`
-pub record DigitsAsked (area : List ℕ) (at b k : ℕ) : Type 0 where
+-- the same, where the new part has no more bytes than a bound
+pub record PutWithin (most : ℕ) (before : Text) (new : List ℕ) (after : Text) : Type 0 where
+  pub put : Put before new after
+  pub within : before.begin ≤ after.begin + most
+
+-- what a writer of k digits asks: a base with digits, and room in front of the text
+pub record DigitsAsked (before : Text) (b k : ℕ) : Type 0 where
   pub low : 2 ≤ b
   pub high : b ≤ 16
-  pub room : k ≤ at
-  pub within : at ≤ length area
+  pub room : k ≤ before.begin

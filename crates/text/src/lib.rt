@@ -2,5 +2,6 @@
 // its start, each piece in front of what is there.
 #![tactic(auto)]
 
+pub mod area;
 pub mod bytes;
 pub mod number;

@@ -1,9 +1,9 @@
 // Numbers as text: without leading zeros, or in so many digits.
-ghost use Rattle.std.specs.Prelude.{◌≡◌, ◌<◌, length};
+ghost use Rattle.std.specs.Prelude.{◌≡◌, ◌<◌, ◌/◌, ◌%◌, [], ◌∷◌, length};
 ghost use Rattle.text.specs.Number.{digit, numeral, digits_in};
-ghost use Rattle.text.specs.Text.{InFront, DigitsAsked};
+ghost use Rattle.text.specs.Text.{Put, DigitsAsked};
 
-use crate::bytes::put_byte;
+use crate::area::Text;
 
 // The bases that numbers are written in.
 pub const DECIMAL: u64 = 10;
@@ -26,32 +26,37 @@ fn digit_of(d: u64) -> u8
     LETTERS_FROM + d as u8
 }
 
-// Puts the numeral of `n` in front of the text that begins at `at`.
-pub fn put_numeral(text: &mut [u8], at: usize, base: u64, n: u64) -> usize
-    requires { DigitsAsked text.old at base (length (numeral base n)) }
-    ensures { InFront text.old at text.new result (numeral base n) }
-{
-    let mut rest = n;
-    let mut begin = at;
-    while base <= rest {
-        begin = put_byte(text, begin, digit_of(rest % base));
-        rest = rest / base;
+impl Text<'_> {
+    // Puts the last digit of `n` in front of the text, and answers the number that the digits before it are.
+    fn put_last_digit<const BASE: u64>(&mut self, n: u64) -> u64
+        requires { DigitsAsked self.old BASE 1 }
+        ensures put { Put self.old (digit (n % BASE) ∷ []) self.new }
+        ensures rest { result ≡ n / BASE }
+    {
+        self.put_byte(digit_of(n % BASE));
+        n / BASE
     }
-    put_byte(text, begin, digit_of(rest))
-}
 
-// Puts the last `count` digits of `n` in front of the text that begins at `at`, zeros too.
-pub fn put_digits(text: &mut [u8], at: usize, base: u64, count: usize, n: u64) -> usize
-    requires { DigitsAsked text.old at base count }
-    ensures { InFront text.old at text.new result (digits_in base count n) }
-{
-    let mut left = count;
-    let mut rest = n;
-    let mut begin = at;
-    while 0 < left {
-        left -= 1;
-        begin = put_byte(text, begin, digit_of(rest % base));
-        rest = rest / base;
+    // Puts the numeral of `n` in front of the text.
+    pub fn put_numeral<const BASE: u64>(&mut self, n: u64)
+        requires { DigitsAsked self.old BASE (length (numeral BASE n)) }
+        ensures { Put self.old (numeral BASE n) self.new }
+    {
+        let mut rest = n;
+        while BASE <= rest {
+            rest = self.put_last_digit::<BASE>(rest);
+        }
+        self.put_last_digit::<BASE>(rest);
     }
-    begin
+
+    // Puts the last `count` digits of `n` in front of the text, zeros too.
+    pub fn put_digits<const BASE: u64>(&mut self, count: usize, n: u64)
+        requires { DigitsAsked self.old BASE count }
+        ensures { Put self.old (digits_in BASE count n) self.new }
+    {
+        let mut rest = n;
+        for _ in 0..count {
+            rest = self.put_last_digit::<BASE>(rest);
+        }
+    }
 }

@@ -1,22 +1,12 @@
 -- `card_text::line::put_line` meets its contract: the line's end, the numbers and the sequence's number, each in front of the one before.
 -- Assumes nothing.
-use native.Mathlib.Omega.{arith}
+use Rattle.std.proofs.Common.{arith}
 use Rattle.card_text.proofs.Lines.{decimal_asked, line_put}
-use Rattle.card_text.specs.Writers.{numbers_of}
 use Rattle.card_text.proofs.line.put_line.Goals as goal
 
 pub put_numeral-requires : goal.put_numeral-requires
 put_numeral-requires c =
-    let numbers = c in
-    let end = numbers in
-    let start = end in
-    let put = numbers.put_numbers-numbers.ensures in
-    decimal_asked _ _ _ start.ranges.sequence.fits (omega (arith, put.put, put.within, end.put_byte-end.ensures, start.requires))
-    (omega (arith, put.put, end.put_byte-end.ensures, start.requires))
+    decimal_asked _ _ c.ranges.sequence.fits (omega (arith, c.put_byte.ensures.front.room, c.put_numbers.ensures.within))
 
 pub returns : goal.returns
-returns c =
-    let numbers = c in
-    let end = numbers in
-    let start = end in
-    line_put (numbers_of start.args.cards.now start.args.sequence) _ _ _ _ _ _ _ _ _ start.ranges.sequence.fits end.put_byte-end.ensures numbers.put_numbers-numbers.ensures c.put_numeral.ensures
+returns c = line_put _ _ _ _ _ _ c.ranges.sequence.fits c.put_byte.ensures c.put_numbers.ensures c.put_numeral.ensures

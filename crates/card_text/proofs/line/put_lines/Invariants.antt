@@ -5,7 +5,4 @@ use Rattle.card_text.proofs.Lines.{LinesAt}
 use Rattle.card_text.proofs.line.put_lines.Given as goal
 
 abbrev pub invariant-loop-c : goal.invariant-loop-c
-invariant-loop-c l = LinesAt (numbers_of l.cards) l.initial.text l.at l.n l.text l.begin l.c
-
-abbrev pub decreases-loop-c : goal.decreases-loop-c
-decreases-loop-c l = l.c
+invariant-loop-c l = LinesAt (numbers_of l.cards) l.n l.initial.text l.c l.text

@@ -1,30 +1,29 @@
--- `card_text::line::put_low` meets its contract: from the lowest word on.
+-- `card_text::line::put_low` meets its contract: the digits of the words so far stand in front.
 -- Assumes nothing.
-use native.Mathlib.Omega.{arith}
-use Rattle.card_text.proofs.Number.{low_start, low_room, low_next, low_end}
+use Rattle.std.proofs.Common.{add-one, arith, subst, length, ◌≡◌}
+use Rattle.text.specs.Text.{Put}
+use Rattle.text.proofs.Text.{put_none, put_more}
+use Rattle.card_text.specs.Writers.{digits_below}
+use Rattle.card_text.proofs.Number.{length_below}
 use Rattle.card_text.proofs.line.put_low.Goals as goal
 
-pub loop-i-init : goal.loop-i-init
-loop-i-init c = let start = c in low_start start.args.words.now start.args.text.now start.args.at start.args.n
+pub loop-w-init : goal.loop-w-init
+unfolding digits_below
+loop-w-init c = put_none c.args.text.now
 
-pub put_digits-begin-requires : goal.put_digits-begin-requires
-put_digits-begin-requires c =
-    let turn = c in
-    let start = turn in
-    let room = low_room start.args.words.now start.args.text.now start.args.at start.args.n turn.loop-i.text turn.loop-i.begin turn.loop-i.i (omega arith) turn.loop-i.invariant start.requires.1 start.requires.2 in
-    record { low = omega arith; high = omega arith; room = omega (arith, room.0); within = room.1 }
+pub put_digits-requires : goal.put_digits-requires
+put_digits-requires c =
+    record {
+      low = omega arith;
+      high = omega arith;
+      room = omega (arith, length_below c.args.words.now c.loop-w.w-index, c.loop-w.invariant.front.room);
+    }
 
-pub loop-i-preserved : goal.loop-i-preserved
-loop-i-preserved c =
-    let turn = c in
-    let start = turn in
-    low_next start.args.words.now start.args.text.now start.args.at start.args.n turn.loop-i.text turn.loop-i.begin turn.loop-i.i (omega arith) turn.loop-i.invariant _ _ c.put_digits-begin.ensures
-
-pub shape_of-text : goal.shape_of-text
-shape_of-text c = c.loop-i.invariant.put.long
+pub loop-w-preserved : goal.loop-w-preserved
+unfolding digits_below
+loop-w-preserved c = rw add-one (put_more _ _ _ _ _ c.loop-w.invariant c.put_digits.ensures)
 
 pub returns : goal.returns
 returns c =
-    let turn = c in
-    let start = turn in
-    low_end start.args.words.now start.args.text.now start.args.at start.args.n turn.loop-i.text turn.loop-i.begin turn.loop-i.i (omega arith) turn.loop-i.invariant
+    let all : c.loop-w.w-index ≡ length c.args.words.now = omega arith in
+    subst (λ n. Put c.args.text.now (digits_below c.args.words.now n) c.loop-w.text) all c.loop-w.invariant

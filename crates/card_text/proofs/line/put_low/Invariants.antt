@@ -1,11 +1,8 @@
--- `card_text::line::put_low` meets its contract: from the lowest word on.
+-- `card_text::line::put_low` meets its contract: the digits of the words so far stand in front.
 -- Assumes nothing.
-use Prim.Native.Nat.{◌-◌}
-use Rattle.card_text.proofs.Number.{LowAt}
+use Rattle.text.specs.Text.{Put}
+use Rattle.card_text.specs.Writers.{digits_below}
 use Rattle.card_text.proofs.line.put_low.Given as goal
 
-abbrev pub invariant-loop-i : goal.invariant-loop-i
-invariant-loop-i l = LowAt l.words l.initial.text l.at l.n l.text l.begin l.i
-
-abbrev pub decreases-loop-i : goal.decreases-loop-i
-decreases-loop-i l = l.n - l.i
+abbrev pub invariant-loop-w : goal.invariant-loop-w
+invariant-loop-w l = Put l.initial.text (digits_below l.words l.w-index) l.text

@@ -1,47 +1,36 @@
 -- `card_text::line::put_number` meets its contract: the digits of the lower words, the numeral of the highest that is not 0, and a space.
 -- Assumes nothing.
-use borrow.Author.Rules.{scaled_Fits}
-use native.Mathlib.Omega.{arith}
+use Rattle.std.proofs.Common.{arith, refl, sym}
+use Rattle.std.proofs.lemmas.List.{length-take-le}
 use Rattle.card_text.proofs.Number.{top_within, top_asked, space_room, number_put}
 use Rattle.card_text.proofs.line.put_number.Goals as goal
 
-pub put_low-low-requires : goal.put_low-low-requires
-put_low-low-requires c =
-    let found = c in
-    let start = found in
-    omega (arith, top_within start.args.words.now start.requires.0 _ found.highest-top.ensures, start.requires)
+pub slice_bounds-put_low-end : goal.slice_bounds-put_low-end
+slice_bounds-put_low-end c =
+    let top = top_within c.args.words.now c.requires.0 c.highest-top.result c.highest-top.ensures in
+    sym (length-take-le c.highest-top.result c.args.words.now (omega (arith, top)))
+
+pub put_low-requires : goal.put_low-requires
+put_low-requires c =
+    let top = top_within c.args.words.now c.requires.0 c.highest-top.result c.highest-top.ensures in
+    omega (arith, top, length-take-le c.highest-top.result c.args.words.now (omega (arith, top)))
 
 pub offset_bounds-words-top : goal.offset_bounds-words-top
 offset_bounds-words-top c =
-    let found = c in
-    let start = found in
-    scaled_Fits _ _ 8 (top_within start.args.words.now start.requires.0 _ found.highest-top.ensures) start.well_formed.1.1.0.1
+    let top = top_within c.args.words.now c.requires.0 c.highest-top.result c.highest-top.ensures in
+    record { fits = omega (arith, top) }
 
 pub bounds-words-top : goal.bounds-words-top
-bounds-words-top c =
-    let found = c in
-    let start = found in
-    top_within start.args.words.now start.requires.0 _ found.highest-top.ensures
+bounds-words-top c = top_within c.args.words.now c.requires.0 c.highest-top.result c.highest-top.ensures
 
-pub put_numeral-begin-requires : goal.put_numeral-begin-requires
-put_numeral-begin-requires c =
-    let low = c in
-    let found = low in
-    let start = found in
-    top_asked start.args.words.now start.requires.0 _ found.highest-top.ensures (λ k. (c.type_inv.words k).fits) _ _ _ _ low.put_low-low.ensures start.requires.1 start.requires.2
+pub put_numeral-requires : goal.put_numeral-requires
+put_numeral-requires c =
+    top_asked c.args.words.now c.requires.0 _ c.highest-top.ensures (λ k. (c.type_inv.words k).fits) _ refl _ _ c.put_low.ensures c.requires.1
 
 pub put_byte-requires : goal.put_byte-requires
 put_byte-requires c =
-    let top = c in
-    let low = top in
-    let found = low in
-    let start = found in
-    space_room start.args.words.now start.requires.0 _ found.highest-top.ensures (λ k. (c.type_inv.words k).fits) _ _ _ _ low.put_low-low.ensures _ _ top.put_numeral-begin.ensures start.requires.1 start.requires.2
+    space_room c.args.words.now c.requires.0 _ c.highest-top.ensures (λ k. (c.type_inv.words k).fits) _ refl _ _ c.put_low.ensures _ c.put_numeral.ensures c.requires.1
 
 pub returns : goal.returns
 returns c =
-    let top = c in
-    let low = top in
-    let found = low in
-    let start = found in
-    number_put start.args.words.now start.requires.0 _ found.highest-top.ensures (λ k. (c.type_inv.words k).fits) _ _ _ _ low.put_low-low.ensures _ _ top.put_numeral-begin.ensures _ _ c.put_byte.ensures
+    number_put c.args.words.now c.requires.0 _ c.highest-top.ensures (λ k. (c.type_inv.words k).fits) _ refl _ _ c.put_low.ensures _ c.put_numeral.ensures _ c.put_byte.ensures

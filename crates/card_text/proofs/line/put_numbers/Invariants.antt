@@ -4,7 +4,4 @@ use Rattle.card_text.proofs.Lines.{ColumnsAt}
 use Rattle.card_text.proofs.line.put_numbers.Given as goal
 
 abbrev pub invariant-loop-k : goal.invariant-loop-k
-invariant-loop-k l = ColumnsAt l.cards l.sequence l.initial.text l.at l.text l.begin l.k
-
-abbrev pub decreases-loop-k : goal.decreases-loop-k
-decreases-loop-k l = l.k
+invariant-loop-k l = ColumnsAt l.cards l.sequence l.initial.text l.k l.text

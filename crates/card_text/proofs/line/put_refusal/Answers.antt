@@ -1,49 +1,25 @@
 -- `card_text::line::put_refusal` meets its contract: five pieces, each in front of the one before.
 -- Assumes nothing.
-use native.Mathlib.Omega.{arith}
+use Rattle.std.proofs.Common.{arith}
 use Rattle.card_text.proofs.Lines.{long_length, long_asked, refusal_put}
 use Rattle.card_text.proofs.line.put_refusal.Goals as goal
 
-pub put_numeral-after-requires : goal.put_numeral-after-requires
-put_numeral-after-requires c =
-    let end = c in
-    let start = end in
-    let put = end.put_byte-end.ensures in
-    long_asked _ _ _ start.ranges.position.fits (omega (arith, put, start.requires)) (omega (arith, put, start.requires))
-
-pub put_bytes-between-requires : goal.put_bytes-between-requires
-put_bytes-between-requires c =
-    let after = c in
-    let end = after in
-    let start = end in
-    omega (arith, after.put_numeral-after.ensures, end.put_byte-end.ensures, long_length start.args.position start.ranges.position.fits, start.requires)
-
-pub put_numeral-before-requires : goal.put_numeral-before-requires
-put_numeral-before-requires c =
-    let between = c in
-    let after = between in
-    let end = after in
-    let start = end in
-    let put = between.put_bytes-between.ensures in
-    let numeral = long_length start.args.position start.ranges.position.fits in
-    long_asked _ _ _ start.ranges.number.fits (omega (arith, put, after.put_numeral-after.ensures, end.put_byte-end.ensures, numeral, start.requires))
-    (omega (arith, put, after.put_numeral-after.ensures, end.put_byte-end.ensures, start.requires))
+pub put_numeral-requires : goal.put_numeral-requires
+put_numeral-requires c = long_asked _ _ c.ranges.position.fits (omega (arith, c.put_byte.ensures.front.room))
 
 pub put_bytes-requires : goal.put_bytes-requires
 put_bytes-requires c =
-    let before = c in
-    let between = before in
-    let after = between in
-    let end = after in
-    let start = end in
-    let position = long_length start.args.position start.ranges.position.fits in
-    let number = long_length start.args.number start.ranges.number.fits in
-    omega (arith, before.put_numeral-before.ensures, between.put_bytes-between.ensures, after.put_numeral-after.ensures, end.put_byte-end.ensures, position, number, start.requires)
+    omega (arith, long_length c.args.position c.ranges.position.fits, c.put_byte.ensures.front.room, c.put_numeral.ensures.front.room)
+
+pub put_numeral-requires-2 : goal.put_numeral-requires-2
+put_numeral-requires-2 c =
+    long_asked _ _ c.ranges.number.fits
+    (omega (arith, long_length c.args.position c.ranges.position.fits, c.put_byte.ensures.front.room, c.put_numeral.ensures.front.room, c.put_bytes.ensures.front.room))
+
+pub put_bytes-requires-2 : goal.put_bytes-requires-2
+put_bytes-requires-2 c =
+    omega (arith, long_length c.args.position c.ranges.position.fits, long_length c.args.number c.ranges.number.fits, c.put_byte.ensures.front.room, c.put_numeral.ensures.front.room, c.put_bytes.ensures.front.room, c.put_numeral-2.ensures.front.room)
 
 pub returns : goal.returns
 returns c =
-    let before = c in
-    let between = before in
-    let after = between in
-    let end = after in
-    refusal_put _ _ _ _ _ _ _ _ _ _ _ _ _ _ end.put_byte-end.ensures after.put_numeral-after.ensures between.put_bytes-between.ensures before.put_numeral-before.ensures c.put_bytes.ensures
+    refusal_put _ _ _ _ _ _ _ _ c.put_byte.ensures c.put_numeral.ensures c.put_bytes.ensures c.put_numeral-2.ensures c.put_bytes-2.ensures

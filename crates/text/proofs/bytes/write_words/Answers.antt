@@ -1,20 +1,13 @@
--- `text::bytes::write_words` meets its contract: from the last word to the first.
+-- `text::bytes::write_words` meets its contract: so many words stand in front, and those after them stay.
 -- Assumes nothing.
-use native.Mathlib.Omega.{arith}
-use Rattle.text.proofs.Words.{words_start, words_next, words_end}
+use Rattle.std.proofs.Common.{arith, ◌∙◌}
+use Rattle.text.proofs.Words.{word_at, words_turn, words_done}
 use Rattle.text.proofs.bytes.write_words.Goals as goal
-
-pub loop-i-init : goal.loop-i-init
-loop-i-init c = words_start c.args.bytes.now c.args.words.now
 
 pub loop-i-preserved : goal.loop-i-preserved
 loop-i-preserved c =
-    let turn = c in
-    let start = turn in
-    words_next start.args.bytes.now start.args.words.now start.requires turn.loop-i.words turn.loop-i.i (omega arith) turn.loop-i.invariant
-    c.word_of.result c.word_of.ensures
+    words_turn _ _ _ _ c.loop-i.invariant _ (omega arith) c.requires
+    (c.from_le_bytes.ensures ∙ word_at _ _ _ c.as_chunks.ensures.front c.loop-i-test.true)
 
 pub returns : goal.returns
-returns c =
-    let start = c in
-    words_end start.args.bytes.now start.args.words.now c.loop-i.words c.loop-i.i (omega arith) c.loop-i.invariant
+returns c = words_done c.args.bytes.now _ _ c.loop-i.i c.loop-i.invariant (omega arith) (omega arith)

@@ -1,0 +1,33 @@
+-- `text::area::Text::put_numeral` meets its contract: the numeral of what is left, put in front, makes the whole numeral.
+-- Assumes nothing.
+use Rattle.std.proofs.Common.{ap, length, arith}
+use Rattle.text.specs.Number.{numeral}
+use Rattle.text.proofs.Numeral.{numeral_some, length_more, put_numeral_more, put_numeral_last, less_left}
+use Rattle.text.proofs.area.Text.put_numeral.Goals as goal
+
+pub loop-rest-init : goal.loop-rest-init
+loop-rest-init g c = (c.requires.room, λ _ p. p)
+
+pub put_last_digit-rest-requires : goal.put_last_digit-rest-requires
+put_last_digit-rest-requires g c =
+    record { low = c.requires.low; high = c.requires.high; room = omega (arith, numeral_some g.row.BASE c.requires.low c.loop-rest.rest) }
+
+pub loop-rest-smaller : goal.loop-rest-smaller
+loop-rest-smaller g c =
+    less_left g.row.BASE c.loop-rest.rest _ c.requires.low c.loop-rest-test.true c.put_last_digit-rest.ensures.rest
+
+pub loop-rest-preserved : goal.loop-rest-preserved
+loop-rest-preserved g c =
+    let put = c.put_last_digit-rest.ensures.put in
+    let rest = c.put_last_digit-rest.ensures.rest in (
+      omega (arith, put.front.room, ap (λ n. length (numeral g.row.BASE n)) rest, length_more g.row.BASE c.requires.low c.loop-rest.rest c.loop-rest-test.true),
+      λ after p. c.loop-rest.invariant.1 after (put_numeral_more _ _ _ _ _ _ c.requires.low c.loop-rest-test.true put rest p),
+    )
+
+pub put_last_digit-requires : goal.put_last_digit-requires
+put_last_digit-requires g c =
+    record { low = c.requires.low; high = c.requires.high; room = omega (arith, numeral_some g.row.BASE c.requires.low c.loop-rest.rest) }
+
+pub returns : goal.returns
+returns g c =
+    c.loop-rest.invariant.1 _ (put_numeral_last _ _ _ _ c.requires.low c.loop-rest-test.false c.put_last_digit.ensures.put)
