@@ -20,7 +20,7 @@ use Rattle.row.specs.declared.words.Row.{Row}
 use Rattle.row.proofs.Bits.{rows_again}
 use Rattle.outcome.proofs.Stores.{row_same, row_other, row_again}
 use Rattle.callers.proofs.Calls.{calls_all}
-use Rattle.settling.proofs.Stale.{Local}
+use Rattle.settling.specs.Settling.{Local}
 
 -- ---- two tables with the same rows of the sequences called
 

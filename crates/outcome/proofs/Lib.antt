@@ -8,3 +8,4 @@ pub mod Filled
 pub mod Fill
 pub mod StepRows
 pub mod Calls
+pub mod Laws

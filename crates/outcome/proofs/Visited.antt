@@ -8,7 +8,7 @@ use mathlib.Core.List.{List}
 use lib.ListN.{length}
 use borrow.Author.Tests.{not-true, not-false}
 use Rattle.row.specs.Words.{row_words, no_row, row_in, with_row, same_rows}
-use Rattle.settling.proofs.Visits.{Lowers}
+use Rattle.settling.specs.Settling.{Lowers}
 use Rattle.walk.specs.Walk.{alternatives_at}
 use Rattle.reading.specs.Walks.{united_from}
 use Rattle.settling.specs.Settling.{Visit}

@@ -4,7 +4,7 @@ ghost use Rattle.library.specs.Library.{library_of};
 ghost use Rattle.outcome.specs.Area.{outcomes, OutcomesAsked};
 ghost use Rattle.row.specs.Words.{row_words};
 
-use crate::settle::settle;
+use crate::settle::RowVisits;
 use crate::steps::write_step_rows;
 use column::all_in;
 use image::answer::Head;
@@ -13,6 +13,7 @@ use library::checked::Accepted;
 use library::parts::sequences_part;
 use reading::read::Block;
 use row::words::ROW_WORDS;
+use settling::settle::Schedule;
 use tables::prepare::prepare_masks;
 use tables::size::{SMALL_SEQUENCES, SMALL_STEPS};
 
@@ -44,21 +45,22 @@ pub fn outcome_table(
     let n = h.sequences as usize;
     let words = ROW_WORDS * n;
     let all = all_in(h.facts as u64, number);
-    let block = Block {
-        number: number,
-        all: all,
-    };
     let part = sequences_part(image);
     prepare_masks(&Accepted { image, head: h }, number, masks);
     write_step_rows(all, masks, h.steps as usize, rows);
-    settle(
-        block,
-        rows,
+    let visits = RowVisits {
+        block: Block {
+            number: number,
+            all: all,
+        },
+        steps: rows,
         part,
         places,
-        callers,
-        &order[..n],
-        &mut table[..words],
+    };
+    let schedule = Schedule {
         n,
-    );
+        callers,
+        order: &order[..n],
+    };
+    visits.settle(&schedule, &mut table[..words]);
 }

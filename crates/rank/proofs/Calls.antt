@@ -15,7 +15,7 @@ use Rattle.general.specs.Tests.{All}
 use Rattle.general.specs.Scan.{every}
 use Rattle.callers.specs.Callers.{calls}
 use Rattle.callers.proofs.Calls.{calls_all}
-use Rattle.settling.proofs.Stale.{Local}
+use Rattle.settling.specs.Settling.{Local}
 use Rattle.question.specs.declared.asked.Asked.{Asked}
 use Rattle.rank.specs.Walk.{lowered_from, depth_from, fewest_from}
 use Rattle.slot.specs.Slots.{item_rank, rank_in, pass_in}

@@ -4,3 +4,4 @@ pub mod Walk
 pub mod Looks
 pub mod Settling
 pub mod Calls
+pub mod Laws

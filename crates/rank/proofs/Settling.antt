@@ -12,7 +12,7 @@ use Rattle.library.specs.Library.{Sequence, Alternative, alternatives_from}
 use Rattle.walk.specs.Walk.{alternatives_at}
 use Rattle.settling.specs.Settling as settling
 use Rattle.runs.specs.Run.{alternatives_of}
-use Rattle.settling.proofs.Visits.{Lowers}
+use Rattle.settling.specs.Settling.{Lowers}
 use Rattle.general.specs.Numbers.{total}
 use Rattle.chains.specs.Ranks.{Look}
 use Rattle.rank.specs.Walk.{lowered_from}

@@ -14,7 +14,8 @@ use Rattle.settling.specs.Settling.{here, next}
 use Rattle.runs.specs.Run.{alternatives_of, alternative_of}
 use Rattle.runs.specs.Touch.{untouched, Question}
 use Rattle.runs.proofs.Possible.{alternative_below}
-use Rattle.settling.proofs.Visits.{Lowers, reached_length}
+use Rattle.settling.specs.Settling.{Lowers}
+use Rattle.settling.proofs.Visits.{reached_length}
 use Rattle.chains.specs.Ranks.{Ranks, Look, lowered, Unlowered, Attained, Linked, Passing, unranked, has_mark, untouched_look, touch_look}
 use Rattle.chains.specs.Answer.{touch_answer, untouched_answer, ranks_in, answer}
 use Rattle.rank.specs.Visits.{visited, Visits, RanksSettled}

@@ -1,86 +1,54 @@
-// Ranks lowered in place, turn by turn, until no visit changes them.
-ghost use Rattle.std.specs.Prelude.{◌<◌};
-ghost use Rattle.settling.specs.Settling.{Scheduled, Visit, Swept, Settles};
+// The visits of a table of ranks: a visit lowers the rank of a sequence by its alternatives. Settled by them, no visit lowers a rank.
+ghost use Rattle.settling.specs.Settling.{Scheduled, Settles};
 ghost use Rattle.general.specs.Numbers.{total};
 ghost use Rattle.rank.specs.Tables.{RanksVisitable, visited_ranks};
 
 use crate::read::lowered_rank;
-use callers::sets::{ALL_SEQUENCES, SET_WORDS};
 use question::asked::Asked;
-use settling::turns::{after_visit, first, next};
+use settling::settle::{Schedule, Visits};
 
-// Lowers the rank of sequence `c` by its alternatives. Answers whether it fell.
-fn visit(
-    q: Asked,
-    ahead: &[u32],
-    behind: &[u32],
-    part: &[u32],
-    places: &[u32],
-    ranks: &mut [u32],
-    n: usize,
-    c: usize,
-) -> bool
-    requires { RanksVisitable q n ahead.now behind.now ranks.old part.now places.now × (c < n) }
-    ensures { Visit (visited_ranks q ahead.now behind.now part.now places.now) total ranks.old c ranks.new result }
-{
-    let old = ranks[c];
-    let at = places[c] as usize + 1;
-    let new = lowered_rank(q, ahead, behind, ranks, part, at, old);
-    ranks[c] = new;
-    new < old
+// What visits go by: the question, the ranks ahead and behind, the words of the sequences' part and the place of each sequence there.
+#[derive(Clone, Copy)]
+pub struct RankVisits<'a> {
+    pub q: Asked,
+    pub ahead: &'a [u32],
+    pub behind: &'a [u32],
+    pub part: &'a [u32],
+    pub places: &'a [u32],
 }
 
-// Visits each sequence that the order names once. At first every sequence is stale, and afterwards those that a visit may still change.
-fn sweep(
-    q: Asked,
-    ahead: &[u32],
-    behind: &[u32],
-    part: &[u32],
-    places: &[u32],
-    callers: &[u64],
-    order: &[usize],
-    ranks: &mut [u32],
-    stale: &mut [u64],
-    n: usize,
-)
-    requires { RanksVisitable q n ahead.now behind.now ranks.old part.now places.now × Scheduled n part.now places.now callers.now order.now × Swept (visited_ranks q ahead.now behind.now part.now places.now) n ranks.old ranks.old stale.old }
-    ensures { Swept (visited_ranks q ahead.now behind.now part.now places.now) n ranks.old ranks.new stale.new }
-{
-    let mut i = 0;
-    while i < order.len() {
-        let c = order[i];
-        i += 1;
-        if c < n {
-            let fell = visit(q, ahead, behind, part, places, ranks, n, c);
-            after_visit(stale, callers, c, fell);
-        }
+impl Visits for RankVisits<'_> {
+    type Word = u32;
+
+    ghost value = { λ t. t };
+
+    ghost part = { λ v. v.part.now };
+
+    ghost places = { λ v. v.places.now };
+
+    ghost asked = { λ v n t. RanksVisitable v.q n v.ahead.now v.behind.now t v.part.now v.places.now };
+
+    ghost visited = { λ v. visited_ranks v.q v.ahead.now v.behind.now v.part.now v.places.now };
+
+    ghost weight = { total };
+
+    // Lowers the rank of sequence `c` by its alternatives. Answers whether it fell.
+    fn visit(&self, ranks: &mut [u32], c: usize) -> bool {
+        let old = ranks[c];
+        let at = self.places[c] as usize + 1;
+        let new = lowered_rank(self.q, self.ahead, self.behind, ranks, self.part, at, old);
+        ranks[c] = new;
+        new < old
     }
+
 }
 
-// Visits all sequences in the order, and then those that are stale, against the order and in it in turn, until none is.
-pub fn settle(
-    q: Asked,
-    ahead: &[u32],
-    behind: &[u32],
-    part: &[u32],
-    places: &[u32],
-    callers: &[u64],
-    order: &[usize],
-    ranks: &mut [u32],
-    n: usize,
-)
-    requires { RanksVisitable q n ahead.now behind.now ranks.old part.now places.now × Scheduled n part.now places.now callers.now order.now }
-    ensures { Settles (visited_ranks q ahead.now behind.now part.now places.now) n ranks.old ranks.new }
-{
-    let mut stale = [ALL_SEQUENCES; SET_WORDS];
-    sweep(
-        q, ahead, behind, part, places, callers, order, ranks, &mut stale, n,
-    );
-    let mut turn = first(order, &stale, n);
-    while turn.number < n {
-        let c = turn.number;
-        let fell = visit(q, ahead, behind, part, places, ranks, n, c);
-        after_visit(&mut stale, callers, c, fell);
-        turn = next(order, &stale, n, turn);
+impl RankVisits<'_> {
+    // Visits sequences until no visit lowers a rank.
+    pub fn settle(&self, by: &Schedule, ranks: &mut [u32])
+        requires { RanksVisitable self.now.q by.now.n self.now.ahead.now self.now.behind.now ranks.old self.now.part.now self.now.places.now × Scheduled by.now.n self.now.part.now self.now.places.now by.now.callers.now by.now.order.now }
+        ensures { Settles (visited_ranks self.now.q self.now.ahead.now self.now.behind.now self.now.part.now self.now.places.now) by.now.n ranks.old ranks.new }
+    {
+        by.settle(self, ranks);
     }
 }

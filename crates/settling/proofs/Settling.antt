@@ -9,17 +9,17 @@ use mathlib.Core.Bool.{Bool, true, false, ◌&&◌, false≢true, true≢false}
 use lib.Dec.{ltb}
 use borrow.Author.Tests.{ltb-true, lt-ltb}
 use Rattle.general.proofs.Bools.{and_parts}
-use mathlib.Core.List.{List, [], ◌∷◌}
+use mathlib.Core.List.{List}
 use lib.ListN.{length, get_or}
 use Rattle.general.proofs.Scan.{count_passing, count_all, count_more}
 use Rattle.general.specs.Numbers.{Complete}
-use Rattle.callers.specs.Callers.{in_set, is_caller, calls, Removed, United}
+use Rattle.callers.specs.Callers.{every_sequence, in_set, is_caller, calls, Removed, United}
 use Rattle.callers.proofs.CallerSets.{united_out}
-use Rattle.settling.specs.Settling.{here, Visit, Settles, Swept, Scheduled}
-use Rattle.settling.specs.Turns.{place_of, number_at, to_visit, Passed, StalePlace, TurnAt, NextTurn, StaleAfter}
-use Rattle.settling.specs.declared.turns.Turn.{Turn}
-use Rattle.settling.proofs.Visits.{Lowers, place_back, reached_then, reached_visit, reached_length}
-use Rattle.settling.proofs.Stale.{Local, fresh_start, fresh_turn}
+use Rattle.settling.specs.Settling.{here, Visit, Settles, Swept, Scheduled, Lowers, Local}
+use Rattle.settling.specs.Turns.{place_of, number_at, to_visit, Passed, Looked, NextTurn, StaleAfter}
+use Rattle.std.proofs.Common.{Option, Some, None}
+use Rattle.settling.proofs.Visits.{place_back, reached_then, reached_visit, reached_length}
+use Rattle.settling.proofs.Stale.{fresh_start, fresh_turn}
 
 -- ---- the next turn
 
@@ -32,29 +32,22 @@ pub passed_more : (n : ℕ) (order stale : List ℕ) (forward : Bool) (at i : �
 passed_more n order stale forward at i fresh p j from to within =
     elim (ℕ_discrete j i) [ yes same ↦ rw same fresh | no other ↦ p j from (omega arith) within ]
 
--- the turn at a place that was found
-pub turn_found : (n : ℕ) (order stale : List ℕ) (forward : Bool) (at r : ℕ) (turn : Turn) → StalePlace n order stale forward at r → r < length order
-    → TurnAt order forward r turn → NextTurn n stale turn
-turn_found n order stale forward at r turn p l is =
-    let (below, chosen) = and_parts (ltb (number_at order forward r) n) (in_set stale (number_at order forward r)) (p.found l) in
-    let low = ltb-true (number_at order forward r) n below in
-    record { chosen = λ under. rw is chosen; none = λ high. absurd (omega arith) }
-
 -- an order that names all numbers, and no place with one that is to be visited
-pub turn_none : (n : ℕ) (order stale : List ℕ) (forward : Bool) (r : ℕ) (turn : Turn) → Complete order n → StalePlace n order stale forward 0 r
-    → length order ≤ r → turn.number ≡ n → NextTurn n stale turn
-turn_none n order stale forward r turn complete p high is =
-    record {
-      chosen = λ below. absurd (omega arith);
-      none = λ above c low.
-          let named = complete c low in
-          let there = place_back forward (length order) named.place named.within in
-          let within = there.0 in
-          let number : number_at order forward (place_of forward (length order) named.place) ≡ c =
-          ap (λ (i : ℕ). get_or order i 0) there.1 ∙ named.number in
-          ap (λ (b : Bool). b && in_set stale c) (sym (lt-ltb c n low))
-          ∙ subst (λ (d : ℕ). to_visit n stale d ≡ false) number (p.passed _ (omega arith) (omega arith) within);
-    }
+pub none_left : (n : ℕ) (order stale : List ℕ) (forward : Bool) → Complete order n → Passed n order stale forward 0 (length order) → (c : ℕ) → c < n
+    → in_set stale c ≡ false
+none_left n order stale forward complete passed c low =
+    let named = complete c low in
+    let there = place_back forward (length order) named.place named.within in
+    let within = there.0 in
+    let number : number_at order forward (place_of forward (length order) named.place) ≡ c =
+    ap (λ (i : ℕ). get_or order i 0) there.1 ∙ named.number in
+    ap (λ (b : Bool). b && in_set stale c) (sym (lt-ltb c n low))
+    ∙ subst (λ (d : ℕ). to_visit n stale d ≡ false) number (passed _ (omega arith) within within)
+
+-- a look from place 0 on
+pub next_turn : (n : ℕ) (order stale : List ℕ) (forward : Bool) (found : Option ℕ) → Complete order n → Looked n order stale forward 0 found → NextTurn n stale found
+next_turn n order stale forward (Some c) complete found = found
+next_turn n order stale forward None complete passed = none_left n order stale forward complete passed
 
 -- ---- after a visit
 
@@ -73,34 +66,26 @@ after_changed callers c s s' s'' out words =
 -- ---- turn by turn
 
 -- at first every number is stale
-pub swept_start : (visit : List ℕ → ℕ → List ℕ) (n : ℕ) (t : List ℕ) → n ≤ 256
-    → Swept visit n t t (18446744073709551615 ∷ 18446744073709551615 ∷ 18446744073709551615 ∷ 18446744073709551615 ∷ [])
-swept_start visit n t few = record { reached = here; fresh = fresh_start visit n t few; four = refl }
+pub swept_start : (visit : List ℕ → ℕ → List ℕ) (n : ℕ) (t : List ℕ) → n ≤ 256 → Swept visit n t t every_sequence
+swept_start visit n t few = record { reached = here; fresh = fresh_start visit n t few }
 
 -- from where a sweep led to
 pub swept_on : {visit : List ℕ → ℕ → List ℕ} {n : ℕ} {t₀ t stale : List ℕ} → Swept visit n t₀ t stale → Swept visit n t t stale
-swept_on p = record { reached = here; fresh = p.fresh; four = p.four }
+swept_on p = record { reached = here; fresh = p.fresh }
 
 -- the table keeps its length
 pub swept_twice : {visit : List ℕ → ℕ → List ℕ} {weight : List ℕ → ℕ} {n room : ℕ} → Lowers visit weight n room → {t₀ t u stale stale' : List ℕ}
     → Swept visit n t₀ t stale → Swept visit n t u stale' → length u ≡ length t₀
 swept_twice laws p q = reached_length laws q.reached ∙ reached_length laws p.reached
 
-pub settles_after : {visit : List ℕ → ℕ → List ℕ} {n : ℕ} {t₀ t stale u : List ℕ} → Swept visit n t₀ t stale → Settles visit n t u → Settles visit n t₀ u
-settles_after p q = record { reached = reached_then p.reached q.reached; settled = q.settled }
-
--- what holds at the head of the loop: visits lead to the table, those that are not stale would not change it, and the turn is the next one
-pub record Settling (visit : List ℕ → ℕ → List ℕ) (n : ℕ) (t₀ t stale : List ℕ) (turn : Turn) : Type 0 where
-  pub swept : Swept visit n t₀ t stale
-  pub next : NextTurn n stale turn
+-- no number is stale
+pub settling_end : {visit : List ℕ → ℕ → List ℕ} {n : ℕ} {t₀ t u stale stale' : List ℕ} → Swept visit n t₀ t stale → Swept visit n t u stale'
+    → ((c : ℕ) → c < n → in_set stale' c ≡ false) → Settles visit n t₀ u
+settling_end p q none = record { reached = reached_then p.reached q.reached; settled = λ c l. q.fresh c l (none c l) }
 
 -- what falls with each turn: the weight of the table, and while that stays the number of stale sequences
 abbrev pub load : (List ℕ → ℕ) → List ℕ → List ℕ → ℕ
 load weight t stale = 257 * weight t + count_passing (in_set stale) 256
-
--- no number is stale
-pub settling_end : {visit : List ℕ → ℕ → List ℕ} {n : ℕ} (t₀ t stale : List ℕ) (turn : Turn) → n ≤ turn.number → Settling visit n t₀ t stale turn → Settles visit n t₀ t
-settling_end t₀ t stale turn high p = record { reached = p.swept.reached; settled = λ c l. p.swept.fresh c l (p.next.none high c l) }
 
 -- the sets of callers say which sequences below n call which
 caller_is : {n : ℕ} {part places callers order : List ℕ} → Scheduled n part places callers order → (c d : ℕ) → c < n → d < n
@@ -109,13 +94,11 @@ caller_is {n} {part} {places} by c d l m =
     by.written d c (omega (arith, by.few)) (omega (arith, by.room))
     ∙ ap (λ (b : Bool). b && calls part places c d) (lt-ltb c n l)
 
-module _ {visit : List ℕ → ℕ → List ℕ} {weight : List ℕ → ℕ} {n : ℕ} where
-  pub settling_less : (t₀ t stale : List ℕ) (turn : Turn) (callers t' stale' : List ℕ) (changed : Bool) → n ≤ 256 → turn.number < n
-      → Settling visit n t₀ t stale turn → Visit visit weight t turn.number t' changed → StaleAfter callers turn.number stale stale' changed
-      → load weight t' stale' < load weight t stale
-  settling_less t₀ t stale turn callers t' stale' true few low p v after = omega (arith, v.falls refl, count_all (in_set stale') 256)
-  settling_less t₀ t stale turn callers t' stale' false few low p v after =
-      let c = turn.number in
+module _ {visit : List ℕ → ℕ → List ℕ} {weight : List ℕ → ℕ} where
+  pub settling_less : (t stale : List ℕ) (c : ℕ) (callers t' stale' : List ℕ) (changed : Bool) → c < 256 → in_set stale c ≡ true
+      → Visit visit weight t c t' changed → StaleAfter callers c stale stale' changed → load weight t' stale' < load weight t stale
+  settling_less t stale c callers t' stale' true few chosen v after = omega (arith, v.falls refl, count_all (in_set stale') 256)
+  settling_less t stale c callers t' stale' false few chosen v after =
       let out = after.unchanged refl in
       let fewer : count_passing (in_set stale') 256 < count_passing (in_set stale) 256 =
       count_more (in_set stale') (in_set stale)
@@ -123,14 +106,14 @@ module _ {visit : List ℕ → ℕ → List ℕ} {weight : List ℕ → ℕ} {n 
         | yes same ↦ absurd (false≢true (sym out.out ∙ subst (λ (k : ℕ). in_set stale' k ≡ true) same e))
         | no other ↦ sym (out.others d other) ∙ e
       ])
-      256 c (omega arith) out.out (p.next.chosen low) in
+      256 c few out.out chosen in
       omega (arith, ap weight (v.stays refl))
 
   -- a visit of a sequence looks at those that it calls
-  module _ {room : ℕ} {part places callers order : List ℕ} (local : Local visit (calls part places) n room) (by : Scheduled n part places callers order) where
+  module _ {n room : ℕ} {part places callers order : List ℕ} (local : Local visit (calls part places) n room) (by : Scheduled n part places callers order) where
     pub swept_turn : (t₀ t stale : List ℕ) (c : ℕ) (t' stale' : List ℕ) (changed : Bool) → room ≤ length t → c < n → Swept visit n t₀ t stale
-        → Visit visit weight t c t' changed → StaleAfter callers c stale stale' changed → length stale' ≡ length stale → Swept visit n t₀ t' stale'
-    swept_turn t₀ t stale c t' stale' changed long low p v after same =
+        → Visit visit weight t c t' changed → StaleAfter callers c stale stale' changed → Swept visit n t₀ t' stale'
+    swept_turn t₀ t stale c t' stale' changed long low p v after =
         let few = by.few in
         record {
           reached = reached_visit t c t' changed low p.reached v;
@@ -140,12 +123,4 @@ module _ {visit : List ℕ → ℕ → List ℕ} {weight : List ℕ → ℕ} {n 
                 after.others d (omega arith) e,
                 λ q. sym (caller_is by d c l low) ∙ after.called q d (omega arith) e,
               ));
-          four = same ∙ p.four;
         }
-
-    pub settling_turn : (t₀ t stale : List ℕ) (turn : Turn) (t' stale' : List ℕ) (changed : Bool) (turn' : Turn) → room ≤ length t
-        → turn.number < n → Settling visit n t₀ t stale turn → Visit visit weight t turn.number t' changed
-        → StaleAfter callers turn.number stale stale' changed → length stale' ≡ length stale → NextTurn n stale' turn'
-        → Settling visit n t₀ t' stale' turn'
-    settling_turn t₀ t stale turn t' stale' changed turn' long low p v after same next =
-        record { swept = swept_turn t₀ t stale turn.number t' stale' changed long low p.swept v after same; next = next }

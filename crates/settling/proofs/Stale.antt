@@ -5,17 +5,11 @@ use native.Mathlib.Omega.{arith}
 use native.Mathlib.Decide.{ℕ_discrete}
 use mathlib.Core.Path.{◌≡◌, refl, sym, ◌∙◌, subst}
 use mathlib.Core.Bool.{Bool, true, false, false≢true}
-use mathlib.Core.List.{List, [], ◌∷◌}
+use mathlib.Core.List.{List}
 use lib.ListN.{length}
-use Rattle.callers.specs.Callers.{in_set}
+use Rattle.callers.specs.Callers.{in_set, every_sequence}
 use Rattle.callers.proofs.CallerSets.{all_in_lem}
-use Rattle.settling.specs.Settling.{Visit, Fresh}
-
--- what the laws ask of a visit: one that changes nothing still changes nothing after a visit of a number that it does not call, and neither
--- does a second visit of a number that does not call itself
-pub record Local (visit : List ℕ → ℕ → List ℕ) (calls : ℕ → ℕ → Bool) (n room : ℕ) : Type 0 where
-  pub stays : (t : List ℕ) (c d : ℕ) → c < n → d < n → room ≤ length t → calls d c ≡ false → visit t d ≡ t → visit (visit t c) d ≡ visit t c
-  pub again : (t : List ℕ) (c : ℕ) → c < n → room ≤ length t → calls c c ≡ false → visit (visit t c) c ≡ visit t c
+use Rattle.settling.specs.Settling.{Visit, Fresh, Local}
 
 module _ {visit : List ℕ → ℕ → List ℕ} {weight : List ℕ → ℕ} {n room : ℕ} {calls : ℕ → ℕ → Bool} (local : Local visit calls n room) where
   -- after a visit of number c the others that are not stale were so before, and where it changed something none of them calls c
@@ -38,5 +32,5 @@ module _ {visit : List ℕ → ℕ → List ℕ} {weight : List ℕ → ℕ} {n 
 
 -- at first every sequence is stale
 pub fresh_start : (visit : List ℕ → ℕ → List ℕ) (n : ℕ) (t : List ℕ) → n ≤ 256
-    → Fresh visit n (in_set (18446744073709551615 ∷ 18446744073709551615 ∷ 18446744073709551615 ∷ 18446744073709551615 ∷ [])) t
+    → Fresh visit n (in_set every_sequence) t
 fresh_start visit n t few c l e = absurd (false≢true (sym e ∙ all_in_lem c (omega arith)))

@@ -8,13 +8,8 @@ use mathlib.Core.Bool.{Bool, true, false}
 use mathlib.Core.List.{List}
 use lib.ListN.{length}
 use mir.Val.{bool_byte}
-use Rattle.settling.specs.Settling.{Visit, Reached, here, next, Pass}
+use Rattle.settling.specs.Settling.{Visit, Reached, here, next, Pass, Lowers}
 use Rattle.settling.specs.Turns.{place_of}
-
--- what the laws ask of a visit: it keeps the length, and does not raise the weight of a table that has the room
-pub record Lowers (visit : List ℕ → ℕ → List ℕ) (weight : List ℕ → ℕ) (n room : ℕ) : Type 0 where
-  pub keeps : (t : List ℕ) (c : ℕ) → length (visit t c) ≡ length t
-  pub lowers : (t : List ℕ) (c : ℕ) → c < n → room ≤ length t → weight (visit t c) ≤ weight t
 
 -- visits that agree lead to the same tables
 pub reached_same : (visit visit' : List ℕ → ℕ → List ℕ) (n : ℕ) → ((t : List ℕ) (c : ℕ) → c < n → visit t c ≡ visit' t c) → {t s : List ℕ} → Reached visit n t s

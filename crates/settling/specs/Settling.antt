@@ -40,11 +40,30 @@ module _ (visit : List ℕ → ℕ → List ℕ) where
 abbrev pub Fresh : (List ℕ → ℕ → List ℕ) → ℕ → (ℕ → Bool) → List ℕ → Type 0
 Fresh visit n stale table = (c : ℕ) → c < n → stale c ≡ false → visit table c ≡ table
 
+-- what the laws ask of a visit: it keeps the length, and does not raise the weight of a table that has the room
+pub record Lowers (visit : List ℕ → ℕ → List ℕ) (weight : List ℕ → ℕ) (n room : ℕ) : Type 0 where
+  pub keeps : (t : List ℕ) (c : ℕ) → length (visit t c) ≡ length t
+  pub lowers : (t : List ℕ) (c : ℕ) → c < n → room ≤ length t → weight (visit t c) ≤ weight t
+
+-- and one that changes nothing still changes nothing after a visit of a number that it does not call, and neither does a second visit of a
+-- number that does not call itself
+pub record Local (visit : List ℕ → ℕ → List ℕ) (calls : ℕ → ℕ → Bool) (n room : ℕ) : Type 0 where
+  pub stays : (t : List ℕ) (c d : ℕ) → c < n → d < n → room ≤ length t → calls d c ≡ false → visit t d ≡ t → visit (visit t c) d ≡ visit t c
+  pub again : (t : List ℕ) (c : ℕ) → c < n → room ≤ length t → calls c c ≡ false → visit (visit t c) c ≡ visit t c
+
+-- the laws of the visits of the numbers below n, in a table t of which is asked what they ask: it has the room, and a table of its length can be
+-- visited too
+pub record VisitLaws (visit : List ℕ → ℕ → List ℕ) (weight : List ℕ → ℕ) (calls : ℕ → ℕ → Bool) (n : ℕ) (asked : List ℕ → Type 0) (t : List ℕ) : Type 0 where
+  pub room : ℕ
+  pub long : room ≤ length t
+  pub lowers : Lowers visit weight n room
+  pub local : Local visit calls n room
+  pub kept : (u : List ℕ) → length u ≡ length t → asked u
+
 -- a table that visits lead to, and the set of the numbers that are stale in it
 pub record Swept (visit : List ℕ → ℕ → List ℕ) (n : ℕ) (before after stale : List ℕ) : Type 0 where
   pub reached : Reached visit n before after
   pub fresh : Fresh visit n (in_set stale) after
-  pub four : length stale ≡ set_words
 
 -- what settling a table of the sequences below n goes by: an order that names each of them, and the sets of their callers
 pub record Scheduled (n : ℕ) (part places callers order : List ℕ) : Type 0 where

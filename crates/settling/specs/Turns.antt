@@ -1,8 +1,7 @@
 -- Turns: a number that is stale is visited next, until none is; and what is stale after a visit.
-use Rattle.std.specs.Prelude.{ℕ, ◌-◌, ◌≤◌, ◌<◌, ◌≡◌, Bool, true, false, cond, ◌&&◌, ltb, List, length, get_or}
+use Rattle.std.specs.Prelude.{ℕ, ◌-◌, ◌≤◌, ◌<◌, ◌≡◌, Bool, true, false, cond, ◌&&◌, ltb, List, length, get_or, Option, Some, None}
 use Rattle.image.specs.Word.{most_sequences}
 use Rattle.callers.specs.Callers.{in_set, is_caller, Removed}
-use Rattle.settling.specs.declared.turns.Turn.{Turn}
 
 -- the place that comes at turn i: first to last, or last to first
 abbrev pub place_of : Bool → ℕ → ℕ → ℕ
@@ -21,19 +20,15 @@ abbrev pub Passed : ℕ → List ℕ → List ℕ → Bool → ℕ → ℕ → T
 Passed n order stale forward at i =
     (j : ℕ) → at ≤ j → j < i → j < length order → to_visit n stale (number_at order forward j) ≡ false
 
--- place r is the first from `at` on that has a stale number below n; where it is past the order there is none
-pub record StalePlace (n : ℕ) (order stale : List ℕ) (forward : Bool) (at r : ℕ) : Type 0 where
-  pub found : r < length order → to_visit n stale (number_at order forward r) ≡ true
-  pub passed : Passed n order stale forward at r
+-- what is found from place `at` on: a stale number below n, or that there is none
+abbrev pub Looked : ℕ → List ℕ → List ℕ → Bool → ℕ → Option ℕ → Type 0
+Looked n order stale forward at (Some c) = (c < n) × (in_set stale c ≡ true)
+Looked n order stale forward at None = Passed n order stale forward at (length order)
 
--- the turn at a place
-abbrev pub TurnAt : List ℕ → Bool → ℕ → Turn → Type 0
-TurnAt order forward i turn = turn.number ≡ number_at order forward i
-
--- the turn's number is stale, or it is not below n and no number below n is
-pub record NextTurn (n : ℕ) (stale : List ℕ) (turn : Turn) : Type 0 where
-  pub chosen : turn.number < n → in_set stale turn.number ≡ true
-  pub none : n ≤ turn.number → (c : ℕ) → c < n → in_set stale c ≡ false
+-- the number of the next turn is stale, and where there is none no number below n is
+abbrev pub NextTurn : ℕ → List ℕ → Option ℕ → Type 0
+NextTurn n stale (Some c) = (c < n) × (in_set stale c ≡ true)
+NextTurn n stale None = (c : ℕ) → c < n → in_set stale c ≡ false
 
 -- what is stale after a visit of number c: c is taken out, and nothing else where the visit changed nothing; otherwise the callers of c are
 -- put in

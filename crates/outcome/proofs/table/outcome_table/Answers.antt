@@ -12,34 +12,23 @@ use Rattle.outcome.proofs.Fill.{table_long, settle_asked, outcomes_done}
 use Rattle.outcome.proofs.table.outcome_table.Goals as goal
 
 pub sequences_part-part-requires : goal.sequences_part-part-requires
-sequences_part-part-requires c =
-    let start = c in
-    image_long start.args.image.now start.args.h start.requires.given.accepted
+sequences_part-part-requires c = image_long c.args.image.now c.args.h c.requires.given.accepted
 
 pub slice_bounds-settle-end : goal.slice_bounds-settle-end
-slice_bounds-settle-end c =
-    sym (length-take-le _ _ c.requires.given.order_room)
+slice_bounds-settle-end c = c.requires.room
 
-pub slice_bounds-settle-end-3 : goal.slice_bounds-settle-end-3
-slice_bounds-settle-end-3 c =
-    sym (table_long c.requires)
+pub slice_bounds-schedule-end : goal.slice_bounds-schedule-end
+slice_bounds-schedule-end c = sym (length-take-le _ _ c.requires.given.order_room)
+
+pub slice_bounds-settle-end-2 : goal.slice_bounds-settle-end-2
+slice_bounds-settle-end-2 c = sym (table_long c.requires)
 
 pub settle-requires : goal.settle-requires
 settle-requires c =
-    let rows = c in
-    let made = rows in
-    let part = made in
-    let facts = part in
-    settle_asked c.requires part.sequences_part-part.ensures made.prepare_masks.ensures facts.all_in-all.ensures rows.write_step_rows.ensures
-    (omega (arith, rows.write_step_rows.auto))
+    settle_asked c.requires c.sequences_part-part.ensures c.prepare_masks.ensures c.all_in-all.ensures c.write_step_rows.ensures (omega (arith, c.write_step_rows.auto))
 
 pub returns : goal.returns
 returns c =
-    let rows = c in
-    let made = rows in
-    let part = made in
-    let facts = part in
-    let start = c in
-    ap (λ (t : List ℕ). t ++ drop (row_words * start.args.h.sequences) start.args.table.now)
-    (outcomes_done start.requires part.sequences_part-part.ensures made.prepare_masks.ensures facts.all_in-all.ensures rows.write_step_rows.ensures
-    (omega (arith, rows.write_step_rows.auto)) _ refl _ c.settle.ensures)
+    ap (λ (t : List ℕ). t ++ drop (row_words * c.args.h.sequences) c.args.table.now)
+    (outcomes_done c.requires c.sequences_part-part.ensures c.prepare_masks.ensures c.all_in-all.ensures c.write_step_rows.ensures
+    (omega (arith, c.write_step_rows.auto)) _ refl _ c.settle.ensures)
