@@ -15,8 +15,9 @@ use library::parts::sequences_part;
 use link::write::write_chain;
 use question::answer::Chained;
 use question::asked::{Asked, Mark, NO_RANK_ABOVE, in_range};
-use rank::settle::settle;
+use rank::settle::RankVisits;
 use reader::check::check;
+use settling::settle::Schedule;
 use slot::entry::write_item_ranks;
 use tables::prepare::{prepare, prepare_masks};
 use tables::size::{
@@ -54,7 +55,14 @@ fn rank(
     ensures { Ranked all p q n masks.now ahead.now behind.now part.now places.now ranks.old ranks.new }
 {
     write_item_ranks(all, p, masks, ranks);
-    settle(q, ahead, behind, part, places, callers, order, ranks, n);
+    let visits = RankVisits {
+        q,
+        ahead,
+        behind,
+        part,
+        places,
+    };
+    visits.settle(&Schedule { n, callers, order }, ranks);
 }
 
 // The tables of the entries that pass ahead of the position and behind it, for a question that asks for a touch: on the first side those ahead

@@ -40,7 +40,6 @@ impl Visits for RankVisits<'_> {
         ranks[c] = new;
         new < old
     }
-
 }
 
 impl RankVisits<'_> {

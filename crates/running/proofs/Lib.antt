@@ -2,3 +2,4 @@ pub mod Gives
 pub mod Visited
 pub mod Exact
 pub mod Written
+pub mod Laws

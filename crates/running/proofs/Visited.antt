@@ -14,8 +14,8 @@ use Rattle.callers.specs.Callers.{in_set, with_member, calls}
 use Rattle.callers.proofs.CallerSets.{member_same, member_other, member_stays}
 use Rattle.callers.proofs.Calls.{calls_all}
 use Rattle.settling.specs.Settling.{Visit}
-use Rattle.settling.proofs.Visits.{Lowers}
-use Rattle.settling.proofs.Stale.{Local}
+use Rattle.settling.specs.Settling.{Lowers}
+use Rattle.settling.specs.Settling.{Local}
 use Rattle.running.specs.Runs.{gives_by, runs_by}
 use Rattle.running.specs.Visited.{lacking, RunsVisitable, visited}
 

@@ -1,7 +1,7 @@
 // Which sequences of an accepted image have a run.
 ghost use Rattle.running.specs.Written.{RunningAsked, RunningWritten};
 
-use crate::settle::settle;
+use crate::settle::RunVisits;
 use image::answer::Head;
 use library::parts::sequences_part;
 use library::tables::write_places;
@@ -13,5 +13,10 @@ pub fn write_running(h: Head, image: &[u32], places: &mut [u32], runs: &mut [u64
 {
     let part = sequences_part(image);
     write_places(h, part, places);
-    settle(part, places, runs, h.sequences as usize);
+    let visits = RunVisits {
+        part,
+        places,
+        n: h.sequences as usize,
+    };
+    visits.settle(runs);
 }

@@ -6,9 +6,7 @@ use native.Mathlib.Omega.{arith}
 use native.Mathlib.Decide.{ℕ_discrete}
 use mathlib.Core.Path.{◌≡◌, refl, sym, subst, ap, ◌∙◌}
 use mathlib.Core.Bool.{Bool, true, false, ◌&&◌, false≢true, true≢false}
-use lib.Dec.{ltb}
-use borrow.Author.Tests.{ltb-true, lt-ltb}
-use Rattle.general.proofs.Bools.{and_parts}
+use borrow.Author.Tests.{lt-ltb}
 use mathlib.Core.List.{List}
 use lib.ListN.{length, get_or}
 use Rattle.general.proofs.Scan.{count_passing, count_all, count_more}

@@ -1,9 +1,9 @@
--- `running::settle::settle` meets its contract.
+-- `running::settle::RunVisits::settle` meets its contract.
 -- Assumes nothing.
 use Rattle.std.proofs.Common.{arith}
 use Rattle.settling.proofs.Visits.{reached_then}
 use Rattle.running.proofs.Visited.{visitable_at}
-use Rattle.running.proofs.settle.settle.Goals as goal
+use Rattle.running.proofs.settle.RunVisits.settle.Goals as goal
 
 pub pass-back-requires : goal.pass-back-requires
 pass-back-requires c = (c.requires, omega arith)
@@ -11,16 +11,13 @@ pass-back-requires c = (c.requires, omega arith)
 pub pass-forth-requires : goal.pass-forth-requires
 pass-forth-requires c = let back = c in (visitable_at back.pass-back.new.runs (omega (arith, back.pass-back.auto)) c.requires, omega arith)
 
-pub overflow_add-back : goal.overflow_add-back
-overflow_add-back c = let start = c in omega (arith, c.pass-back.ensures.few, c.pass-forth.ensures.few, start.requires.few)
+pub overflow_add-left : goal.overflow_add-left
+overflow_add-left c = let start = c in omega (arith, c.pass-back.ensures.few, c.pass-forth.ensures.few, start.requires.few)
 
 pub settle_from-requires : goal.settle_from-requires
 settle_from-requires c =
     let forth = c in
     visitable_at forth.pass-forth.new.runs (omega (arith, forth.pass-forth.auto, c.pass-back.auto)) c.requires
-
-pub shape_of-runs : goal.shape_of-runs
-shape_of-runs c = omega (arith, c.settle_from.auto, c.pass-forth.auto, c.pass-back.auto)
 
 pub returns : goal.returns
 returns c =
