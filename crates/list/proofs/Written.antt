@@ -1,26 +1,23 @@
--- What is written for a row: its words in the order of the columns, their numbers, and the row's own flags in place of theirs. And a block is
+-- What is written for a row: its numbers, and the row's own flags in place of theirs. And a block is
 -- added where there is a run.
 -- Assumes nothing.
 use Prim.Native.Nat.{ℕ, ◌%◌}
 use mathlib.Core.Path.{◌≡◌, sym, ap, ap₂, ◌∙◌}
 use mathlib.Core.Bool.{Bool, cond}
-use mathlib.Core.List.{List, [], ◌∷◌}
+use mathlib.Core.List.{List}
 use lib.ListN.{set}
 use borrow.Author.Tests.{eq-eqb, ne_eqb}
 use Rattle.column.specs.Words.{all_in}
-use Rattle.row.specs.Words.{with_row, words_of}
+use Rattle.row.specs.Words.{words_of}
 use Rattle.row.specs.declared.words.Row.{Row}
 use Rattle.writer.specs.Card.{flags_of, row_numbers}
 use Rattle.writer.specs.Block.{with_block}
 use Rattle.list.specs.Fold.{kept_row, row_written, row_added}
 
-abbrev no_words : List ℕ
-no_words = 0 ∷ 0 ∷ 0 ∷ 0 ∷ 0 ∷ 0 ∷ 0 ∷ 0 ∷ 0 ∷ 0 ∷ []
-
-pub written : (x : Row) (all : ℕ) (k : Row) (words numbers : List ℕ) (f : ℕ) → k ≡ kept_row x all → words ≡ with_row no_words 0 k → numbers ≡ row_numbers words
+pub written : (x : Row) (all : ℕ) (k : Row) (numbers : List ℕ) (f : ℕ) → k ≡ kept_row x all → numbers ≡ row_numbers (words_of k)
     → f ≡ flags_of x.run x.empty k.last.present k.last.absent → set numbers 0 f ≡ row_written x all
-written x all k words numbers f same stored numbered flagged =
-    ap₂ (λ (c : List ℕ) (v : ℕ). set c 0 v) (numbered ∙ ap row_numbers stored) flagged
+written x all k numbers f same numbered flagged =
+    ap₂ (λ (c : List ℕ) (v : ℕ). set c 0 v) numbered flagged
     ∙ ap (λ (r : Row). set (row_numbers (words_of r)) 0 (flags_of x.run x.empty r.last.present r.last.absent)) same
 
 -- ---- a block added

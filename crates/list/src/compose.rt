@@ -8,13 +8,11 @@ ghost use Rattle.writer.specs.Block.{with_block};
 ghost use Rattle.list.specs.Fold.{MembersIn, member_row, followed_row, list_row, kept_row, row_written, is_due, row_added};
 
 use column::{BLOCK_FACTS, all_in};
-use row::words::{ALL_BITS, Marks, ROW_WORDS, Row};
-use rows::table::put_row;
+use row::words::{ALL_BITS, Marks, Row};
 use writer::block::{CARD_WORDS, COLUMN_WORDS, clear, put_block};
 use writer::card::{
-    CARD_NUMBERS, EMPTY_FROM, FLAGS, MAY_CLEAR, MAY_END_CLEARED, MAY_END_UNMENTIONED,
-    MAY_FIRST_SET, MAY_FIRST_UNTOUCHED, MAY_LAST_UNTOUCHED, MAY_NEED, MAY_SET, flags,
-    write_numbers,
+    EMPTY_FROM, FLAGS, MAY_CLEAR, MAY_END_CLEARED, MAY_END_UNMENTIONED, MAY_FIRST_SET,
+    MAY_FIRST_UNTOUCHED, MAY_LAST_UNTOUCHED, MAY_NEED, MAY_SET, flags, numbers_of,
 };
 
 // Word `i` of the card of member `m`.
@@ -101,10 +99,7 @@ fn write_row(x: Row, all: u64, block: u32, card: &mut [u64])
     ensures { card.new ≡ with_block block (row_written x all) card.old }
 {
     let kept = kept_row(x, all);
-    let mut words = [0u64; ROW_WORDS];
-    put_row(&mut words, 0, kept);
-    let mut numbers = [0u64; CARD_NUMBERS];
-    write_numbers(&words, &mut numbers);
+    let mut numbers = numbers_of(kept);
     numbers[FLAGS] = flags(x.run, x.empty, kept.last.present, kept.last.absent);
     put_block(&numbers, block, card);
 }

@@ -6,27 +6,7 @@ ghost use Rattle.row.specs.Words.{start_marks, start_row, step_marks, step_row, 
 use column::sets::without;
 use column::with_fact_in;
 
-// The words of a row in a table, in their order.
-pub const RUN: usize = 0;
-
-pub const EMPTY_RUN: usize = 1;
-
-pub const LAST_SET: usize = 2;
-
-pub const LAST_CLEARED: usize = 3;
-
-pub const LAST_UNTOUCHED: usize = 4;
-
-pub const FIRST_NEEDED: usize = 5;
-
-pub const FIRST_SET: usize = 6;
-
-pub const FIRST_UNTOUCHED: usize = 7;
-
-pub const CLEARED: usize = 8;
-
-pub const UNMENTIONED: usize = 9;
-
+// The words of a row in a table.
 pub const ROW_WORDS: usize = 10;
 
 // A word of which every bit is set.

@@ -1,6 +1,6 @@
 -- The numbers of a block of 64 facts in the form that the code follows: the flags and the word of each column, from the words of the sequence's
 -- row of the outcome table.
-use Rattle.std.specs.Prelude.{ℕ, ◌+◌, ◌*◌, ◌%◌, List, [], ◌∷◌, set, bit_or, count_ones, slice_index, slice_set}
+use Rattle.std.specs.Prelude.{ℕ, ◌+◌, ◌*◌, ◌%◌, List, [], ◌∷◌, bit_or, count_ones, slice_index}
 use Rattle.column.specs.Sets.{difference}
 use Rattle.runs.specs.Touch.{Mark, present, absent, untouched, Side, last, first}
 use Rattle.runs.specs.Rows.{column_number, cleared_column, unmentioned_column}
@@ -25,35 +25,6 @@ cleared_word row = slice_index row cleared_column
 
 abbrev pub unmentioned_word : List ℕ → ℕ
 unmentioned_word row = slice_index row unmentioned_column
-
--- numbers with the flags, "always needed" and the three "may" columns of document 01 written
-abbrev pub with_may : List ℕ → List ℕ → List ℕ
-with_may row part =
-    set
-    (set
-    (set
-    (set (slice_set part 0 (flags_of (run_word row) (slice_index row 1) (side_word row last present) (side_word row last absent))) 1
-    (always_of (run_word row) (side_word row first absent) (side_word row first untouched)))
-    2 (side_word row first present))
-    3 (side_word row last present))
-    4 (side_word row last absent)
-
--- with the "always" columns that say how a fact is left
-abbrev pub with_left : List ℕ → List ℕ → List ℕ
-with_left row part =
-    set
-    (set (slice_set part 5 (always_of (run_word row) (side_word row last absent) (side_word row last untouched))) 6
-    (always_of (run_word row) (side_word row last present) (side_word row last untouched)))
-    7 (always_of (run_word row) (cleared_word row) (unmentioned_word row))
-
--- and with the five columns of document 02, request 5
-abbrev pub with_rest : List ℕ → List ℕ → List ℕ
-with_rest row part =
-    set
-    (set
-    (slice_set (slice_set (slice_set part 8 (side_word row first absent)) 9 (side_word row first untouched)) 10 (side_word row last untouched))
-    11 (cleared_word row))
-    12 (unmentioned_word row)
 
 -- the numbers of a row
 unfoldable pub row_numbers : List ℕ → List ℕ

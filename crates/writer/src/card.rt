@@ -1,14 +1,10 @@
 // The numbers of a card: the flags and the columns, each of them a word for a block of 64 facts, from a row of the block's outcome table.
-ghost use Rattle.std.specs.Prelude.{◌≡◌, length};
-ghost use Rattle.cards.specs.Layout.{card_numbers};
-ghost use Rattle.row.specs.Words.{row_words};
-ghost use Rattle.writer.specs.Card.{flags_of, always_of, with_may, with_left, with_rest, row_numbers};
+ghost use Rattle.std.specs.Prelude.{◌≡◌};
+ghost use Rattle.row.specs.Words.{words_of};
+ghost use Rattle.writer.specs.Card.{flags_of, always_of, row_numbers};
 
 use column::sets::{count, union, without};
-use row::words::{
-    CLEARED, EMPTY_RUN, FIRST_NEEDED, FIRST_SET, FIRST_UNTOUCHED, LAST_CLEARED, LAST_SET,
-    LAST_UNTOUCHED, RUN, UNMENTIONED,
-};
+use row::words::Row;
 
 // The numbers of a card, in their order.
 pub const FLAGS: usize = 0;
@@ -62,51 +58,25 @@ fn always(run: u64, rival: u64, untouched: u64) -> u64
     without(run, union(rival, untouched))
 }
 
-// Writes the flags, "always needed" and the three "may" columns of document 01.
-fn write_may(row: &[u64], numbers: &mut [u64])
-    requires { (length row.now ≡ row_words) × (length numbers.old ≡ card_numbers) }
-    ensures { numbers.new ≡ with_may row.now numbers.old }
+// The numbers of a sequence, from its row of the outcome table.
+pub fn numbers_of(row: Row) -> [u64; CARD_NUMBERS]
+    ensures { result ≡ row_numbers (words_of row) }
 {
-    let run = row[RUN];
-    let set = row[LAST_SET];
-    let cleared = row[LAST_CLEARED];
-    numbers[FLAGS] = flags(run, row[EMPTY_RUN], set, cleared);
-    numbers[ALWAYS_NEEDED] = always(run, row[FIRST_SET], row[FIRST_UNTOUCHED]);
-    numbers[MAY_NEED] = row[FIRST_NEEDED];
-    numbers[MAY_SET] = set;
-    numbers[MAY_CLEAR] = cleared;
-}
-
-// Writes the "always" columns that say how a fact is left.
-fn write_left(row: &[u64], numbers: &mut [u64])
-    requires { (length row.now ≡ row_words) × (length numbers.old ≡ card_numbers) }
-    ensures { numbers.new ≡ with_left row.now numbers.old }
-{
-    let run = row[RUN];
-    let untouched = row[LAST_UNTOUCHED];
-    numbers[ALWAYS_SET] = always(run, row[LAST_CLEARED], untouched);
-    numbers[ALWAYS_CLEARED] = always(run, row[LAST_SET], untouched);
-    numbers[ALWAYS_STANDS] = always(run, row[CLEARED], row[UNMENTIONED]);
-}
-
-// Writes the five columns by which cards are put together: those of the row that no column before has.
-fn write_rest(row: &[u64], numbers: &mut [u64])
-    requires { (length row.now ≡ row_words) × (length numbers.old ≡ card_numbers) }
-    ensures { numbers.new ≡ with_rest row.now numbers.old }
-{
-    numbers[MAY_FIRST_SET] = row[FIRST_SET];
-    numbers[MAY_FIRST_UNTOUCHED] = row[FIRST_UNTOUCHED];
-    numbers[MAY_LAST_UNTOUCHED] = row[LAST_UNTOUCHED];
-    numbers[MAY_END_CLEARED] = row[CLEARED];
-    numbers[MAY_END_UNMENTIONED] = row[UNMENTIONED];
-}
-
-// Writes the numbers of a sequence, from its row of the outcome table.
-pub fn write_numbers(row: &[u64], numbers: &mut [u64])
-    requires { (length row.now ≡ row_words) × (length numbers.old ≡ card_numbers) }
-    ensures { numbers.new ≡ row_numbers row.now }
-{
-    write_may(row, numbers);
-    write_left(row, numbers);
-    write_rest(row, numbers);
+    let last = row.last;
+    let first = row.first;
+    [
+        flags(row.run, row.empty, last.present, last.absent),
+        always(row.run, first.absent, first.untouched),
+        first.present,
+        last.present,
+        last.absent,
+        always(row.run, last.absent, last.untouched),
+        always(row.run, last.present, last.untouched),
+        always(row.run, row.cleared, row.unmentioned),
+        first.absent,
+        first.untouched,
+        last.untouched,
+        row.cleared,
+        row.unmentioned,
+    ]
 }
