@@ -1,5 +1,5 @@
 // Columns: 64-bit words in which bit f says something of fact f. Where there are more facts than a word has bits, they come in blocks of 64, and bit b
-// of block k says it of fact 64 k + b.
+// of block k says it of fact 64 k + b. A column is a plain number and no type of its own: C reads the words of the cards that are made of columns.
 #![tactic(auto)]
 
 pub mod sets;
@@ -9,10 +9,7 @@ ghost use Rattle.column.specs.Column.{with_fact, all_below};
 ghost use Rattle.column.specs.Words.{with_fact_in, all_in};
 
 // How many bits a word has: the facts of a block.
-pub const BLOCK_FACTS: u32 = 64;
-
-// A column of which every bit is set.
-const EVERY_BIT: u64 = 0xffffffffffffffff;
+pub const BLOCK_FACTS: u32 = u64::BITS;
 
 // The column with bit `f` set too.
 pub fn with_fact(c: u64, f: u32) -> u64
@@ -27,28 +24,27 @@ pub fn with_fact_in(c: u64, block: u32, f: u32) -> u64
     ensures { result ≡ with_fact_in block c f }
 {
     if f / BLOCK_FACTS == block {
-        return with_fact(c, f % BLOCK_FACTS);
+        with_fact(c, f % BLOCK_FACTS)
+    } else {
+        c
     }
-    c
 }
 
 // The column of all facts below `facts`: of every bit where there are as many of them as bits, or more.
 pub fn all_below(facts: u64) -> u64
     ensures { result ≡ all_below 64 facts }
 {
-    if BLOCK_FACTS as u64 <= facts {
-        return EVERY_BIT;
+    if u64::from(BLOCK_FACTS) <= facts {
+        u64::MAX
+    } else {
+        (1u64 << facts as u32) - 1
     }
-    (1u64 << facts as u32) - 1
 }
 
 // The column of a block's facts that are below `facts`.
 pub fn all_in(facts: u64, block: u32) -> u64
     ensures { result ≡ all_in facts block }
 {
-    let from = BLOCK_FACTS as u64 * block as u64;
-    if facts <= from {
-        return 0;
-    }
-    all_below(facts - from)
+    let from = u64::from(BLOCK_FACTS) * u64::from(block);
+    all_below(facts.saturating_sub(from))
 }

@@ -29,10 +29,11 @@ pub fn apart(a: u64, b: u64) -> bool
 pub fn count(a: u64) -> u32
     ensures { result ≡ ones a }
 {
-    u64::count_ones(a)
+    a.count_ones()
 }
 
 // Whether fact `f` is in a column.
+#[tactic(auto, unfolding(crate::specs::Sets::in_column))]
 pub fn holds(a: u64, f: u32) -> bool
     requires { f < 64 }
     ensures { result ≡ in_column a f }
