@@ -24,7 +24,7 @@ use Rattle.question.specs.Asked.{in_range, out_of_range, range_told, question_ma
 use Rattle.question.specs.declared.asked.Asked.{Asked}
 use Rattle.question.specs.declared.asked.Mark.TheVariants.{Present, Absent, Untouched, Run}
 use Rattle.chains.specs.Answer.{answer}
-use Rattle.chain.specs.Described.{FindAsked, question_by}
+use Rattle.chain.specs.Described.{question_by}
 use Rattle.question.specs.Reply.{Answered, ChainCalled, chained_as}
 use Rattle.question.specs.declared.answer.Chained.{Chained}
 use Rattle.chains.specs.Call.{Reply, refused, in_area, after_check, chained, area_after}
@@ -96,17 +96,6 @@ module _ (image : List ℕ) (h : Head) (c q f : ℕ) (area : List ℕ) (accepted
 
   -- the question that the numbers are
   module _ (u : Unit {0}) (within : Ok u ≡ range_told h c q f) (p : Asked) (read : p ≡ question_asked h q f) where
-    pub find_asked : FindAsked h image p c
-    find_asked =
-        let low = in_range_lem h c q f u within in
-        record {
-          accepted = accepted;
-          sequence = low.0;
-          mark = rw read (question_touch q);
-          fact = rw read low.2;
-          none = ap (λ (x : Asked). x.none) read;
-        }
-
     -- its answer in the area
     pub call_told : (rank : ℕ) (found : Chained) (after : List ℕ) → found ≡ by_rank p rank (length area)
         → Answered (answer (library_of image) (question_by p) c p.fact) area (by_rank p rank (length area)) after → ChainCalled image c q f area found after

@@ -1,10 +1,8 @@
 -- The tables that are made of an accepted image describe its library, and the answer by settled ranks is the library's.
--- It has: what the areas ask; what each part of the search asks (`mark_asked`, `rank_asked`, `write_asked`); the tables of an accepted image
--- (`masks_made`, `places_made`, `tables_findable`); and the answer (`found_done`). What the tables say of an entry is in Describes, the call's
--- cases in Calls.
+-- It has: what the areas ask; the tables of an accepted image (`masks_made`, `places_made`, `tables_findable`); and the answer (`found_done`).
+-- What the tables say of an entry is in Describes, the call's cases in Calls.
 -- Assumes nothing.
-use Prim.Native.Nat.{ℕ, zero, suc, ◌+◌, ◌*◌, ◌^◌, ◌≤◌, ◌<◌}
-use native.Mathlib.Decide.{ℕ_discrete}
+use Prim.Native.Nat.{ℕ, ◌+◌, ◌*◌, ◌≤◌, ◌<◌}
 use native.Mathlib.Numerals.{add-one}
 use native.Mathlib.Omega.{arith}
 use mathlib.Core.Path.{◌≡◌, refl, sym, ap, ◌∙◌, subst}
@@ -13,7 +11,7 @@ use mathlib.Core.Bool.{Bool, true, false, cond, not}
 use mathlib.Core.List.{List, ◌++◌}
 use lib.ListN.{length, get_or, take, drop, replicate, length-replicate}
 use lib.Seq.{get_or-take, ext_get_or, length-take-le}
-use Rattle.image.specs.Word.{most_sequences}
+use Rattle.image.specs.Word.{most_steps, most_sequences}
 use Rattle.rules.specs.Checked.{Accepts}
 use Rattle.library.specs.Library.{Library, Sequence, Entry, alternatives_from, sequences_part, library_of, Item}
 use Rattle.library.specs.Tables.{masks}
@@ -24,7 +22,6 @@ use Rattle.image.specs.declared.answer.Head.{Head}
 use Rattle.library.proofs.Accepted.{faultless, parts, counted, sequence_entry}
 use Rattle.library.proofs.Rows.{all_at}
 use Rattle.general.specs.Numbers.{Zeros}
-use Rattle.settling.specs.Settling.{Scheduled}
 use Rattle.tables.specs.Tables.{MasksAsked, TablesAsked, Prepared}
 use Rattle.tables.proofs.Tables.{few_sequences, blank_drop, step_masks, sequences_are, place_is, place_within, scheduled}
 use Rattle.runs.specs.Possible.{has_run, possible_outcome}
@@ -37,9 +34,9 @@ use Rattle.general.specs.Scan.{every}
 use Rattle.chains.specs.Ranks.{Look, pass_look, unranked, entry_passes, has_mark, can_stay, can_run, ahead_of, behind_of, touch_look, untouched_look}
 use Rattle.chains.specs.Answer.{answer, ranks_in}
 use Rattle.rank.specs.Visits.{Visits, RanksSettled}
-use Rattle.slot.specs.Slots.{first_step, in_ranks, item_rank, pass_in, ItemsRankable}
-use Rattle.rank.specs.Tables.{look_in, Rankable, RanksReadable, RanksVisitable, Ranked}
-use Rattle.link.specs.Choice.{Choosable, answer_in}
+use Rattle.slot.specs.Slots.{first_step, in_ranks, item_rank, pass_in}
+use Rattle.rank.specs.Tables.{look_in, Rankable, Ranked}
+use Rattle.link.specs.Choice.{answer_in}
 use Rattle.chain.specs.Described.{Asks, Masked, Placed, ItemsBy, Described, FindAsked, ranks_length, AreasAsked, Findable, EntriesMarked, for_untouched, for_run, is_first, mark_as, side_by, mark_by, question_by}
 use Rattle.question.specs.Asked.{fact_block}
 use Rattle.question.specs.declared.asked.Asked.{Asked}
@@ -49,100 +46,33 @@ use Rattle.chains.proofs.Entries.{stays_run, any_run}
 use Rattle.chains.proofs.Passing.{Passable, pass_reached, pass_exact}
 use Rattle.chains.proofs.Ranks.{start_unranked}
 use Rattle.rank.proofs.Visits.{settled_good, touch_good, settled_touch, settled_untouched}
-use Rattle.rank.proofs.Settling.{rankable_at, settled_kept, settled_visits, settled_all}
+use Rattle.rank.proofs.Settling.{settled_kept, settled_visits, settled_all}
 use Rattle.chain.proofs.Describes.{items_marked, items_any, pass_is, pass_look_lem, depth_look_lem, touch_look_lem, touch_answer_lem, untouched_answer_lem}
 
 -- ---- the areas
 
 -- for so many steps and sequences
 pub areas_asked : (h : Head) (q : Asked) → q.none ≡ h.sequences + 2 → (steps sequences : ℕ) → h.steps ≤ steps → h.sequences ≤ sequences
-    → AreasAsked h q (replicate (3 * steps) 0) (replicate (4 * sequences) 0) (replicate (first_step (sequences + 2) + steps) 0)
-    (replicate (first_step (sequences + 2) + steps) 0) (replicate (first_step (sequences + 2) + steps) 0)
-areas_asked h q none steps sequences a c =
-    let m : ℕ = first_step (sequences + 2) + steps in
-    let ranks : ranks_length h q ≤ length (replicate {A = ℕ} m 0) = omega (arith, length-replicate {A = ℕ} m 0) in
-    record {
-      masks_room = omega (arith, length-replicate {A = ℕ} (3 * steps) 0);
-      masks_blank = zeros (3 * steps);
-      callers_room = omega (arith, length-replicate {A = ℕ} (4 * sequences) 0);
-      callers_blank = zeros (4 * sequences);
-      ahead_room = ranks;
-      behind_room = ranks;
-      links_room = ranks;
-    }
+    → steps ≤ most_steps → sequences ≤ most_sequences → AreasAsked h q (3 * steps) (4 * sequences) sequences (first_step (sequences + 2) + steps)
+areas_asked h q none steps sequences a c few_steps few_sequences =
+    record { masks_room = omega arith; callers_room = omega arith; places_room = c; ranks_room = omega arith; masks_fit = omega arith; callers_fit = omega arith; places_fit = omega arith; ranks_fit = omega arith }
 
-module _ {h : Head} {q : Asked} {masks callers ahead behind links : List ℕ} (areas : AreasAsked h q masks callers ahead behind links) where
-  -- the parts of the areas that have the words of a table
-  pub ahead_long : length (take (ranks_length h q) ahead) ≡ ranks_length h q
-  ahead_long = length-take-le (ranks_length h q) ahead areas.ahead_room
-
-  pub behind_long : length (take (ranks_length h q) behind) ≡ ranks_length h q
-  behind_long = length-take-le (ranks_length h q) behind areas.behind_room
-
-  pub links_long : length (take (ranks_length h q) links) ≡ ranks_length h q
-  links_long = length-take-le (ranks_length h q) links areas.links_room
+module _ {h : Head} {q : Asked} {masks callers places ranks : ℕ} (areas : AreasAsked h q masks callers places ranks) where
+  -- the part of an area that has the words of a table
+  pub ranks_long : length (take (ranks_length h q) (replicate {A = ℕ} ranks 0)) ≡ ranks_length h q
+  ranks_long = length-take-le (ranks_length h q) (replicate ranks 0) (omega (arith, areas.ranks_room, length-replicate {A = ℕ} ranks 0))
 
   -- what the makers of the tables ask
-  module _ {image : List ℕ} {c : ℕ} (asked : FindAsked h image q c) where
-    pub masks_asked : MasksAsked h masks
-    masks_asked = record { room = areas.masks_room }
+  pub masks_asked : MasksAsked h (replicate masks 0)
+  masks_asked = record { room = omega (arith, areas.masks_room, length-replicate {A = ℕ} masks 0) }
 
-    pub tables_asked : TablesAsked h (replicate most_sequences 0) callers (replicate most_sequences 0)
-    tables_asked =
-        record {
-          places_room = few_sequences image h asked.accepted;
-          callers_room = areas.callers_room;
-          callers_blank = areas.callers_blank;
-          order_room = few_sequences image h asked.accepted;
-        }
-
--- ---- what each part of the search asks, by what is asked of the tables
-
-module _ {q : Asked} {n : ℕ} {masks ahead behind links part places callers order : List ℕ}
-    (asked : Findable q n masks ahead behind links part places callers order) where
-  visited : (T A B : List ℕ) → length T ≡ length links → length A ≡ length links → length B ≡ length links → RanksReadable q.none A B T part
-  visited T A B t a b =
-      record { by_ahead = rankable_at A a asked.rankable; by_behind = rankable_at B b asked.rankable; by_ranks = rankable_at T t asked.rankable }
-
-  -- to mark the entries
-  pub mark_asked : (T : List ℕ) → length T ≡ length links
-      → ItemsRankable (for_untouched q) masks T × RanksVisitable (for_run q) n links links T part places × Scheduled n part places callers order
-  mark_asked T long = (
-    record { fact = asked.items.fact; room = omega (arith, asked.items.room); masked = omega (arith, asked.items.masked) },
-    record { readable = visited T links links long refl refl; low = asked.low; ranked = omega (arith, asked.ranked); placed = asked.placed; within = λ c l. asked.opened.within c },
-    asked.scheduled,
-  )
-
-  -- to rank the sequences by the question
-  pub rank_asked : ItemsRankable q masks links × RanksVisitable q n ahead behind links part places × Scheduled n part places callers order
-  rank_asked = (
-    asked.items,
-    record { readable = visited links ahead behind refl asked.ahead_long asked.behind_long; low = asked.low; ranked = asked.ranked; placed = asked.placed; within = λ c l. asked.opened.within c },
-    asked.scheduled,
-  )
-
-  -- to write the chain
-  pub write_asked : (T : List ℕ) → length T ≡ length links → (c : ℕ) → c < n
-      → Choosable q.none ahead behind T part places × (c < 2 ^ 28) × (c < length T)
-  write_asked T long c l = (
-    record { readable = visited T ahead behind long asked.ahead_long asked.behind_long; opened = asked.opened },
-    omega (arith, asked.scheduled.few),
-    omega (arith, asked.ranked),
-  )
-
-  -- other tables of the same length
-  pub findable_at : (A B : List ℕ) → length A ≡ length ahead → length B ≡ length behind → Findable q n masks A B links part places callers order
-  findable_at A B a b =
+  pub tables_asked : TablesAsked h (replicate places 0) (replicate callers 0) (replicate places 0)
+  tables_asked =
       record {
-        items = asked.items;
-        rankable = asked.rankable;
-        ahead_long = a ∙ asked.ahead_long;
-        behind_long = b ∙ asked.behind_long;
-        low = asked.low;
-        ranked = asked.ranked;
-        placed = asked.placed;
-        opened = asked.opened;
-        scheduled = asked.scheduled;
+        places_room = omega (arith, areas.places_room, length-replicate {A = ℕ} places 0);
+        callers_room = omega (arith, areas.callers_room, length-replicate {A = ℕ} callers 0);
+        callers_blank = zeros callers;
+        order_room = omega (arith, areas.places_room, length-replicate {A = ℕ} places 0);
       }
 
 -- ---- the tables of an accepted image
@@ -169,7 +99,7 @@ module _ {h : Head} {image ps₀ ps callers order : List ℕ} (accepted : Accept
       ∙ ap (λ (S : List Sequence). alternatives_of S c) (sym (sequences_are accepted made sequences))
 
   -- the tables are what the readers ask
-  module _ {q : Asked} {c : ℕ} (asked : FindAsked h image q c) where
+  module _ {q : Asked} {c : ℕ} (asked : FindAsked h q c) where
     tables_rankable : (T : List ℕ) → length T ≡ ranks_length h q → Rankable q.none T part
     tables_rankable T long =
         record {
@@ -310,7 +240,7 @@ module _ (image : List ℕ) (h : Head) (accepted : Accepts image h) (ms ps part 
 
   -- ---- the answer by the three tables
 
-  module _ (q : Asked) (c : ℕ) (asked : FindAsked h image q c) (masks_are : Masked L (fact_block q) ms) where
+  module _ (q : Asked) (c : ℕ) (asked : FindAsked h q c) (masks_are : Masked L (fact_block q) ms) where
     abbrev Q : Question
     Q = question_by q
 

@@ -1,13 +1,11 @@
 -- Tables that describe a library, and the question that the code is asked: what must hold of them for the answer by words to be the
 -- library's.
-use Rattle.std.specs.Prelude.{ℕ, ◌+◌, ◌*◌, ◌≤◌, ◌<◌, ◌≡◌, Bool, true, false, cond, not, ◌≢◌, List, length, get_or, drop}
+use Rattle.std.specs.Prelude.{ℕ, ◌+◌, ◌*◌, ◌^◌, ◌≤◌, ◌<◌, ◌≡◌, Bool, true, false, cond, not, ◌≢◌, List, length, get_or, drop}
 use Rattle.image.specs.Word.{most_facts}
-use Rattle.rules.specs.Checked.{Accepts}
 use Rattle.library.specs.Library.{Library, Entry, library_of, Item, step}
 use Rattle.walk.specs.Walk.{alternatives_at}
 use Rattle.image.specs.declared.answer.Head.{Head}
 use Rattle.library.specs.Tables.{mask_of}
-use Rattle.general.specs.Numbers.{Zeros}
 use Rattle.settling.specs.Settling.{Scheduled}
 use Rattle.runs.specs.Run.{alternatives_of}
 use Rattle.runs.specs.Domain.{action_of}
@@ -75,9 +73,8 @@ mark_by Run = untouched
 abbrev pub question_by : Asked → Question
 question_by q = record { side = side_by q.first; mark = mark_by q.mark }
 
--- what the search for an answer asks: an accepted image, and a sequence, a mark and a fact that there are
-pub record FindAsked (h : Head) (image : List ℕ) (q : Asked) (c : ℕ) : Type 0 where
-  pub accepted : Accepts image h
+-- what the search for an answer asks beside an accepted image: a sequence, a mark and a fact that there are
+pub record FindAsked (h : Head) (q : Asked) (c : ℕ) : Type 0 where
   pub sequence : c < h.sequences
   pub mark : q.mark ≢ Run
   pub fact : q.fact < h.facts
@@ -91,15 +88,17 @@ AnswerFound image q c area rank after = Answered (answer (library_of image) (que
 abbrev pub ranks_length : Head → Asked → ℕ
 ranks_length h q = first_step q.none + h.steps
 
--- the areas that the answer is found in
-pub record AreasAsked (h : Head) (q : Asked) (masks callers ahead behind links : List ℕ) : Type 0 where
-  pub masks_room : 3 * h.steps ≤ length masks
-  pub masks_blank : Zeros masks
-  pub callers_room : 4 * h.sequences ≤ length callers
-  pub callers_blank : Zeros callers
-  pub ahead_room : ranks_length h q ≤ length ahead
-  pub behind_room : ranks_length h q ≤ length behind
-  pub links_room : ranks_length h q ≤ length links
+-- the sizes of the areas that the answer is found in: of the masks, the sets of callers, the places and the order, and the tables of ranks. They
+-- have the room, and fit in memory
+pub record AreasAsked (h : Head) (q : Asked) (masks callers places ranks : ℕ) : Type 0 where
+  pub masks_room : 3 * h.steps ≤ masks
+  pub callers_room : 4 * h.sequences ≤ callers
+  pub places_room : h.sequences ≤ places
+  pub ranks_room : ranks_length h q ≤ ranks
+  pub masks_fit : masks < 2 ^ 32
+  pub callers_fit : callers < 2 ^ 32
+  pub places_fit : places < 2 ^ 32
+  pub ranks_fit : ranks < 2 ^ 32
 
 -- ---- the tables, whatever image they are of
 

@@ -1,17 +1,14 @@
 // The chain call: refusals 1 to 7 and 9 to 13, a chain, or none.
-ghost use Rattle.std.specs.Prelude.{◌≡◌, true, ◌<◌};
+ghost use Rattle.std.specs.Prelude.{◌<◌};
 ghost use Rattle.settling.specs.Settling.{Scheduled};
-ghost use Rattle.tables.specs.Tables.{is_small};
 ghost use Rattle.slot.specs.Slots.{ItemsRankable};
 ghost use Rattle.rank.specs.Tables.{RanksVisitable, Ranked};
 ghost use Rattle.chain.specs.Described.{FindAsked, AreasAsked, AnswerFound, Findable, EntriesMarked, Found};
-ghost use Rattle.rules.specs.Checked.{Accepts};
 ghost use Rattle.question.specs.Reply.{ChainCalled};
 
-use image::answer::{Checked, Head};
+use image::answer::Checked;
 use image::word::{MOST_FACTS, MOST_SEQUENCES, MOST_STEPS};
 use library::checked::Accepted;
-use library::parts::sequences_part;
 use link::write::write_chain;
 use question::answer::Chained;
 use question::asked::{Asked, Mark, NO_RANK_ABOVE, in_range};
@@ -21,8 +18,8 @@ use settling::settle::Schedule;
 use slot::entry::write_item_ranks;
 use tables::prepare::{prepare, prepare_masks};
 use tables::size::{
-    MOST_CALLERS, MOST_MASKS, MOST_PLACES, SMALL_CALLERS, SMALL_MASKS, SMALL_SEQUENCES,
-    SMALL_STEPS, is_small,
+    MOST_CALLERS, MOST_MASKS, MOST_PLACES, SMALL_CALLERS, SMALL_MASKS, SMALL_PLACES,
+    SMALL_SEQUENCES, SMALL_STEPS, is_small,
 };
 
 // A table of ranks has a word for each sequence, two between, a word for the check of each fact that there may be, and a word for each step.
@@ -130,36 +127,33 @@ fn find_by(
     write_chain(q, ahead, behind, links, part, places, area, c)
 }
 
-// Finds the answer to a question of sequence `c` of an accepted image, in lent areas, by the masks of the block of its fact.
-fn find_in(
-    h: Head,
-    image: &[u32],
+// Finds the answer to a question of sequence `c` of an accepted image, in areas of these sizes, by the masks of the block of its fact.
+fn find_in<const MASKS: usize, const CALLERS: usize, const PLACES: usize, const RANKS: usize>(
+    accepted: &Accepted,
     q: Asked,
     c: u32,
-    masks: &mut [u64],
-    callers: &mut [u64],
-    ahead: &mut [u32],
-    behind: &mut [u32],
-    links: &mut [u32],
     area: &mut [u32],
 ) -> u32
-    requires { FindAsked h image.now q c × AreasAsked h q masks.old callers.old ahead.old behind.old links.old }
-    ensures { AnswerFound image.now q c area.old result area.new }
+    requires { FindAsked accepted.now.head q c × AreasAsked accepted.now.head q MASKS CALLERS PLACES RANKS }
+    ensures { AnswerFound accepted.now.image.now q c area.old result area.new }
 {
-    let mut places = [0u32; MOST_PLACES];
-    let mut order = [0usize; MOST_PLACES];
-    let n = h.sequences as usize;
-    let words = q.none as usize + MOST_FACTS as usize + h.steps as usize;
-    let part = sequences_part(image);
-    let accepted = Accepted { image, head: h };
-    prepare_masks(&accepted, q.fact_block(), masks);
-    prepare(&accepted, &mut places, callers, &mut order);
+    let mut masks = [0u64; MASKS];
+    let mut callers = [0u64; CALLERS];
+    let mut places = [0u32; PLACES];
+    let mut order = [0usize; PLACES];
+    let mut ahead = [0u32; RANKS];
+    let mut behind = [0u32; RANKS];
+    let mut links = [0u32; RANKS];
+    let n = accepted.head.sequences as usize;
+    let words = q.none as usize + MOST_FACTS as usize + accepted.head.steps as usize;
+    prepare_masks(accepted, q.fact_block(), &mut masks);
+    prepare(accepted, &mut places, &mut callers, &mut order);
     find_by(
         q,
-        masks,
-        part,
+        &masks,
+        accepted.sequences_part(),
         &places,
-        callers,
+        &callers,
         &order[..n],
         &mut ahead[..words],
         &mut behind[..words],
@@ -170,76 +164,30 @@ fn find_in(
     )
 }
 
-// The same in small areas that have the room.
-fn find_small(h: Head, image: &[u32], q: Asked, c: u32, area: &mut [u32]) -> u32
-    requires { FindAsked h image.now q c × (is_small h ≡ true) }
-    ensures { AnswerFound image.now q c area.old result area.new }
+// Finds the answer to a question of sequence `c` of an accepted image, in areas that have the room. Answers the rank of the sequence.
+fn find(accepted: &Accepted, q: Asked, c: u32, area: &mut [u32]) -> u32
+    requires { FindAsked accepted.now.head q c }
+    ensures { AnswerFound accepted.now.image.now q c area.old result area.new }
 {
-    let mut masks = [0u64; SMALL_MASKS];
-    let mut callers = [0u64; SMALL_CALLERS];
-    let mut ahead = [0u32; SMALL_RANKS];
-    let mut behind = [0u32; SMALL_RANKS];
-    let mut links = [0u32; SMALL_RANKS];
-    find_in(
-        h,
-        image,
-        q,
-        c,
-        &mut masks,
-        &mut callers,
-        &mut ahead,
-        &mut behind,
-        &mut links,
-        area,
-    )
-}
-
-// The same in areas that have the room for every image.
-fn find_large(h: Head, image: &[u32], q: Asked, c: u32, area: &mut [u32]) -> u32
-    requires { FindAsked h image.now q c }
-    ensures { AnswerFound image.now q c area.old result area.new }
-{
-    let mut masks = [0u64; MOST_MASKS];
-    let mut callers = [0u64; MOST_CALLERS];
-    let mut ahead = [0u32; MOST_RANKS];
-    let mut behind = [0u32; MOST_RANKS];
-    let mut links = [0u32; MOST_RANKS];
-    find_in(
-        h,
-        image,
-        q,
-        c,
-        &mut masks,
-        &mut callers,
-        &mut ahead,
-        &mut behind,
-        &mut links,
-        area,
-    )
-}
-
-// Finds the answer to a question of sequence `c` of an accepted image. Answers the rank of the sequence.
-fn find(h: Head, image: &[u32], q: Asked, c: u32, area: &mut [u32]) -> u32
-    requires { FindAsked h image.now q c }
-    ensures { AnswerFound image.now q c area.old result area.new }
-{
-    if is_small(h) {
-        return find_small(h, image, q, c, area);
+    if is_small(accepted.head) {
+        return find_in::<SMALL_MASKS, SMALL_CALLERS, SMALL_PLACES, SMALL_RANKS>(
+            accepted, q, c, area,
+        );
     }
-    find_large(h, image, q, c, area)
+    find_in::<MOST_MASKS, MOST_CALLERS, MOST_PLACES, MOST_RANKS>(accepted, q, c, area)
 }
 
 // Asks an accepted image: the sequence, the question and the fact are tested first.
-fn ask(h: Head, image: &[u32], sequence: u64, question: u64, fact: u64, area: &mut [u32]) -> Chained
-    requires { Accepts image.now h }
-    ensures { ChainCalled image.now sequence question fact area.old result area.new }
+fn ask(accepted: &Accepted, sequence: u64, question: u64, fact: u64, area: &mut [u32]) -> Chained
+    ensures { ChainCalled accepted.now.image.now sequence question fact area.old result area.new }
 {
+    let h = accepted.head;
     if let Err(r) = in_range(h, sequence, question, fact) {
         return Chained::Refused(r);
     }
     let q = Asked::new(h, question, fact);
     let room = area.len();
-    q.answer_by_rank(find(h, image, q, sequence as u32, area), room)
+    q.answer_by_rank(find(accepted, q, sequence as u32, area), room)
 }
 
 // The chain call: what it answers, and the words of the area after it, for every image, every number and every area.
@@ -248,6 +196,6 @@ pub fn chain(image: &[u32], sequence: u64, question: u64, fact: u64, area: &mut 
 {
     match check(image) {
         Checked::Refused(r) => Chained::Refused(r),
-        Checked::Accepted(h) => ask(h, image, sequence, question, fact, area),
+        Checked::Accepted(head) => ask(&Accepted { image, head }, sequence, question, fact, area),
     }
 }

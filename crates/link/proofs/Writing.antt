@@ -11,11 +11,11 @@ use mathlib.Core.List.{List, [], ◌∷◌, ◌++◌, append_assoc, append-nil}
 use lib.ListN.{length, get_or, set, drop, length-append}
 use lib.Seq.{set_at, drop-cons}
 use lib.Dec.{leb, ltb}
-use borrow.Author.Tests.{lt-ltb, leb-true}
+use borrow.Author.Tests.{lt-ltb}
 use Rattle.general.specs.Tests.{All}
 use Rattle.library.specs.Library.{step, Entry, item, entry_of, alternatives_from, entry_at}
 use Rattle.walk.specs.Walk.{alternatives_at}
-use Rattle.question.specs.Answer.{link_length, link_count, by_rank, shown_links}
+use Rattle.question.specs.Answer.{link_length, by_rank, shown_links}
 use Rattle.chains.specs.Link.{Link, touch_link, choice_word, link_words, chain_words}
 use Rattle.slot.specs.Slots.{entry_number}
 use Rattle.slot.proofs.Slots.{entry_number_lem}
@@ -141,15 +141,6 @@ untouched_written m ranks part places c k from i count area after listed before 
     ∙ ap (λ (j : ℕ). (choice_word c j ∷ 12 * 2 ^ 28 ∷ []) ++ drop 2 area)
     (choice ∙ ap₂ (λ (p n : ℕ). alternative_in m ranks p (alternatives_from (drop n part))) least opener)
     ∙ ap (λ (b : Bool). cond b (chain_words (untouched_in m ranks part places c ∷ []) ++ drop 2 area) area) (sym (lt-ltb 0 count some))
-
--- the links that are written have room
-pub shown_room : (q : Asked) (rank room : ℕ) → link_length * shown_links q rank room ≤ room
-shown_room q rank room = go (ltb rank q.none) (leb (link_length * link_count q rank) room) refl
-  where
-    go : (a b : Bool) → leb (link_length * link_count q rank) room ≡ b → link_length * cond (a && b) (link_count q rank) 0 ≤ room
-    go true true e = leb-true (link_length * link_count q rank) room e
-    go true false e = omega arith
-    go false b e = omega arith
 
 -- the same answer
 pub answered_same : {a b : Answer} {before after : List ℕ} {found : Chained} → a ≡ b → Answered a before found after → Answered b before found after

@@ -4,14 +4,7 @@ use mathlib.Core.Path.{sym, ◌∙◌}
 use Rattle.chain.proofs.Calls.{call_refused}
 use Rattle.chain.proofs.call.chain.Goals as goal
 
-pub ask-requires : goal.ask-requires
-ask-requires c =
-    let told = c in
-    sym told.check.ensures ∙ c.in-Accepted.is
-
 pub returns-in-Refused : goal.returns-in-Refused
 returns-in-Refused c =
-    let told = c in
-    let start = told in
-    let a = start.args in
-    call_refused a.image.now _ a.sequence a.question a.fact a.area.now (sym told.check.ensures ∙ c.in-Refused.is)
+    let a = c.args in
+    call_refused a.image.now _ a.sequence a.question a.fact a.area.now (sym c.check.ensures ∙ c.in-Refused.is)
