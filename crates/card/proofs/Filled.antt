@@ -8,6 +8,7 @@ use mathlib.Core.List.{List, ◌++◌}
 use lib.ListN.{length, drop}
 use lib.Dec.{ltb}
 use borrow.Author.Tests.{lt-ltb, le-ltb, ltb-false}
+use Rattle.std.specs.Prelude.{Result, Ok, Err}
 use Rattle.library.specs.Library.{library_of}
 use Rattle.rules.specs.Checked.{checked}
 use Rattle.image.specs.declared.answer.Head.{Head}
@@ -17,39 +18,38 @@ use Rattle.image.specs.declared.answer.Checked.{Checked}
 use Rattle.cards.specs.Layout.{card_words}
 use Rattle.cards.specs.Card.{cards}
 use Rattle.card.specs.Answer.{cards_given, cards_of, area_with, CardsCalled}
-use Rattle.card.specs.declared.answer.Cards.{Cards}
 
 -- an answer, and the area that goes with it
-called : (image area : List ℕ) (found : Checked) (answer : Cards) (after : List ℕ) → checked image ≡ found
+called : (image area : List ℕ) (found : Checked) (answer : Result ℕ Refusal) (after : List ℕ) → checked image ≡ found
     → cards_given found (length area) ≡ answer → after ≡ area_with answer image area → CardsCalled image area answer after
 called image area found answer after e a w =
     let same : cards_of image area ≡ answer = ap (λ (f : Checked). cards_given f (length area)) e ∙ a in
-    record { answer = sym same; area = w ∙ ap (λ (c : Cards). area_with c image area) (sym same) }
+    record { answer = sym same; area = w ∙ ap (λ (c : Result ℕ Refusal). area_with c image area) (sym same) }
 
 -- 1 to 7
-pub call_refused : (image area : List ℕ) (r : Refusal) → checked image ≡ Checked.Refused r → CardsCalled image area (Cards.Refused r) area
-call_refused image area r e = called image area (Checked.Refused r) (Cards.Refused r) area e refl refl
+pub call_refused : (image area : List ℕ) (r : Refusal) → checked image ≡ Checked.Refused r → CardsCalled image area (Err r) area
+call_refused image area r e = called image area (Checked.Refused r) (Err r) area e refl refl
 
 module _ (image area : List ℕ) (h : Head) (accepted : checked image ≡ Checked.Accepted h) where
   -- 8
-  pub call_short : length area < card_words * h.sequences → CardsCalled image area (Cards.Refused CardArea) area
+  pub call_short : length area < card_words * h.sequences → CardsCalled image area (Err CardArea) area
   call_short l =
-      called image area (Checked.Accepted h) (Cards.Refused CardArea) area accepted
-      (ap (λ (b : Bool). cond b (Cards.Refused CardArea) (Cards.Filled h.sequences)) (lt-ltb (length area) (card_words * h.sequences) l)) refl
+      called image area (Checked.Accepted h) (Err CardArea) area accepted
+      (ap (λ (b : Bool). cond b (Err CardArea) (Ok h.sequences)) (lt-ltb (length area) (card_words * h.sequences) l)) refl
 
   pub call_filled : card_words * h.sequences ≤ length area → (after : List ℕ) → after ≡ cards (library_of image) ++ drop (card_words * h.sequences) area
-      → CardsCalled image area (Cards.Filled h.sequences) after
+      → CardsCalled image area (Ok h.sequences) after
   call_filled l after w =
-      called image area (Checked.Accepted h) (Cards.Filled h.sequences) after accepted
-      (ap (λ (b : Bool). cond b (Cards.Refused CardArea) (Cards.Filled h.sequences)) (le-ltb (length area) (card_words * h.sequences) l)) w
+      called image area (Checked.Accepted h) (Ok h.sequences) after accepted
+      (ap (λ (b : Bool). cond b (Err CardArea) (Ok h.sequences)) (le-ltb (length area) (card_words * h.sequences) l)) w
 
 -- where the call answers a count, the image is accepted with that count, and the area has room
-pub filled : (found : Checked) (room n : ℕ) → cards_given found room ≡ Cards.Filled n
+pub filled : (found : Checked) (room n : ℕ) → cards_given found room ≡ Ok n
     → (h : Head) × (found ≡ Checked.Accepted h) × (h.sequences ≡ n) × (card_words * n ≤ room)
 filled (Checked.Refused r) room n e = let no : ◌≡◌ {A = ℕ} 0 1 = cc in absurd (omega arith)
 filled (Checked.Accepted h) room n e = go (ltb room (card_words * h.sequences)) refl e
   where
-    go : (b : Bool) → ltb room (card_words * h.sequences) ≡ b → cond b (Cards.Refused CardArea) (Cards.Filled h.sequences) ≡ Cards.Filled n
+    go : (b : Bool) → ltb room (card_words * h.sequences) ≡ b → cond b (Err CardArea) (Ok h.sequences) ≡ Ok n
         → (g : Head) × (Checked.Accepted h ≡ Checked.Accepted g) × (g.sequences ≡ n) × (card_words * n ≤ room)
     go true t q = let no : ◌≡◌ {A = ℕ} 0 1 = cc in absurd (omega arith)
     go false t q =

@@ -1,6 +1,7 @@
 -- The card call's answer for every image and every card area, the area after it, and the number that the C side gets (document 01,
 -- "Turned down, in checking order", "The card" and "Chains").
-use Rattle.std.specs.Prelude.{ℕ, ◌*◌, ◌≡◌, cond, List, ◌++◌, length, drop, ltb}
+use Rattle.std.specs.Prelude.{ℕ, ◌*◌, ◌≡◌, cond, List, ◌++◌, length, drop, ltb, Result, Ok, Err}
+use Rattle.image.specs.declared.answer.Refusal.{Refusal}
 use Rattle.image.specs.Answer.{refusal_answer}
 use Rattle.rules.specs.Checked.{checked}
 use Rattle.library.specs.Library.{library_of}
@@ -8,35 +9,34 @@ use Rattle.image.specs.declared.answer.Refusal.TheVariants.{CardArea}
 use Rattle.image.specs.declared.answer.Checked.{Checked}
 use Rattle.cards.specs.Layout.{card_words}
 use Rattle.cards.specs.Card.{cards}
-use Rattle.card.specs.declared.answer.Cards.{Cards}
 
 -- 8: "The card area has fewer than 7 × C words of 64 bits."; "8 asks 49 × C" (document 02, request 8). It comes after 1 to 7;
 -- "Otherwise .. the cards [answer] C"
-abbrev pub cards_given : Checked → ℕ → Cards
-cards_given (Checked.Refused r) room = Cards.Refused r
+abbrev pub cards_given : Checked → ℕ → Result ℕ Refusal
+cards_given (Checked.Refused r) room = Err r
 cards_given (Checked.Accepted h) room =
-    cond (ltb room (card_words * h.sequences)) (Cards.Refused CardArea) (Cards.Filled h.sequences)
+    cond (ltb room (card_words * h.sequences)) (Err CardArea) (Ok h.sequences)
 
 -- what the card call answers
-abbrev pub cards_of : List ℕ → List ℕ → Cards
+abbrev pub cards_of : List ℕ → List ℕ → Result ℕ Refusal
 cards_of image area = cards_given (checked image) (length area)
 
 -- "Nothing lent is changed." "Each sequence's words are written into its own part of the card area; words past 7 × C stay.": 49 × C by
 -- request 8
-abbrev pub area_with : Cards → List ℕ → List ℕ → List ℕ
-area_with (Cards.Refused r) image area = area
-area_with (Cards.Filled n) image area = cards (library_of image) ++ drop (card_words * n) area
+abbrev pub area_with : Result ℕ Refusal → List ℕ → List ℕ → List ℕ
+area_with (Err r) image area = area
+area_with (Ok n) image area = cards (library_of image) ++ drop (card_words * n) area
 
 -- the card area after the call
 abbrev pub card_area : List ℕ → List ℕ → List ℕ
 card_area image area = area_with (cards_of image area) image area
 
 -- "It gets one 64-bit number: N × 2^32 + P for refusal N at position P, otherwise .. C from the cards"
-abbrev pub cards_answer : Cards → ℕ
-cards_answer (Cards.Filled n) = n
-cards_answer (Cards.Refused r) = refusal_answer r
+abbrev pub cards_answer : Result ℕ Refusal → ℕ
+cards_answer (Ok n) = n
+cards_answer (Err r) = refusal_answer r
 
 -- what the card call does: its answer, and the area after it
-pub record CardsCalled (image before : List ℕ) (found : Cards) (after : List ℕ) : Type 0 where
+pub record CardsCalled (image before : List ℕ) (found : Result ℕ Refusal) (after : List ℕ) : Type 0 where
   pub answer : found ≡ cards_of image before
   pub area : after ≡ card_area image before

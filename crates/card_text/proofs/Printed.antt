@@ -9,6 +9,7 @@ use lib.ListN.{length, take, drop}
 use lib.Seq.{take_at, ext_get_or}
 use lib.Dec.{eqb, ltb}
 use borrow.Author.Tests.{lt-ltb, le-ltb, le-leb, lt-leb, eq-eqb, ne_eqb}
+use Rattle.std.specs.Prelude.{Result, Ok, Err}
 use Rattle.general.specs.Scan.{list_below}
 use Rattle.general.proofs.Scan.{length_list_below, get_d_list_below}
 use Rattle.rules.specs.Checked.{checked}
@@ -18,12 +19,12 @@ use Rattle.image.specs.declared.answer.Head.{Head}
 use Rattle.image.specs.declared.answer.Refusal.TheVariants.{CardArea}
 use Rattle.image.specs.declared.answer.Checked.{Checked}
 use Rattle.library.proofs.Accepted.{faultless, counted}
+use Rattle.image.specs.declared.answer.Refusal.{Refusal}
 use Rattle.cards.specs.Layout.{card_numbers, column_width, card_words}
 use Rattle.cards.specs.Area.{part_number}
 use Rattle.cards.specs.Card.{card, cards}
 use Rattle.cards.proofs.Area.{length_card, card_numbers_lem}
 use Rattle.card.specs.Answer.{cards_given, cards_of, area_with, CardsCalled}
-use Rattle.card.specs.declared.answer.Cards.{Cards}
 use Rattle.card.proofs.Filled.{filled}
 use Rattle.text.specs.Words.{words_of}
 use Rattle.text.specs.declared.area.Text.{Text}
@@ -55,11 +56,11 @@ numbers_card L rest c l few =
 -- the call with the program's area
 module _ (image area : List ℕ) (room : length area ≡ program_words) where
   -- the lines of the cards that it writes are those of the library's cards
-  lines_card : (found : Cards) → cards_of image area ≡ found
+  lines_card : (found : Result ℕ Refusal) → cards_of image area ≡ found
       → answer_text found (numbers_of (area_with found image area)) ≡ answer_text found (card (library_of image))
   unfolding card_lines
-  lines_card (Cards.Refused r) e = refl
-  lines_card (Cards.Filled n) e =
+  lines_card (Err r) e = refl
+  lines_card (Ok n) e =
       let L = library_of image in
       let (h, accepted, count, fits) = filled (checked image) (length area) n e in
       let has : Counted L h = counted image h accepted in
@@ -67,7 +68,7 @@ module _ (image area : List ℕ) (room : length area ≡ program_words) where
       lines_same (numbers_of (cards L ++ drop (card_words * n) area)) (card L) 0 n
       (λ c l. numbers_card L (drop (card_words * n) area) c (omega (arith, l, count, has.sequences)) few)
 
-  module _ (found : Cards) (after : List ℕ) (call : CardsCalled image area found after) where
+  module _ (found : Result ℕ Refusal) (after : List ℕ) (call : CardsCalled image area found after) where
     pub answer_asked : (text : Text) → length after ≡ length area → text_bytes ≤ text.begin → AnswerAsked text found after
     answer_asked text long fits =
         record {
@@ -79,17 +80,17 @@ module _ (image area : List ℕ) (room : length area ≡ program_words) where
 
     pub answer_text_lem : answer_text found (numbers_of after) ≡ image_text image
     answer_text_lem =
-        ap₂ (λ (f : Cards) (words : List ℕ). answer_text f (numbers_of words)) call.answer call.area
+        ap₂ (λ (f : Result ℕ Refusal) (words : List ℕ). answer_text f (numbers_of words)) call.answer call.area
         ∙ lines_card (cards_of image area) refl
         ∙ ap (λ (n : ℕ). answer_text (cards_given (checked image) n) (card (library_of image))) room
 
 -- "so more than 160 sequences print `refused 8 at 0`", and no others that are accepted
 module _ (image : List ℕ) (h : Head) (accepted : checked image ≡ Checked.Accepted h) where
   with_room : (b : Bool) → ltb program_words (card_words * h.sequences) ≡ b
-      → image_text image ≡ answer_text (cond b (Cards.Refused CardArea) (Cards.Filled h.sequences)) (card (library_of image))
+      → image_text image ≡ answer_text (cond b (Err CardArea) (Ok h.sequences)) (card (library_of image))
   with_room b e =
       ap (λ (f : Checked). answer_text (cards_given f program_words) (card (library_of image))) accepted
-      ∙ ap (λ (t : Bool). answer_text (cond t (Cards.Refused CardArea) (Cards.Filled h.sequences)) (card (library_of image))) e
+      ∙ ap (λ (t : Bool). answer_text (cond t (Err CardArea) (Ok h.sequences)) (card (library_of image))) e
 
   pub many_refused : 160 < h.sequences → image_text image ≡ refusal_line 8 0
   many_refused l = with_room true (lt-ltb program_words (card_words * h.sequences) (omega arith))

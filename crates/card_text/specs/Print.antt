@@ -1,18 +1,18 @@
 -- What the printing program prints (document 01, "The printing program"; document 02, request 8).
-use Rattle.std.specs.Prelude.{ℕ, ◌%◌, cond, ◌&&◌, List, length, leb, eqb}
+use Rattle.std.specs.Prelude.{ℕ, ◌%◌, cond, ◌&&◌, List, length, leb, eqb, Result, Ok, Err}
+use Rattle.image.specs.declared.answer.Refusal.{Refusal}
 use Rattle.image.specs.Answer.{refusal_number, refusal_position}
 use Rattle.rules.specs.Checked.{checked}
 use Rattle.library.specs.Library.{library_of}
 use Rattle.cards.specs.Card.{card}
 use Rattle.card.specs.Answer.{cards_given}
-use Rattle.card.specs.declared.answer.Cards.{Cards}
 use Rattle.text.specs.Words.{words_of}
 use Rattle.card_text.specs.Line.{card_lines, refusal_line}
 
 -- for what the card call finds, with the numbers of each card: "one line a sequence", or "A refusal prints `refused N at P`."
-abbrev pub answer_text : Cards → (ℕ → List ℕ) → List ℕ
-answer_text (Cards.Filled n) numbers = card_lines numbers n
-answer_text (Cards.Refused r) numbers = refusal_line (refusal_number r) (refusal_position r)
+abbrev pub answer_text : Result ℕ Refusal → (ℕ → List ℕ) → List ℕ
+answer_text (Ok n) numbers = card_lines numbers n
+answer_text (Err r) numbers = refusal_line (refusal_number r) (refusal_position r)
 
 -- "The printing program's area has 7,840 words" (request 8)
 abbrev pub program_words : ℕ

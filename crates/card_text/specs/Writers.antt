@@ -1,10 +1,10 @@
 -- What the writers of the text ask, and what they put one in front of the other.
-use Rattle.std.specs.Prelude.{ℕ, zero, suc, ◌+◌, ◌*◌, ◌-◌, ◌≤◌, ◌≡◌, List, [], ◌++◌, length, get_or, ltb}
+use Rattle.std.specs.Prelude.{ℕ, zero, suc, ◌+◌, ◌*◌, ◌-◌, ◌≤◌, ◌≡◌, List, [], ◌++◌, length, get_or, ltb, Result, Ok}
 use Rattle.general.specs.Scan.{last_index, list_below}
 use Rattle.text.specs.Number.{digits_in}
+use Rattle.image.specs.declared.answer.Refusal.{Refusal}
 use Rattle.cards.specs.Layout.{card_numbers, column_words, card_words}
 use Rattle.cards.specs.Area.{part_number}
-use Rattle.card.specs.declared.answer.Cards.{Cards}
 use Rattle.text.specs.declared.area.Text.{Text}
 
 -- the highest word that is not 0, word 0 where there is none
@@ -50,6 +50,6 @@ abbrev pub text_bytes : ℕ
 text_bytes = line_bytes * most_lines
 
 -- what the writer of an answer asks: the words of the cards of so many sequences, and room in front of the text
-pub record AnswerAsked (text : Text) (found : Cards) (words : List ℕ) : Type 0 where
-  pub filled : (n : ℕ) → found ≡ Cards.Filled n → (n ≤ most_lines) × (card_words * n ≤ length words)
+pub record AnswerAsked (text : Text) (found : Result ℕ Refusal) (words : List ℕ) : Type 0 where
+  pub filled : (n : ℕ) → found ≡ Ok n → (n ≤ most_lines) × (card_words * n ≤ length words)
   pub room : text_bytes ≤ text.begin

@@ -6,9 +6,8 @@ ghost use Rattle.card_text.specs.Print.{answer_text, image_text, printed};
 ghost use Rattle.card_text.specs.Writers.{numbers_of, text_bytes, AnswerAsked};
 
 use crate::line::{MOST_LINES, put_lines, put_refusal};
-use card::answer::Cards;
 use card::call::cards;
-use image::answer::{number, position};
+use image::answer::{Refusal, number, position};
 use image::word::MOST_WORDS;
 use text::area::Text;
 use text::bytes::{WORD_BYTES, write_words};
@@ -21,13 +20,13 @@ pub const MOST_BYTES: usize = WORD_BYTES * MOST_WORDS;
 const PROGRAM_WORDS: usize = CARD_WORDS * MOST_LINES;
 
 // Puts the cards' lines, or the refusal's, in front of the text.
-pub fn put_answer(text: &mut Text, found: Cards, cards: &[u64])
+pub fn put_answer(text: &mut Text, found: Result<u32, Refusal>, cards: &[u64])
     requires { AnswerAsked text.old found cards.now }
     ensures { Put text.old (answer_text found (numbers_of cards.now)) text.new }
 {
     match found {
-        Cards::Filled(n) => put_lines(text, n, cards),
-        Cards::Refused(r) => put_refusal(text, number(r), position(r) as u64),
+        Ok(n) => put_lines(text, n, cards),
+        Err(r) => put_refusal(text, number(r), position(r) as u64),
     }
 }
 

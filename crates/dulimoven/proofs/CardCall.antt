@@ -10,6 +10,7 @@ use mathlib.Core.List.{List, ◌++◌}
 use lib.ListN.{length, drop}
 use lib.Dec.{ltb}
 use borrow.Author.Tests.{lt-ltb, le-ltb, ltb-true, ltb-false}
+use Rattle.std.specs.Prelude.{Result, Ok, Err}
 use Rattle.rules.specs.Checked.{checked}
 use Rattle.library.specs.Library.{library_of}
 use Rattle.image.specs.declared.answer.Head.{Head}
@@ -20,7 +21,6 @@ use Rattle.library.proofs.Accepted.{faultless, counted}
 use Rattle.card.specs.Answer.{cards_given, area_with, cards_answer}
 use Rattle.cards.specs.Layout.{column_width, card_words}
 use Rattle.cards.specs.Card.{cards}
-use Rattle.card.specs.declared.answer.Cards.{Cards}
 use Rattle.cards.proofs.Area.{all_cards, cards_unique}
 use Rattle.dulimoven.specs.Returned.{Returned, returned, turned_down}
 use Rattle.dulimoven.specs.CardCall.{CardsRefused, by_image, by_area, CardsReturn, refused, filled}
@@ -39,7 +39,7 @@ module _ (image area : List ℕ) where
 
   abbrev cards_if : Head → Bool → Returned
   cards_if h short =
-      let given : Cards = cond short (Cards.Refused CardArea) (Cards.Filled h.sequences) in
+      let given : Result ℕ Refusal = cond short (Err CardArea) (Ok h.sequences) in
       returned (cards_answer given) (area_with given image area)
 
   pub cards_return : CardsReturn image area (engine.cards image area)

@@ -40,19 +40,19 @@ blank_take (suc n) [] blank k = refl
 blank_take (suc n) (x ∷ xs) blank zero = blank 0
 blank_take (suc n) (x ∷ xs) blank (suc k) = blank_take n xs (λ j. blank (suc j)) k
 
--- areas of zeros for so many steps and sequences
-pub areas_asked : (image : List ℕ) (h : Head) (k : ℕ) (ps callers order : List ℕ) → BlockGiven h image k ps callers order
-    → (steps sequences : ℕ) → h.steps ≤ steps → h.sequences ≤ sequences
-    → OutcomesAsked h image k (replicate (mask_words * steps) 0) ps callers order (replicate (row_words * steps) 0) (replicate (row_words * sequences) 0)
-areas_asked image h k ps callers order given steps sequences a c =
+-- areas of zeros of so many words
+pub areas_asked : {h : Head} {image : List ℕ} {k : ℕ} {ps callers order : List ℕ} → BlockGiven h image k ps callers order
+    → (masks steps rows : ℕ) → mask_words * h.steps ≤ masks → row_words * h.steps ≤ steps → row_words * h.sequences ≤ rows
+    → OutcomesAsked h image k (replicate masks 0) ps callers order (replicate steps 0) (replicate rows 0)
+areas_asked given masks steps rows m s r =
     record {
       given = given;
-      masks_room = omega (arith, length-replicate {A = ℕ} (mask_words * steps) 0);
-      masks_blank = zeros (mask_words * steps);
-      rows_room = omega (arith, length-replicate {A = ℕ} (row_words * steps) 0);
-      rows_blank = zeros (row_words * steps);
-      room = omega (arith, length-replicate {A = ℕ} (row_words * sequences) 0);
-      blank = zeros (row_words * sequences);
+      masks_room = omega (arith, length-replicate {A = ℕ} masks 0);
+      masks_blank = zeros masks;
+      rows_room = omega (arith, length-replicate {A = ℕ} steps 0);
+      rows_blank = zeros steps;
+      room = omega (arith, length-replicate {A = ℕ} rows 0);
+      blank = zeros rows;
     }
 
 module _ {h : Head} {image : List ℕ} {k : ℕ} {ms₀ ps callers order rs₀ table : List ℕ} (asked : OutcomesAsked h image k ms₀ ps callers order rs₀ table) where

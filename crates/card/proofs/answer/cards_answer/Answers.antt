@@ -4,5 +4,5 @@ use mathlib.Core.Path.{sym, ap, ◌∙◌}
 use Rattle.card.specs.Answer.{cards_answer}
 use Rattle.card.proofs.answer.cards_answer.Goals as goal
 
-pub returns-in-Refused : goal.returns-in-Refused
-returns-in-Refused c = c.refusal_answer.ensures ∙ ap cards_answer (sym c.in-Refused.is)
+pub returns-in-Err : goal.returns-in-Err
+returns-in-Err c = c.refusal_answer.ensures ∙ ap cards_answer (sym c.in-Err.is)

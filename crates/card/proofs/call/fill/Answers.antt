@@ -2,28 +2,35 @@
 -- Assumes nothing.
 use native.Mathlib.Omega.{arith}
 use mathlib.Core.Path.{sym, ◌∙◌}
+use Rattle.std.proofs.Common.{lit≤}
+use Rattle.tables.proofs.Tables.{small_steps_lem, small_sequences_lem, few_steps, few_sequences}
 use Rattle.card.proofs.Filled.{call_short, call_filled}
 use Rattle.card.proofs.call.fill.Goals as goal
 
 pub returns-then-area-h : goal.returns-then-area-h
-returns-then-area-h c = let start = c in let a = start.args in call_short a.image.now a.area.now a.h start.requires (omega (arith, c.if-area-h.true))
+returns-then-area-h c = call_short _ _ _ c.requires (omega (arith, c.if-area-h.true))
 
-pub fill_small-requires : goal.fill_small-requires
-fill_small-requires c =
-    let test = c in
-    (record { accepted = c.requires; room = c.if-area-h.false }, sym test.is_small.ensures ∙ test.if-is_small.true)
+pub fill_in-requires : goal.fill_in-requires
+fill_in-requires c =
+    let e = sym c.is_small.ensures ∙ c.if-is_small.true in
+    let steps = small_steps_lem c.args.h e in
+    let sequences = small_sequences_lem c.args.h e in (
+      record { accepted = c.requires; room = c.if-area-h.false },
+      record { places = sequences; callers = omega arith; places_few = lit≤ tt; callers_few = lit≤ tt },
+      record { masks = omega arith; steps = omega arith; rows = omega arith; masks_few = lit≤ tt; steps_few = lit≤ tt; rows_few = lit≤ tt },
+    )
 
-pub fill_large-requires : goal.fill_large-requires
-fill_large-requires c = record { accepted = c.requires; room = c.if-area-h.false }
+pub fill_in-requires-else-is_small : goal.fill_in-requires-else-is_small
+fill_in-requires-else-is_small c =
+    let steps = few_steps _ _ c.requires in
+    let sequences = few_sequences _ _ c.requires in (
+      record { accepted = c.requires; room = c.if-area-h.false },
+      record { places = sequences; callers = omega arith; places_few = lit≤ tt; callers_few = lit≤ tt },
+      record { masks = omega arith; steps = omega arith; rows = omega arith; masks_few = lit≤ tt; steps_few = lit≤ tt; rows_few = lit≤ tt },
+    )
 
 pub returns-then-is_small : goal.returns-then-is_small
-returns-then-is_small c =
-    let start = c in
-    let a = start.args in
-    call_filled a.image.now a.area.now a.h start.requires c.if-area-h.false _ c.fill_small.ensures
+returns-then-is_small c = call_filled _ _ _ c.requires c.if-area-h.false _ c.fill_in.ensures
 
 pub returns-else-is_small : goal.returns-else-is_small
-returns-else-is_small c =
-    let start = c in
-    let a = start.args in
-    call_filled a.image.now a.area.now a.h start.requires c.if-area-h.false _ c.fill_large.ensures
+returns-else-is_small c = call_filled _ _ _ c.requires c.if-area-h.false _ c.fill_in-else-is_small.ensures

@@ -1,9 +1,34 @@
--- `card::call::fill_block` meets its contract: by either size of areas.
+-- `card::call::fill_block` meets its contract: the areas are what the outcome table asks, and its rows become a block of the cards.
 -- Assumes nothing.
-use mathlib.Core.Path.{sym, ◌∙◌}
+use native.Mathlib.Omega.{arith}
+use mathlib.Core.Path.{sym, ap, ◌∙◌}
+use mathlib.Core.List.{List, ◌++◌}
+use Prim.Native.Nat.{ℕ, ◌*◌}
+use lib.ListN.{drop, length-replicate}
+use Rattle.cards.specs.Layout.{card_words}
+use Rattle.library.specs.Library.{library_of}
+use Rattle.library.proofs.Accepted.{faultless, counted}
+use Rattle.writer.specs.Block.{cards_with}
+use Rattle.outcome.proofs.Fill.{areas_asked}
+use Rattle.card.proofs.Table.{table_cards}
 use Rattle.card.proofs.call.fill_block.Goals as goal
 
-pub fill_block_small-requires : goal.fill_block_small-requires
-fill_block_small-requires c =
-    let test = c in
-    (c.requires, sym test.is_small.ensures ∙ test.if-is_small.true)
+pub outcome_table-requires : goal.outcome_table-requires
+outcome_table-requires g c = let room = c.requires.1 in areas_asked c.requires.0.given _ _ _ room.masks room.steps room.rows
+
+pub write_blocks-requires : goal.write_blocks-requires
+write_blocks-requires g c =
+    let given = c.requires.0.given in
+    let made = c.outcome_table.auto in
+    let size = length-replicate {A = ℕ} g.row.ROWS 0 in
+    let high = (faultless _ _ given.accepted).facts_high in
+    (omega (arith, made, size, c.requires.1.rows), c.requires.0.room, omega (arith, given.some, high))
+
+pub returns : goal.returns
+returns g c =
+    let a = c.args in
+    let rest = drop (card_words * a.h.sequences) a.area.now in
+    c.write_blocks.ensures
+    ∙ ap (λ (t : List _). cards_with a.block t a.area.now 0 a.h.sequences ++ rest) c.outcome_table.ensures
+    ∙ ap (λ (ws : List _). ws ++ rest)
+    (table_cards (library_of a.image.now) a.block _ a.area.now a.h.sequences (sym (counted _ _ c.requires.0.given.accepted).sequences))
