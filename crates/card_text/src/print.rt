@@ -52,7 +52,7 @@ fn put_words(text: &mut Text, bytes: &[u8])
 }
 
 // Puts what the program prints for the bytes of its input in front of the text.
-pub fn put_printed(text: &mut Text, bytes: &[u8])
+fn put_printed(text: &mut Text, bytes: &[u8])
     requires { text_bytes ≤ text.old.begin }
     ensures { Put text.old (printed bytes.now) text.new }
 {

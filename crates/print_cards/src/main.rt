@@ -10,13 +10,6 @@ use card_text::line::MOST_TEXT_BYTES;
 use card_text::print::{MOST_BYTES, print_image};
 use std::io::{Read, Write};
 
-// What reading standard input gives: so many bytes, or a read that failed.
-#[derive(Clone, Copy)]
-pub enum Input {
-    Bytes(usize),
-    Failed,
-}
-
 // What kept the program from its work.
 #[derive(Clone, Copy)]
 pub enum Failure {
@@ -24,20 +17,19 @@ pub enum Failure {
     Write,
 }
 
-// Reads the input, in as many pieces as it comes in, until `input` is full or the input ends.
-fn read_input<R: Read>(reader: &mut R, input: &mut [u8]) -> Input
+// Reads the input, in as many pieces as it comes in, until `input` is full or the input ends, and says how many bytes came.
+fn read_input<R: Read>(reader: &mut R, input: &mut [u8]) -> Result<usize, Failure>
     ensures within { InputWithin result (length input.new) }
     ensures bytes { InputRead (R.remaining reader.old) (R.remaining reader.new) result input.new }
 {
     let mut n = 0;
     while n < input.len() {
-        match reader.read(&mut input[n..]) {
-            Ok(0) => return Input::Bytes(n),
-            Ok(more) => n += more,
-            Err(_) => return Input::Failed,
+        match reader.read(&mut input[n..]).map_err(|_| Failure::Read)? {
+            0 => return Ok(n),
+            more => n += more,
         }
     }
-    Input::Bytes(n)
+    Ok(n)
 }
 
 // Prints what the bytes of an image get.
@@ -46,10 +38,7 @@ fn print<W: Write>(writer: &mut W, bytes: &[u8]) -> Result<(), Failure>
 {
     let mut text = [0u8; MOST_TEXT_BYTES];
     let start = print_image(bytes, &mut text);
-    match writer.write_all(&text[start..]) {
-        Ok(()) => Ok(()),
-        Err(_) => Err(Failure::Write),
-    }
+    writer.write_all(&text[start..]).map_err(|_| Failure::Write)
 }
 
 // Prints the cards of the image that the input has. One byte more than an image has at most is enough to tell that there are too many.
@@ -58,18 +47,13 @@ fn print_input<R: Read, W: Write>(reader: &mut R, writer: &mut W) -> Result<(), 
         (λ bytes. Appends (W.contents writer.old) (W.contents writer.new) (printed bytes))) }
 {
     let mut input = [0u8; MOST_BYTES + 1];
-    match read_input(reader, &mut input) {
-        Input::Bytes(n) => print(writer, &input[..n]),
-        Input::Failed => Err(Failure::Read),
-    }
+    let n = read_input(reader, &mut input)?;
+    print(writer, &input[..n])
 }
 
 // Output that cannot be written is let go.
 fn main(rt: HostRuntime) {
-    match print_input(&mut rt.stdin(), &mut rt.stdout()) {
-        Ok(()) | Err(Failure::Write) => {}
-        Err(Failure::Read) => {
-            let _ = rt.eprintln("print_cards: standard input cannot be read");
-        }
+    if let Err(Failure::Read) = print_input(&mut rt.stdin(), &mut rt.stdout()) {
+        let _ = rt.eprintln("print_cards: standard input cannot be read");
     }
 }

@@ -1,6 +1,6 @@
 -- `print_cards::read_input` meets its contract: a turn puts what it reads behind what was read before.
 -- Assumes nothing.
-use Rattle.std.proofs.Common.{◌≡◌, ℕ, ◌+◌, ◌-◌, ◌≤◌, List, ◌++◌, rules, arith, length, take, slice_range, sym, ap, ◌∙◌, subst, le_refl, drop_at, length-take-le}
+use Rattle.std.proofs.Common.{◌≡◌, ℕ, Ok, ◌+◌, ◌-◌, ◌≤◌, List, ◌++◌, rules, arith, length, take, slice_range, sym, ap, ◌∙◌, subst, le_refl, drop_at, length-take-le}
 use Rattle.std.proofs.lemmas.Slice.{take-put_mid_below}
 use Rattle.std.specs.Io.KnownBytes.{Consumes}
 use Rattle.std.proofs.KnownBytes.{Consumes-trans}
@@ -21,9 +21,12 @@ slice_range-put_mid a k n xs ys within fits =
 
 pub loop-n-preserved : goal.loop-n-preserved
 loop-n-preserved g c =
+    let got : c.read.result ≡ Ok c.in_ok-more.more = search rules in
+    let bound = rw got at c.read.ensures.bound in
+    let bytes = rw got at c.read.ensures.bytes in
     let from = c.loop-n.n in
     let room = length c.loop-n.input - from in
     let within = c.loop-n.invariant.0 in
-    let part = slice_range-put_mid from room c.in-Ok.more c.loop-n.input c.read.new.buf within c.in-Ok.ensures.bound.0 in
-    let joined = take_split from (from + c.in-Ok.more) c.loop-n.input (put_mid from room c.loop-n.input c.read.new.buf) (omega arith) (take-put_mid_below _ _ _ _ _ (le_refl _) within) in
-    (search rules, subst (Consumes _ _) (ap (λ l. take from c.loop-n.input ++ l) (sym part) ∙ joined) (Consumes-trans _ _ _ _ _ c.loop-n.invariant.1 c.in-Ok.ensures.bytes.0))
+    let part = slice_range-put_mid from room c.in_ok-more.more c.loop-n.input c.read.new.buf within bound.0 in
+    let joined = take_split from (from + c.in_ok-more.more) c.loop-n.input (put_mid from room c.loop-n.input c.read.new.buf) (omega arith) (take-put_mid_below _ _ _ _ _ (le_refl _) within) in
+    (omega arith, subst (Consumes _ _) (ap (λ l. take from c.loop-n.input ++ l) (sym part) ∙ joined) (Consumes-trans _ _ _ _ _ c.loop-n.invariant.1 bytes.0))
