@@ -8,7 +8,7 @@ ghost use Rattle.rank.specs.Tables.{Rankable, RanksReadable};
 ghost use Rattle.link.specs.Choice.{alternative_in, Chosen};
 
 use image::word::payload_of;
-use rank::read::greatest_depth;
+use rank::read::Table;
 use slot::entry::{passes, traits_of};
 use walk::sequence::{alternatives_of, opener_before, part_entry, selected_index};
 
@@ -88,8 +88,9 @@ pub fn chosen_alternative(none: u32, ranks: &[u32], part: &[u32], at: usize, k: 
 {
     let all = alternatives_of(part, at);
     let mut opener = all.last;
+    let table = Table { none, ranks, part };
     for alternative in (0..all.count).rev() {
-        if greatest_depth(none, ranks, part, opener + 1).value <= k {
+        if table.greatest_depth(opener + 1).value <= k {
             return alternative;
         }
         opener = opener_before(part, opener);

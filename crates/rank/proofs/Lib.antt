@@ -5,3 +5,4 @@ pub mod Looks
 pub mod Settling
 pub mod Calls
 pub mod Laws
+pub mod Walked

@@ -10,6 +10,7 @@ use mathlib.Core.List.{List, [], ◌∷◌}
 use lib.ListN.{length, get_or, drop}
 use lib.Dec.{leb, ltb}
 use borrow.Author.Tests.{leb-true, ltb-false, not-true}
+use Rattle.std.specs.Prelude.{Result, Ok, Err}
 use Rattle.image.specs.Word.{is_kind, is_entry}
 use Rattle.library.specs.Library.{Entry, entry_of, Alternative, entries_from, alternatives_from}
 use Rattle.general.specs.Scan.{every}
@@ -18,29 +19,61 @@ use Rattle.walk.proofs.Walking.{folding_inside, folding_out, Leaving, leaving_st
 use Rattle.general.proofs.Bools.{nor_left, nor_right, or_left, or_right, or_cases}
 use Rattle.rank.specs.Walk.{lowered_from, depth_from, fewest_from}
 use Rattle.slot.specs.Slots.{rank_in, pass_in}
-use Rattle.rank.specs.Tables.{depth_in, every_in, fewest_after, fewest_in, look_in, lacks_in, lost_in, dead_in, TraitsFound, AlternativeRanked}
+use Rattle.rank.specs.Tables.{depth_in, every_in, fewest_after, fewest_in, look_in, lacks_in, lost_in, AlternativeRanked}
 use Rattle.rank.proofs.Walk.{cond_same, lowered_least}
 use Rattle.question.specs.declared.asked.Asked.{Asked}
 use Rattle.slot.specs.declared.entry.Traits.{Traits}
-use Rattle.rank.specs.declared.read.Found.{Found}
 use Rattle.rank.specs.declared.read.Positions.{Positions}
 use Rattle.rank.specs.declared.read.Read.{Read}
 
+-- an entry that has a rank is not dead
+pub passing_alive : (none : ℕ) (ranks : List ℕ) (e : Entry) → pass_in none ranks e ≡ true → lacks_in none ranks e ≡ false
+passing_alive none ranks e passes = ap not passes
+
 -- whether all entries have a rank, by the first of them
-pub every_cons : (none : ℕ) (ranks : List ℕ) (e : Entry) (es : List Entry) (b : Bool) → pass_in none ranks e ≡ b
-    → every_in none ranks (e ∷ es) ≡ cond b (every_in none ranks es) none
-unfolding every
-every_cons none ranks e es b told = ap (λ (x : Bool). cond (x && every (pass_in none ranks) es) 0 none) told ∙ go b (every (pass_in none ranks) es)
-  where
-    go : (x y : Bool) → cond (x && y) 0 none ≡ cond x (cond y 0 none) none
-    go true y = refl
-    go false y = refl
+module _ (none : ℕ) (ranks : List ℕ) where
+  abbrev pub every_worth : ℕ → List Entry → ℕ
+  every_worth a es = cond (every (pass_in none ranks) es) a none
+
+  every_cons : (a : ℕ) (e : Entry) (es : List Entry) (b : Bool) → pass_in none ranks e ≡ b → every_worth a (e ∷ es) ≡ cond b (every_worth a es) none
+  unfolding every
+  every_cons a e es b told = ap (λ (x : Bool). cond (x && every (pass_in none ranks) es) a none) told ∙ go b (every (pass_in none ranks) es)
+    where
+      go : (x y : Bool) → cond (x && y) a none ≡ cond x (cond y a none) none
+      go true y = refl
+      go false y = refl
+
+  pub every_out : (a : ℕ) → every_worth a [] ≡ a
+  unfolding every
+  every_out a = refl
+
+  pub every_goes : (a : ℕ) (e : Entry) (es : List Entry) → pass_in none ranks e ≡ true → every_worth a (e ∷ es) ≡ every_worth a es
+  every_goes a e es passes = every_cons a e es true passes
+
+  pub every_dies : (a : ℕ) (e : Entry) (es : List Entry) → pass_in none ranks e ≡ false → (lacks_in none ranks e ≡ true) × (every_worth a (e ∷ es) ≡ none)
+  every_dies a e es fails = (ap not fails, every_cons a e es false fails)
 
 -- the depth so far, by the next entry
-pub depth_cons : (none : ℕ) (rank : Entry → ℕ) (d : ℕ) (e : Entry) (es : List Entry) (b : Bool) → ltb (rank e) none ≡ b
-    → depth_from none rank d (e ∷ es) ≡ cond b (depth_from none rank (max d (rank e)) es) none
-unfolding depth_from
-depth_cons none rank d e es b told = ap (λ (x : Bool). cond x (depth_from none rank (max d (rank e)) es) none) told
+module _ (none : ℕ) (ranks : List ℕ) where
+  abbrev pub depth_worth : ℕ → List Entry → ℕ
+  depth_worth d es = depth_from none (rank_in none 0 ranks) d es
+
+  abbrev pub deeper : ℕ → Entry → ℕ
+  deeper d e = max d (rank_in none 0 ranks e)
+
+  depth_cons : (d : ℕ) (e : Entry) (es : List Entry) (b : Bool) → pass_in none ranks e ≡ b → depth_worth d (e ∷ es) ≡ cond b (depth_worth (deeper d e) es) none
+  unfolding depth_from
+  depth_cons d e es b told = ap (λ (x : Bool). cond x (depth_worth (deeper d e) es) none) told
+
+  pub depth_goes : (d : ℕ) (e : Entry) (es : List Entry) → pass_in none ranks e ≡ true → depth_worth d (e ∷ es) ≡ depth_worth (deeper d e) es
+  depth_goes d e es passes = depth_cons d e es true passes
+
+  pub depth_dies : (d : ℕ) (e : Entry) (es : List Entry) → pass_in none ranks e ≡ false → (lacks_in none ranks e ≡ true) × (depth_worth d (e ∷ es) ≡ none)
+  depth_dies d e es fails = (ap not fails, depth_cons d e es false fails)
+
+  pub depth_out : (d : ℕ) → depth_worth d [] ≡ d
+  unfolding depth_from
+  depth_out d = refl
 
 -- no position counts where neither those so far nor those to come do
 fewest_shut : (none : ℕ) (rank : Entry → ℕ) (ahead behind : Entry → Bool) (es : List Entry) → fewest_from none rank ahead behind none none es ≡ none
@@ -72,57 +105,47 @@ pub beside_passes : (first a b : Bool) → (first && b) || (not first && a) ≡ 
 beside_passes true a b told = or_right a b (⊎_elim (λ h. h) (λ h. absurd (false≢true h)) (or_cases b false told))
 beside_passes false a b told = or_left a b (⊎_elim (λ h. absurd (false≢true h)) (λ h. h) (or_cases false a told))
 
--- a walk over the positions, which come to x so far: with the entries from i on they come to the whole
-pub record Linking (none : ℕ) (ahead behind ranks part : List ℕ) (whole at : ℕ) (x : Positions) (i : ℕ) : Type 0 where
-  pub leaving : Leaving part whole (lost_in none ahead behind ranks) at (fewest_after none ahead behind ranks x) i
+-- the fewest links by what a walk over the entries comes to
+abbrev pub best_or : ℕ → Result Positions Positions → ℕ
+best_or none (Ok x) = x.best
+best_or none (Err x) = none
 
-pub links_start : {none : ℕ} {ahead behind ranks part : List ℕ} {at : ℕ} {x : Positions} → at ≤ length part
-    → Linking none ahead behind ranks part (fewest_after none ahead behind ranks x (entries_from (drop at part))) at x at
-links_start l = record { leaving = leaving_start l refl }
+-- the positions so far, by the next entry
+module _ (none : ℕ) (ahead behind ranks : List ℕ) where
+  abbrev pub with_entry : Positions → Entry → Positions
+  with_entry x e =
+      record {
+        best = min (cond (pass_in none behind e) x.best none) (max (rank_in none none ranks e) x.floor);
+        floor = cond (pass_in none ahead e) x.floor none;
+      }
 
--- whether no table has a rank for an entry, by its traits
-abbrev pub lost : ℕ → Traits → Bool
-lost none t = not ((t.ahead || t.behind) || ltb t.rank none)
+  abbrev pub found : Entry → Bool
+  found e = (pass_in none ahead e || pass_in none behind e) || ltb (rank_in none none ranks e) none
 
--- at a word of which it was found whether it is an entry, and which traits it has
-module _ {none : ℕ} {ahead behind ranks part : List ℕ} {whole at : ℕ} {x : Positions} {i : ℕ} {r : Found}
-    (here : Linking none ahead behind ranks part whole at x i) (found : TraitsFound none ahead behind ranks (get_or part i 0) r)
-  where
-    -- no entry stands there
-    pub links_out : r.entry ≡ false → (x.best ≡ whole) × (i ≡ walk_end (lost_in none ahead behind ranks) part at)
-    unfolding fewest_from
-    links_out e = let over = sym found.entry ∙ e in (folding_out here.leaving.folding over, leaving_out here.leaving over)
+  pub found_alive : (e : Entry) → found e ≡ true → lost_in none ahead behind ranks e ≡ false
+  found_alive e is = ap not is
 
-    module _ (e : r.entry ≡ true) where
-      stands : is_entry (get_or part i 0) ≡ true
-      stands = sym found.entry ∙ e
+  pub links_goes : (x : Positions) (e : Entry) (es : List Entry)
+      → fewest_after none ahead behind ranks x (e ∷ es) ≡ fewest_after none ahead behind ranks (with_entry x e) es
+  unfolding fewest_from
+  links_goes x e es = refl
 
-      lost_read : (b : Bool) → lost none r.traits ≡ b → lost_in none ahead behind ranks (entry_of (get_or part i 0)) ≡ b
-      lost_read b told = sym (ap (lost none) (found.traits stands)) ∙ told
+  pub links_dies : (x : Positions) (e : Entry) (es : List Entry) → found e ≡ false
+      → (lost_in none ahead behind ranks e ≡ true) × (fewest_after none ahead behind ranks x (e ∷ es) ≡ none)
+  links_dies x e es fails =
+      let lost : lost_in none ahead behind ranks e ≡ true = ap not fails in
+      (lost, fewest_lost none (rank_in none none ranks) (pass_in none ahead) (pass_in none behind) x.floor x.best e es lost)
 
-      pub links_inside : i < length part
-      links_inside = folding_inside here.leaving.folding stands
+  pub links_out : (x : Positions) → fewest_after none ahead behind ranks x [] ≡ x.best
+  unfolding fewest_from
+  links_out x = refl
 
-      -- a dead one, at which the walk is left
-      pub links_left : lost none r.traits ≡ true → (none ≡ whole) × (i ≡ walk_end (lost_in none ahead behind ranks) part at)
-      links_left told =
-          let dead = lost_read true told in
-          (sym (fewest_lost none (rank_in none none ranks) (pass_in none ahead) (pass_in none behind) x.floor x.best _ _ dead) ∙ leaving_rest here.leaving stands, leaving_dead here.leaving stands dead)
+  -- an entry that passes as one behind, on the first side, or as one ahead, on the last
+  abbrev pub beside : Bool → Entry → Bool
+  beside first e = (first && pass_in none behind e) || (not first && pass_in none ahead e)
 
-      -- one that is not, with which the positions come to y
-      pub links_turn : lost none r.traits ≡ false → {y : Positions}
-          → (y.best ≡ min (cond r.traits.behind x.best none) (max r.traits.rank x.floor)) × (y.floor ≡ cond r.traits.ahead x.floor none)
-          → Linking none ahead behind ranks part whole at y (i + 1)
-      unfolding fewest_from
-      links_turn told more =
-          record {
-            leaving =
-                leaving_turn here.leaving stands (lost_read false told)
-                (sym
-                (ap₂ (λ (floor best : ℕ). fewest_from none (rank_in none none ranks) (pass_in none ahead) (pass_in none behind) floor best (entries_from (drop (i + 1) part)))
-                (more.1 ∙ ap (λ (t : Traits). cond t.ahead x.floor none) (found.traits stands))
-                (more.0 ∙ ap (λ (t : Traits). min (cond t.behind x.best none) (max t.rank x.floor)) (found.traits stands))));
-          }
+  pub beside_alive : (first : Bool) (e : Entry) → beside first e ≡ true → lost_in none ahead behind ranks e ≡ false
+  beside_alive first e is = found_alive e (or_left _ _ (beside_passes first (pass_in none ahead e) (pass_in none behind e) is))
 
 -- ---- the alternatives of a sequence
 
@@ -132,7 +155,7 @@ pub lowered_cons : (worth : Alternative → ℕ) (r v : ℕ) (es : Alternative) 
 unfolding lowered_from
 lowered_cons worth r v es alts is = ap (λ (x : ℕ). lowered_from worth (min r x) alts) (sym (one-add v ∙ ap suc is))
 
-lowered_nil : (worth : Alternative → ℕ) (r : ℕ) → lowered_from worth r [] ≡ r
+pub lowered_nil : (worth : Alternative → ℕ) (r : ℕ) → lowered_from worth r [] ≡ r
 unfolding lowered_from
 lowered_nil worth r = refl
 

@@ -1,3 +1,4 @@
+pub mod Entries
 pub mod Walk
 pub mod Visits
 pub mod Tables

@@ -11,7 +11,6 @@ use Rattle.slot.specs.Slots.{rank_in, pass_in, traits_in, RankWithin, ItemsRanke
 use Rattle.rank.specs.Walk.{lowered_from, depth_from, fewest_from}
 use Rattle.question.specs.Asked.{by_mark}
 use Rattle.question.specs.declared.asked.Asked.{Asked}
-use Rattle.rank.specs.declared.read.Found.{Found}
 use Rattle.rank.specs.declared.read.Positions.{Positions}
 use Rattle.rank.specs.declared.read.Read.{Read}
 
@@ -61,11 +60,6 @@ pub record RanksReadable (none : ℕ) (ahead behind ranks part : List ℕ) : Typ
   pub by_ranks : Rankable none ranks part
 
 -- ---- the alternatives of a sequence
-
--- what is found at a word: whether it is an entry, and then its traits
-pub record TraitsFound (none : ℕ) (ahead behind ranks : List ℕ) (w : ℕ) (r : Found) : Type 0 where
-  pub entry : r.entry ≡ is_entry w
-  pub traits : is_entry w ≡ true → r.traits ≡ traits_in none ahead behind ranks (entry_of w)
 
 -- what a reader of an alternative promises, whose entries stand from an index on: what it comes to, and where it ended
 pub record AlternativeRanked (worth : Alternative → ℕ) (dead : Entry → Bool) (part : List ℕ) (at : ℕ) (r : Read) : Type 0 where

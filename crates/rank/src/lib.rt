@@ -2,5 +2,6 @@
 // them.
 #![tactic(auto)]
 
+pub mod entries;
 pub mod read;
 pub mod settle;

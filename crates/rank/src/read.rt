@@ -1,13 +1,16 @@
 // What an alternative comes to by the ranks as they stand, and the rank of a sequence lowered by its alternatives.
-ghost use Rattle.std.specs.Prelude.{◌≡◌, cond, ◌+◌, ◌≤◌, min, max, length, get_or, drop};
-ghost use Rattle.library.specs.Library.{alternatives_from};
+ghost use Rattle.std.specs.Prelude.{◌≡◌, true, cond, ℕ, ◌+◌, ◌≤◌, min, max, length, drop};
+ghost use Rattle.image.specs.Word.{is_entry};
+ghost use Rattle.library.specs.Library.{entry_of, alternatives_from};
+ghost use Rattle.slot.specs.Slots.{traits_in, RankWithin};
 ghost use Rattle.rank.specs.Walk.{lowered_from};
-ghost use Rattle.rank.specs.Tables.{depth_in, every_in, fewest_after, fewest_in, look_in, lacks_in, lost_in, dead_in, RanksReadable, Rankable, TraitsFound, AlternativeRanked};
+ghost use Rattle.rank.specs.Tables.{depth_in, every_in, fewest_after, fewest_in, look_in, lacks_in, lost_in, dead_in, RanksReadable, Rankable, AlternativeRanked};
 
-use image::word::{KIND_ALTERNATIVE, is_kind};
+use crate::entries::walk_entries;
+use image::word::Kind;
 use question::asked::{Asked, Mark};
 use slot::entry::{Traits, choose, passes, rank_of, traits_of};
-use walk::sequence::{part_entry, word_at};
+use walk::sequence::part_entry;
 
 // What an alternative comes to, and the index at which the walk over its entries ended: that of the first dead one, or of the word after them.
 #[derive(Clone, Copy)]
@@ -16,48 +19,51 @@ pub struct Read {
     pub ended: usize,
 }
 
-fn least(a: u32, b: u32) -> u32
-    ensures { result ≡ min a b }
-{
-    if a < b {
-        return a;
-    }
-    b
+// A table of ranks with the words that it has ranks for, and what stands for "no rank" in it.
+#[derive(Clone, Copy)]
+pub struct Table<'a> {
+    pub none: u32,
+    pub ranks: &'a [u32],
+    pub part: &'a [u32],
+    ghost rankable: { Rankable none ranks.now part.now },
 }
 
-fn greatest(a: u32, b: u32) -> u32
-    ensures { result ≡ max a b }
-{
-    if a < b {
-        return b;
+impl<'a> Table<'a> {
+    // The greatest depth among the entries that stand from index `at` on. The walk ends at the first without a rank.
+    pub fn greatest_depth(&self, at: usize) -> Read
+        requires { at ≤ length self.now.part.now }
+        ensures { AlternativeRanked (depth_in self.now.none self.now.ranks.now) (lacks_in self.now.none self.now.ranks.now) self.now.part.now at result }
+    {
+        let walk = walk_entries(self.part, at, 0, |depth: u32, w| {
+            let rank = rank_of(self.none, self.ranks, w);
+            if self.none <= rank {
+                None
+            } else {
+                Some(depth.max(rank))
+            }
+        });
+        Read {
+            value: walk.known.unwrap_or(self.none),
+            ended: walk.ended,
+        }
     }
-    a
-}
 
-// The greatest depth among the entries that stand from index `at` on. The walk ends at the first without a rank.
-pub fn greatest_depth(none: u32, ranks: &[u32], part: &[u32], at: usize) -> Read
-    requires { Rankable none ranks.now part.now × (at ≤ length part.now) }
-    ensures { AlternativeRanked (depth_in none ranks.now) (lacks_in none ranks.now) part.now at result }
-{
-    let mut depth = 0;
-    let mut i = at;
-    loop {
-        let w = word_at(part, i);
-        if !part_entry(w) {
-            return Read {
-                value: depth,
-                ended: i,
-            };
+    // Whether all entries that stand from index `at` on have a rank: 0 where they do. The walk ends at the first without one.
+    fn all_ranked(&self, at: usize) -> Read
+        requires { at ≤ length self.now.part.now }
+        ensures { AlternativeRanked (every_in self.now.none self.now.ranks.now) (lacks_in self.now.none self.now.ranks.now) self.now.part.now at result }
+    {
+        let walk = walk_entries(self.part, at, 0, |zero: u32, w| {
+            if passes(self.none, self.ranks, w) {
+                Some(zero)
+            } else {
+                None
+            }
+        });
+        Read {
+            value: walk.known.unwrap_or(self.none),
+            ended: walk.ended,
         }
-        let rank = rank_of(none, ranks, w);
-        if none <= rank {
-            return Read {
-                value: none,
-                ended: i,
-            };
-        }
-        depth = greatest(depth, rank);
-        i += 1;
     }
 }
 
@@ -69,162 +75,15 @@ pub struct Positions {
     pub floor: u32,
 }
 
-// The same with one entry more, which rules out the positions so far where it fails as one behind.
-fn with_entry(none: u32, x: Positions, t: Traits) -> Positions
-    ensures { (result.best ≡ min (cond t.behind x.best none) (max t.rank x.floor)) × (result.floor ≡ cond t.ahead x.floor none) }
-{
-    Positions {
-        best: least(choose(t.behind, x.best, none), greatest(t.rank, x.floor)),
-        floor: choose(t.ahead, x.floor, none),
-    }
-}
-
-// What stands at an index: whether it is an entry, and then its traits.
-#[derive(Clone, Copy)]
-pub struct Found {
-    pub entry: bool,
-    pub traits: Traits,
-}
-
-fn found_at(
-    none: u32,
-    ahead: &[u32],
-    behind: &[u32],
-    ranks: &[u32],
-    part: &[u32],
-    i: usize,
-) -> Found
-    requires { RanksReadable none ahead.now behind.now ranks.now part.now × (i ≤ length part.now) }
-    ensures { TraitsFound none ahead.now behind.now ranks.now (get_or part.now i 0) result }
-{
-    let w = word_at(part, i);
-    if !part_entry(w) {
-        return Found {
-            entry: false,
-            traits: Traits {
-                rank: none,
-                ahead: false,
-                behind: false,
-            },
-        };
-    }
-    Found {
-        entry: true,
-        traits: traits_of(none, ahead, behind, ranks, w),
-    }
-}
-
-// The fewest links after this one, among the positions so far and those of the entries that stand from index `at` on. An entry that no table has
-// a rank for leaves no position that counts, before it, at it or after it: the walk ends there.
-fn links_from(
-    none: u32,
-    ahead: &[u32],
-    behind: &[u32],
-    ranks: &[u32],
-    part: &[u32],
-    at: usize,
-    seen: Positions,
-) -> Read
-    requires { RanksReadable none ahead.now behind.now ranks.now part.now × (at ≤ length part.now) }
-    ensures { AlternativeRanked (fewest_after none ahead.now behind.now ranks.now seen) (lost_in none ahead.now behind.now ranks.now) part.now at result }
-{
-    let mut x = seen;
-    let mut i = at;
-    loop {
-        let e = found_at(none, ahead, behind, ranks, part, i);
-        if !e.entry {
-            return Read {
-                value: x.best,
-                ended: i,
-            };
+impl Positions {
+    // The same with one entry more, which rules out the positions so far where it fails as one behind.
+    fn with_entry(self, none: u32, t: Traits) -> Positions
+        ensures { (result.best ≡ min (cond t.behind self.best none) (max t.rank self.floor)) × (result.floor ≡ cond t.ahead self.floor none) }
+    {
+        Positions {
+            best: choose(t.behind, self.best, none).min(t.rank.max(self.floor)),
+            floor: choose(t.ahead, self.floor, none),
         }
-        let t = e.traits;
-        if !(t.ahead | t.behind | (t.rank < none)) {
-            return Read {
-                value: none,
-                ended: i,
-            };
-        }
-        x = with_entry(none, x, t);
-        i += 1;
-    }
-}
-
-// The same from the first entry on. That an entry is not dead is seen by one table, which nearly every entry passes: by the one for those
-// behind on the first side, by the one for those ahead on the last. All three are asked from the first entry on that fails it. Where `first` is
-// a constant this compiles to a loop with one test an entry.
-fn fewest_links(
-    first: bool,
-    none: u32,
-    ahead: &[u32],
-    behind: &[u32],
-    ranks: &[u32],
-    part: &[u32],
-    at: usize,
-) -> Read
-    requires { RanksReadable none ahead.now behind.now ranks.now part.now × (at ≤ length part.now) }
-    ensures { AlternativeRanked (fewest_in none ahead.now behind.now ranks.now) (lost_in none ahead.now behind.now ranks.now) part.now at result }
-{
-    let mut x = Positions {
-        best: none,
-        floor: 0,
-    };
-    let mut i = at;
-    loop {
-        let e = found_at(none, ahead, behind, ranks, part, i);
-        if !e.entry {
-            return Read {
-                value: x.best,
-                ended: i,
-            };
-        }
-        let t = e.traits;
-        if !((first & t.behind) | (!first & t.ahead)) {
-            return links_from(none, ahead, behind, ranks, part, i, x);
-        }
-        x = with_entry(none, x, t);
-        i += 1;
-    }
-}
-
-// Whether all entries that stand from index `at` on have a rank: 0 where they do. The walk ends at the first without one.
-fn all_ranked(none: u32, ranks: &[u32], part: &[u32], at: usize) -> Read
-    requires { Rankable none ranks.now part.now × (at ≤ length part.now) }
-    ensures { AlternativeRanked (every_in none ranks.now) (lacks_in none ranks.now) part.now at result }
-{
-    let mut i = at;
-    loop {
-        let w = word_at(part, i);
-        if !part_entry(w) {
-            return Read { value: 0, ended: i };
-        }
-        if !passes(none, ranks, w) {
-            return Read {
-                value: none,
-                ended: i,
-            };
-        }
-        i += 1;
-    }
-}
-
-// What the alternative comes to whose entries stand from index `at` on.
-pub fn read_alternative(
-    q: Asked,
-    ahead: &[u32],
-    behind: &[u32],
-    ranks: &[u32],
-    part: &[u32],
-    at: usize,
-) -> Read
-    requires { RanksReadable q.none ahead.now behind.now ranks.now part.now × (at ≤ length part.now) }
-    ensures { AlternativeRanked (look_in q ahead.now behind.now ranks.now) (dead_in q ahead.now behind.now ranks.now) part.now at result }
-{
-    match q.mark {
-        Mark::Untouched => greatest_depth(q.none, ranks, part, at),
-        Mark::Run => all_ranked(q.none, ranks, part, at),
-        _ if q.first => fewest_links(true, q.none, ahead, behind, ranks, part, at),
-        _ => fewest_links(false, q.none, ahead, behind, ranks, part, at),
     }
 }
 
@@ -232,38 +91,132 @@ pub fn read_alternative(
 fn lower(r: u32, value: u32) -> u32
     ensures { result ≡ min r (1 + value) }
 {
-    if value < r {
-        return value + 1;
-    }
-    r
+    if value < r { value + 1 } else { r }
 }
 
-// The rank lowered by the alternatives that stand from index `at` on, up to the next sequence, past the entries that a walk has left. A
-// sequence has no rank below 1.
-pub fn lowered_rank(
-    q: Asked,
-    ahead: &[u32],
-    behind: &[u32],
-    ranks: &[u32],
-    part: &[u32],
-    at: usize,
-    rank: u32,
-) -> u32
-    requires { RanksReadable q.none ahead.now behind.now ranks.now part.now × (at ≤ length part.now) }
-    ensures { result ≡ lowered_from (look_in q ahead.now behind.now ranks.now) rank (alternatives_from (drop at part.now)) }
-{
-    let mut r = rank;
-    let mut i = at;
-    loop {
-        let w = word_at(part, i);
-        i += 1;
-        if !part_entry(w) {
-            if (r <= 1) | !is_kind(KIND_ALTERNATIVE, w) {
-                return r;
-            }
-            let found = read_alternative(q, ahead, behind, ranks, part, i);
-            r = lower(r, found.value);
-            i = found.ended;
+// The question, the three tables of ranks that answer it, and the words that they have ranks for: `ranks` is the question's own, `ahead` and
+// `behind` say which entries pass as those ahead of a position and behind it.
+#[derive(Clone, Copy)]
+pub struct Ranks<'a> {
+    pub q: Asked,
+    pub ahead: &'a [u32],
+    pub behind: &'a [u32],
+    pub ranks: &'a [u32],
+    pub part: &'a [u32],
+    ghost readable: { RanksReadable q.none ahead.now behind.now ranks.now part.now },
+}
+
+impl<'a> Ranks<'a> {
+    // The question's own table.
+    pub fn own(&self) -> Table<'a>
+        ensures { (result.none ≡ self.now.q.none) × (result.ranks.now ≡ self.now.ranks.now) × (result.part.now ≡ self.now.part.now) }
+    {
+        Table {
+            none: self.q.none,
+            ranks: self.ranks,
+            part: self.part,
         }
+    }
+
+    // The traits of an entry.
+    pub fn traits(&self, w: u32) -> Traits
+        requires { RankWithin self.now.q.none self.now.ahead.now w × RankWithin self.now.q.none self.now.behind.now w × RankWithin self.now.q.none self.now.ranks.now w × (is_entry w ≡ true) }
+        ensures { result ≡ traits_in self.now.q.none self.now.ahead.now self.now.behind.now self.now.ranks.now (entry_of w) }
+    {
+        traits_of(self.q.none, self.ahead, self.behind, self.ranks, w)
+    }
+
+    // The fewest links after this one, among the positions so far and those of the entries that stand from index `at` on. An entry that no table
+    // has a rank for leaves no position that counts, before it, at it or after it: the walk ends there.
+    fn links_from(&self, at: usize, seen: Positions) -> Read
+        requires { at ≤ length self.now.part.now }
+        ensures { AlternativeRanked (fewest_after self.now.q.none self.now.ahead.now self.now.behind.now self.now.ranks.now seen) (lost_in self.now.q.none self.now.ahead.now self.now.behind.now self.now.ranks.now) self.now.part.now at result }
+    {
+        let none = self.q.none;
+        let walk = walk_entries(self.part, at, seen, |x: Positions, w| {
+            let t = self.traits(w);
+            if t.ahead | t.behind | (t.rank < none) {
+                Some(x.with_entry(none, t))
+            } else {
+                None
+            }
+        });
+        match walk.known {
+            Ok(x) => Read {
+                value: x.best,
+                ended: walk.ended,
+            },
+            Err(_) => Read {
+                value: none,
+                ended: walk.ended,
+            },
+        }
+    }
+
+    // The same from the first entry on. That an entry is not dead is seen by one table, which nearly every entry passes: by the one for those
+    // behind on the first side, by the one for those ahead on the last. All three are asked from the first entry on that fails it. Where
+    // `first` is a constant this compiles to a loop with one test an entry. It is no const parameter, since the check reads no contract off a
+    // closure in a function that has one.
+    fn fewest_links(&self, first: bool, at: usize) -> Read
+        requires { at ≤ length self.now.part.now }
+        ensures { AlternativeRanked (fewest_in self.now.q.none self.now.ahead.now self.now.behind.now self.now.ranks.now) (lost_in self.now.q.none self.now.ahead.now self.now.behind.now self.now.ranks.now) self.now.part.now at result }
+    {
+        let none = self.q.none;
+        let start = Positions {
+            best: none,
+            floor: 0,
+        };
+        let walk = walk_entries(self.part, at, start, |x: Positions, w| {
+            let t = self.traits(w);
+            if (first & t.behind) | (!first & t.ahead) {
+                Some(x.with_entry(none, t))
+            } else {
+                None
+            }
+        });
+        match walk.known {
+            Ok(x) => Read {
+                value: x.best,
+                ended: walk.ended,
+            },
+            Err(x) => self.links_from(walk.ended, x),
+        }
+    }
+
+    // What the alternative comes to whose entries stand from index `at` on.
+    pub fn read_alternative(&self, at: usize) -> Read
+        requires { at ≤ length self.now.part.now }
+        ensures { AlternativeRanked (look_in self.now.q self.now.ahead.now self.now.behind.now self.now.ranks.now) (dead_in self.now.q self.now.ahead.now self.now.behind.now self.now.ranks.now) self.now.part.now at result }
+    {
+        match self.q.mark {
+            Mark::Untouched => self.own().greatest_depth(at),
+            Mark::Run => self.own().all_ranked(at),
+            _ if self.q.first => self.fewest_links(true, at),
+            _ => self.fewest_links(false, at),
+        }
+    }
+
+    // The rank lowered by the alternatives that stand from index `at` on, up to the next sequence, past the entries that a walk has left. A
+    // sequence has no rank below 1.
+    pub fn lowered_rank(&self, at: usize, rank: u32) -> u32
+        requires { at ≤ length self.now.part.now }
+        ensures { result ≡ lowered_from (look_in self.now.q self.now.ahead.now self.now.behind.now self.now.ranks.now) rank (alternatives_from (drop at self.now.part.now)) }
+    {
+        let mut r = rank;
+        let mut i = at;
+        // Each turn goes on where a walk over entries ended, so that no range or iterator counts the turns.
+        while i < self.part.len() {
+            let w = self.part[i];
+            i += 1;
+            if !part_entry(w) {
+                if (r <= 1) | !Kind::Alternative.is_of(w) {
+                    return r;
+                }
+                let found = self.read_alternative(i);
+                r = lower(r, found.value);
+                i = found.ended;
+            }
+        }
+        r
     }
 }

@@ -3,7 +3,7 @@ ghost use Rattle.settling.specs.Settling.{Scheduled, Settles};
 ghost use Rattle.general.specs.Numbers.{total};
 ghost use Rattle.rank.specs.Tables.{RanksVisitable, visited_ranks};
 
-use crate::read::lowered_rank;
+use crate::read::Ranks;
 use question::asked::Asked;
 use settling::settle::{Schedule, Visits};
 
@@ -36,7 +36,14 @@ impl Visits for RankVisits<'_> {
     fn visit(&self, ranks: &mut [u32], c: usize) -> bool {
         let old = ranks[c];
         let at = self.places[c] as usize + 1;
-        let new = lowered_rank(self.q, self.ahead, self.behind, ranks, self.part, at, old);
+        let by = Ranks {
+            q: self.q,
+            ahead: self.ahead,
+            behind: self.behind,
+            ranks,
+            part: self.part,
+        };
+        let new = by.lowered_rank(at, old);
         ranks[c] = new;
         new < old
     }

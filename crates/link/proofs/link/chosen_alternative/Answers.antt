@@ -17,7 +17,7 @@ pub overflow_add-opener : goal.overflow_add-opener
 overflow_add-opener c = omega (arith, last_within _ _ _ _ _ c.loop-alternative.invariant c.loop-alternative-test.true, c.requires.2)
 
 pub greatest_depth-requires : goal.greatest_depth-requires
-greatest_depth-requires c = (c.requires.0, last_within _ _ _ _ _ c.loop-alternative.invariant c.loop-alternative-test.true)
+greatest_depth-requires c = last_within _ _ _ _ _ c.loop-alternative.invariant c.loop-alternative-test.true
 
 pub returns-then-greatest_depth-k : goal.returns-then-greatest_depth-k
 unfolding alternative_in
