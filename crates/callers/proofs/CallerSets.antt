@@ -10,7 +10,10 @@ use native.Mathlib.Decide.{ℕ_discrete, dec_lt}
 use mathlib.Core.Path.{◌≡◌, refl, sym, ap, ap₂, ◌∙◌}
 use mathlib.Core.Bool.{Bool, true, false, ◌&&◌, ◌||◌}
 use mathlib.Core.List.{List, [], ◌∷◌}
-use lib.Bits.{bit_or, or_zero_l}
+use lib.Bits.{bit_and, bit_or, or_zero_l}
+use Rattle.std.specs.Int.{trailing_zeros}
+use Rattle.std.proofs.Common.{w64, min}
+use Rattle.std.proofs.lemmas.Nat.Bits.{bit_at-trailing_zeros}
 use lib.Dec.{eqb, ltb}
 use lib.ListN.{length, get_or, set, drop, length-set, get_or-eq_default}
 use lib.Pow.{pow-lt}
@@ -179,6 +182,24 @@ united_out d callers s s' words c l e =
     let word = words k (omega arith) in
     let none : bit (bit_or x y) f ≡ 0 = in_none (bit_or x y) f (ap (λ (w : ℕ). in_column w f) (sym word) ∙ e) in
     (none_in x f (omega (arith, bit_or_lem x y f)), none_in y f (omega (arith, bit_or_lem x y f)))
+
+-- the lowest bit that words k of a set and of the callers of sequence d have in common
+pub first_in : (s callers : List ℕ) (d k both t c : ℕ) → k < 4 → both ≡ bit_and (get_or s k 0) (get_or callers (4 * d + k) 0) → 0 < both → both < 2 ^ 64
+    → t ≡ trailing_zeros w64 both → c ≡ 64 * k + t → (c < 256) × (in_set s c ≡ true) × (is_caller callers d c ≡ true)
+unfolding bit
+first_in s callers d k both t c low e some fits is at =
+    let found = bit_at-trailing_zeros w64 both some fits in
+    let within : t < 64 = omega (arith, is, found.0) in
+    let one : bit both t ≡ 1 = ap (bit both) is ∙ found.1 in
+    let parts : min (bit (get_or s k 0) t) (bit (get_or callers (4 * d + k) 0) t) ≡ 1 =
+    sym (bit_and_lem (get_or s k 0) (get_or callers (4 * d + k) 0) t) ∙ ap (λ (x : ℕ). bit x t) (sym e) ∙ one in
+    let word : k ≡ c / 64 = omega arith in
+    let place : t ≡ c % 64 = omega arith in (
+      omega arith,
+      ap₂ (λ (j f : ℕ). in_column (get_or s j 0) f) (sym word) (sym place) ∙ one_in (get_or s k 0) t (omega (arith, bit_le (get_or s k 0) t)),
+      ap₂ (λ (j f : ℕ). in_column (get_or callers (4 * d + j) 0) f) (sym word) (sym place)
+          ∙ one_in (get_or callers (4 * d + k) 0) t (omega (arith, bit_le (get_or callers (4 * d + k) 0) t)),
+    )
 
 -- ---- the callers
 

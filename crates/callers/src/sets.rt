@@ -1,7 +1,7 @@
 // Sets of sequences as bits, four words a set: bit c % 64 of word c / 64 says whether sequence c is in it.
-ghost use Rattle.std.specs.Prelude.{◌≡◌, ◌+◌, ◌*◌, ◌%◌, ◌≤◌, ◌<◌, ℕ, List, length};
+ghost use Rattle.std.specs.Prelude.{◌≡◌, ◌+◌, ◌*◌, ◌%◌, ◌≤◌, ◌<◌, ℕ, List, length, true, IfSome};
 ghost use Rattle.image.specs.Word.{most_sequences};
-ghost use Rattle.callers.specs.Callers.{set_words, in_set, with_member, Removed, United, no_sequences, every_sequence};
+ghost use Rattle.callers.specs.Callers.{set_words, in_set, is_caller, with_member, Removed, United, no_sequences, every_sequence};
 
 use column::sets::{holds, union, without};
 use column::with_fact;
@@ -74,6 +74,22 @@ impl Set {
     {
         let k = c / WORD_BITS;
         self.words[k] = without(self.words[k], with_fact(0, bit_of(c)));
+    }
+
+    // The first of the callers of sequence `d` that are in the set.
+    pub fn first_caller(&self, callers: &[u64], d: usize) -> Option<usize>
+        requires { set_words * d + set_words ≤ length callers.now }
+        ensures { IfSome result (λ c. (c < most_sequences) × (in_set self.now c ≡ true) × (is_caller callers.now d c ≡ true)) }
+    {
+        let at = SET_WORDS * d;
+        let words = &self.words;
+        for k in 0..SET_WORDS {
+            let both = words[k] & callers[at + k];
+            if both != 0 {
+                return Some(WORD_BITS * k + both.trailing_zeros() as usize);
+            }
+        }
+        None
     }
 
     // Puts the callers of sequence `d` in.

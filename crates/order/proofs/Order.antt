@@ -1,20 +1,32 @@
 -- Orders: what holds at the heads of the loops that mark the numbers which an order names, and that write the numbers in turn.
 -- Assumes nothing.
-use Rattle.std.proofs.Common.{◌≡◌, ℕ, ◌+◌, ◌<◌, ◌≤◌, List, length, get_or, take, set, sym, ◌∙◌, arith, length-take-le, get_or-set_other, get_or-take, get_or-set_same, below_more}
+use Rattle.std.proofs.Common.{◌≡◌, ℕ, ◌+◌, ◌<◌, ◌≤◌, ◌/◌, refl, length-set, List, length, get_or, take, set, sym, ◌∙◌, arith, length-take-le, get_or-set_other, get_or-take, get_or-set_same, below_more}
 use native.Mathlib.Decide.{ℕ_discrete}
-use Rattle.general.specs.Numbers.{Complete, Zeros}
+use mathlib.Core.Bool.{false≢true}
+use Rattle.general.specs.Numbers.{Complete}
+use Rattle.general.proofs.Numbers.{zeros}
+use Rattle.callers.specs.Callers.{no_sequences, with_member}
+use Rattle.callers.proofs.CallerSets.{member_other, none_member}
 use Rattle.order.specs.Order.{MarksNamed, InTurn}
 
--- a mark for the number at place i
-pub marked_turn : (order seen : List ℕ) (i : ℕ) → i < length order → MarksNamed order seen → MarksNamed order (set seen (get_or order i 0) 1)
-marked_turn order seen i l marked c e =
-    elim (ℕ_discrete c (get_or order i 0)) [
-      | yes same ↦ record { place = i; within = l; number = sym same }
-      | no other ↦ marked c (sym (get_or-set_other seen (get_or order i 0) c 1 0 other) ∙ e)
-    ]
+-- what holds at the head of the loop that marks: the set has its words, and what is in it is named
+pub record Marking (order seen : List ℕ) : Type 0 where
+  pub four : length seen ≡ 4
+  pub named : MarksNamed order seen
 
-pub marked_start : (order seen : List ℕ) → Zeros seen → MarksNamed order seen
-marked_start order seen zero c e = absurd (omega (arith, zero c))
+-- a mark for the number at place i
+pub marked_turn : (order seen : List ℕ) (i c : ℕ) → i < length order → get_or order i 0 ≡ c → c < 256 → Marking order seen → Marking order (with_member seen c)
+marked_turn order seen i c l is low p =
+    record {
+      four = length-set seen (c / 64) _ ∙ p.four;
+      named = λ d e. elim (ℕ_discrete d c) [
+        | yes same ↦ record { place = i; within = l; number = is ∙ sym same }
+        | no other ↦ p.named d (sym (member_other seen c (omega (arith, p.four)) d other) ∙ e)
+      ];
+    }
+
+pub marked_start : (order : List ℕ) → Marking order no_sequences
+marked_start order = record { four = refl; named = λ c e. absurd (false≢true (sym (none_member no_sequences (zeros 4) c) ∙ e)) }
 
 -- number c at place c
 pub in_turn_next : (order : List ℕ) (c : ℕ) → c < length order → InTurn order c → InTurn (set order c c) (c + 1)

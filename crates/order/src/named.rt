@@ -1,44 +1,37 @@
 // Whether an order names every number, which is tested at run time, and the order of the numbers in turn.
-ghost use Rattle.std.specs.Prelude.{◌≡◌, ◌≤◌, true, length, slice_set};
-ghost use Rattle.general.specs.Numbers.{Complete, Zeros};
+ghost use Rattle.std.specs.Prelude.{◌≡◌, ◌≤◌, true, length};
+ghost use Rattle.general.specs.Numbers.{Complete};
 ghost use Rattle.order.specs.Order.{MarksNamed, AllMarked, InTurn};
 
+use callers::sets::Set;
 use image::word::MOST_SEQUENCES;
 
-// Marks number `c` where it has a mark.
-fn mark_one(seen: &mut [u32], c: usize)
-    ensures { seen.new ≡ slice_set seen.old c 1 }
-{
-    if c < seen.len() {
-        seen[c] = 1;
-    }
-}
+const MOST: usize = MOST_SEQUENCES as usize;
 
-// Marks each number that `order` names.
-fn mark(order: &[usize], seen: &mut [u32])
-    requires { Zeros seen.old }
-    ensures { MarksNamed order.now seen.new }
+// The numbers that `order` names, of those that are sequences'.
+fn mark(order: &[usize]) -> Set
+    ensures { MarksNamed order.now result }
 {
-    let mut i = 0;
-    while i < order.len() {
-        mark_one(seen, order[i]);
-        i += 1;
+    let mut seen = Set::default();
+    for c in order {
+        if *c < MOST {
+            seen.insert(*c);
+        }
     }
+    seen
 }
 
 // Whether each number below `n` is marked.
-fn all_marked(seen: &[u32], n: usize) -> bool
+fn all_marked(seen: &Set, n: usize) -> bool
     ensures { result ≡ true → AllMarked seen.now n }
 {
-    if seen.len() < n {
+    if MOST < n {
         return false;
     }
-    let mut c = 0;
-    while c < n {
-        if seen[c] != 1 {
+    for c in 0..n {
+        if !seen.contains(c) {
             return false;
         }
-        c += 1;
     }
     true
 }
@@ -47,8 +40,7 @@ fn all_marked(seen: &[u32], n: usize) -> bool
 pub fn complete(order: &[usize], n: usize) -> bool
     ensures { result ≡ true → Complete order.now n }
 {
-    let mut seen = [0u32; MOST_SEQUENCES as usize];
-    mark(order, &mut seen);
+    let seen = mark(order);
     all_marked(&seen, n)
 }
 
@@ -57,9 +49,7 @@ pub fn write_numbers(order: &mut [usize], n: usize)
     requires { n ≤ length order.old }
     ensures { InTurn order.new n }
 {
-    let mut c = 0;
-    while c < n {
-        order[c] = c;
-        c += 1;
+    for (c, place) in order[..n].iter_mut().enumerate() {
+        *place = c;
     }
 }

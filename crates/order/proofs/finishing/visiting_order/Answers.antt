@@ -5,17 +5,10 @@ use Rattle.order.proofs.Order.{in_turn_complete}
 use Rattle.order.proofs.finishing.visiting_order.Goals as goal
 
 pub slice_bounds-complete-end-2 : goal.slice_bounds-complete-end-2
-slice_bounds-complete-end-2 c =
-    let ordered = c in
-    let start = ordered in
-    sym (length-take-le _ _ (omega (arith, ordered.finishing_order.auto, start.requires.1)))
+slice_bounds-complete-end-2 c = sym (length-take-le _ _ (omega (arith, c.finishing_order.auto, c.requires.1)))
 
 pub returns-then-complete : goal.returns-then-complete
 returns-then-complete c = c.complete.ensures c.if-complete.true
 
 pub returns : goal.returns
-returns c =
-    let numbered = c in
-    let ordered = numbered in
-    let start = ordered in
-    in_turn_complete _ _ (omega (arith, numbered.write_numbers.auto, ordered.finishing_order.auto, start.requires.1)) numbered.write_numbers.ensures
+returns c = in_turn_complete _ _ (omega (arith, c.write_numbers.auto, c.finishing_order.auto, c.requires.1)) c.write_numbers.ensures

@@ -1,19 +1,19 @@
 -- `order::named::mark` meets its contract: what is marked so far is named.
 -- Assumes nothing.
-use Rattle.std.proofs.Common.{arith}
+use Rattle.std.proofs.Common.{refl}
 use Rattle.order.proofs.Order.{marked_start, marked_turn}
 use Rattle.order.proofs.named.mark.Goals as goal
+use Rattle.order.proofs.named.mark.Goals.{then-c-lt-MOST, else-c-lt-MOST}
 
-pub loop-i-init : goal.loop-i-init
-loop-i-init c = let start = c in (omega arith, omega arith, marked_start start.args.order.now start.args.seen.now start.requires)
+pub loop-c-init : goal.loop-c-init
+loop-c-init c = rw c.default-seen.ensures (marked_start c.args.order.now)
 
-pub loop-i-preserved : goal.loop-i-preserved
-loop-i-preserved c =
-    let marked = c in
-    let turn = marked in
-    let at-loop = turn in
-    let a = at-loop.args in (
-      omega (arith, turn.loop-i-test.true),
-      omega (arith, marked.mark_one.auto),
-      rw marked.mark_one.ensures (marked_turn a.order.now at-loop.loop-i.seen at-loop.loop-i.i turn.loop-i-test.true at-loop.loop-i.invariant.2),
-    )
+pub loop-c-preserved : goal.loop-c-preserved
+loop-c-preserved c =
+    elim c.if-c-lt-MOST.branch [
+      | then-c-lt-MOST w ↦ rw (w.seen-is, w.insert.ensures) (marked_turn c.args.order.now c.loop-c.seen c.loop-c.c-index _ c.loop-c-test.true refl w.if-c-lt-MOST.true c.loop-c.invariant)
+      | else-c-lt-MOST w ↦ rw w.seen-is c.loop-c.invariant
+    ]
+
+pub returns : goal.returns
+returns c = c.loop-c.invariant.named
