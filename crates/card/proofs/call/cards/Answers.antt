@@ -4,8 +4,8 @@ use mathlib.Core.Path.{sym, ◌∙◌}
 use Rattle.card.proofs.Filled.{call_refused}
 use Rattle.card.proofs.call.cards.Goals as goal
 
-pub fill-requires : goal.fill-requires
-fill-requires c = sym c.check.ensures ∙ c.in-Accepted.is
+pub invariant_of-fill : goal.invariant_of-fill
+invariant_of-fill c = record { accepted = sym c.check.ensures ∙ c.in-Accepted.is }
 
 pub returns-in-Refused : goal.returns-in-Refused
 returns-in-Refused c = let a = c.args in call_refused a.image.now a.area.now c.in-Refused.r (sym c.check.ensures ∙ c.in-Refused.is)

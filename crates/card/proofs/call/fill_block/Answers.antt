@@ -27,8 +27,9 @@ write_blocks-requires g c =
 pub returns : goal.returns
 returns g c =
     let a = c.args in
-    let rest = drop (card_words * a.h.sequences) a.area.now in
+    let n = a.tables.now.accepted.head.sequences in
+    let rest = drop (card_words * n) a.area.now in
     c.write_blocks.ensures
-    ∙ ap (λ (t : List _). cards_with a.block t a.area.now 0 a.h.sequences ++ rest) c.outcome_table.ensures
+    ∙ ap (λ (t : List _). cards_with a.block t a.area.now 0 n ++ rest) c.outcome_table.ensures
     ∙ ap (λ (ws : List _). ws ++ rest)
-    (table_cards (library_of a.image.now) a.block _ a.area.now a.h.sequences (sym (counted _ _ c.requires.0.given.accepted).sequences))
+    (table_cards (library_of a.tables.now.accepted.image.now) a.block _ a.area.now n (sym (counted _ _ c.requires.0.given.accepted).sequences))

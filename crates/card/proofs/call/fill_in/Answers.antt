@@ -19,7 +19,7 @@ prepare-requires g c =
     }
 
 pub loop-block-init : goal.loop-block-init
-loop-block-init g c = filling_start c.args.image.now c.args.h c.requires.0.accepted _ _ c.clear.ensures
+loop-block-init g c = filling_start c.args.accepted.now.image.now c.args.accepted.now.head c.requires.0.accepted _ _ c.clear.ensures
 
 pub fill_block-requires : goal.fill_block-requires
 fill_block-requires g c =
@@ -44,8 +44,8 @@ fill_block-requires g c =
 
 pub loop-block-preserved : goal.loop-block-preserved
 loop-block-preserved g c =
-    filling_turn c.args.image.now c.args.h c.requires.0.accepted _ _ _ c.loop-block.invariant (omega arith) _ c.fill_block.ensures
+    filling_turn c.args.accepted.now.image.now c.args.accepted.now.head c.requires.0.accepted _ _ _ c.loop-block.invariant (omega arith) _ c.fill_block.ensures
 
 pub returns : goal.returns
 returns g c =
-    filling_end c.args.image.now c.args.h c.requires.0.accepted _ _ c.clear.ensures _ _ c.loop-block.invariant (omega arith) (omega arith)
+    filling_end c.args.accepted.now.image.now c.args.accepted.now.head c.requires.0.accepted _ _ c.clear.ensures _ _ c.loop-block.invariant (omega arith) (omega arith)

@@ -1,4 +1,4 @@
--- `outcome::table::outcome_table` meets its contract: the tables are what the passes ask, and a settled table is the outcome table.
+-- `outcome::table::Tables::outcome_table` meets its contract: the tables are what the visits ask, and a settled table is the outcome table.
 -- Assumes nothing.
 use native.Mathlib.Omega.{arith}
 use Prim.Native.Nat.{ℕ, ◌*◌}
@@ -7,12 +7,8 @@ use mathlib.Core.List.{List, ◌++◌}
 use lib.ListN.{drop}
 use lib.Seq.{length-take-le}
 use Rattle.row.specs.Words.{row_words}
-use Rattle.tables.proofs.Tables.{image_long}
 use Rattle.outcome.proofs.Fill.{table_long, settle_asked, outcomes_done}
-use Rattle.outcome.proofs.table.outcome_table.Goals as goal
-
-pub sequences_part-part-requires : goal.sequences_part-part-requires
-sequences_part-part-requires c = image_long c.args.image.now c.args.h c.requires.given.accepted
+use Rattle.outcome.proofs.table.Tables.outcome_table.Goals as goal
 
 pub slice_bounds-settle-end : goal.slice_bounds-settle-end
 slice_bounds-settle-end c = c.requires.room
@@ -25,10 +21,10 @@ slice_bounds-settle-end-2 c = sym (table_long c.requires)
 
 pub settle-requires : goal.settle-requires
 settle-requires c =
-    settle_asked c.requires c.sequences_part-part.ensures c.prepare_masks.ensures c.all_in-all.ensures c.write_step_rows.ensures (omega (arith, c.write_step_rows.auto))
+    settle_asked c.requires c.sequences_part.ensures c.prepare_masks.ensures c.all_in-all.ensures c.write_step_rows.ensures (omega (arith, c.write_step_rows.auto))
 
 pub returns : goal.returns
 returns c =
-    ap (λ (t : List ℕ). t ++ drop (row_words * c.args.h.sequences) c.args.table.now)
-    (outcomes_done c.requires c.sequences_part-part.ensures c.prepare_masks.ensures c.all_in-all.ensures c.write_step_rows.ensures
+    ap (λ (t : List ℕ). t ++ drop (row_words * c.args.self.now.accepted.head.sequences) c.args.table.now)
+    (outcomes_done c.requires c.sequences_part.ensures c.prepare_masks.ensures c.all_in-all.ensures c.write_step_rows.ensures
     (omega (arith, c.write_step_rows.auto)) _ refl _ c.settle.ensures)
