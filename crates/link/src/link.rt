@@ -10,7 +10,7 @@ ghost use Rattle.link.specs.Choice.{alternative_in, Chosen};
 use image::word::payload_of;
 use rank::read::Table;
 use slot::entry::{passes, traits_of};
-use walk::sequence::{alternatives_of, opener_before, part_entry, selected_index};
+use walk::sequence::{alternatives_of, opener_before, part_entry, select};
 
 // An alternative, the position of an entry there, and the number that the entry names.
 #[derive(Clone, Copy)]
@@ -30,7 +30,7 @@ fn tail_from(none: u32, behind: &[u32], words: &[u32]) -> usize
         if !part_entry(w) {
             break;
         }
-        start = selected_index(passes(none, behind, w), start, i + 1);
+        start = select(passes(none, behind, w), start, i + 1);
     }
     start
 }

@@ -9,8 +9,8 @@ ghost use Rattle.rank.specs.Tables.{depth_in, every_in, fewest_after, fewest_in,
 use crate::entries::walk_entries;
 use image::word::Kind;
 use question::asked::{Asked, Mark};
-use slot::entry::{Traits, choose, passes, rank_of, traits_of};
-use walk::sequence::part_entry;
+use slot::entry::{Traits, passes, rank_of, traits_of};
+use walk::sequence::{part_entry, select};
 
 // What an alternative comes to, and the index at which the walk over its entries ended: that of the first dead one, or of the word after them.
 #[derive(Clone, Copy)]
@@ -81,8 +81,8 @@ impl Positions {
         ensures { (result.best ≡ min (cond t.behind self.best none) (max t.rank self.floor)) × (result.floor ≡ cond t.ahead self.floor none) }
     {
         Positions {
-            best: choose(t.behind, self.best, none).min(t.rank.max(self.floor)),
-            floor: choose(t.ahead, self.floor, none),
+            best: select(t.behind, self.best, none).min(t.rank.max(self.floor)),
+            floor: select(t.ahead, self.floor, none),
         }
     }
 }

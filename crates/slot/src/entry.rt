@@ -6,10 +6,10 @@ ghost use Rattle.library.specs.Library.{entry_of};
 ghost use Rattle.slot.specs.Slots.{first_step, slot_of, rank_in, pass_in, traits_in, RankWithin, mark_of, step_mark, mark_rank, check_rank, step_rank, Written, ItemsRankable, ItemsRanked};
 
 use column::sets::holds;
-use image::word::{KIND_CHECK, KIND_STEP_ENTRY, MOST_FACTS, PAYLOADS, payload_of};
+use image::word::{Kind, MOST_FACTS, kind_of, payload_of};
 use library::tables::MASK_WORDS;
 use question::asked::{Asked, Mark};
-use walk::sequence::selected_index;
+use walk::sequence::select;
 
 // An entry's rank, and whether it passes as one ahead of the position and as one behind it.
 #[derive(Clone, Copy)]
@@ -19,25 +19,15 @@ pub struct Traits {
     pub behind: bool,
 }
 
-// The value where the test holds, otherwise the other one.
-pub fn choose<T: Copy>(test: bool, x: T, other: T) -> T
-    ensures { result ≡ cond test x other }
-{
-    if test {
-        return x;
-    }
-    other
-}
-
 // The mark that two columns give the fact that has bit `b` in them.
 fn mark_of(b: u32, one: u64, other: u64) -> Mark
     requires { b < 64 }
     ensures { result ≡ mark_of b one other }
 {
-    choose(
+    select(
         holds(one, b),
         Mark::Present,
-        choose(holds(other, b), Mark::Absent, Mark::Untouched),
+        select(holds(other, b), Mark::Absent, Mark::Untouched),
     )
 }
 
@@ -46,7 +36,7 @@ fn step_mark(q: Asked, masks: &[u64], a: usize) -> Mark
     requires { mask_words * a + mask_words ≤ length masks.now }
     ensures { result ≡ step_mark q masks.now a }
 {
-    let at = MASK_WORDS * a + choose(q.first, 0, 1);
+    let at = MASK_WORDS * a + select(q.first, 0, 1);
     mark_of(q.fact_bit(), masks[at], masks[at + 1])
 }
 
@@ -54,7 +44,7 @@ fn step_mark(q: Asked, masks: &[u64], a: usize) -> Mark
 fn mark_rank(all: bool, q: Asked, mark: Mark) -> u32
     ensures { result ≡ mark_rank all q mark }
 {
-    choose(all | (mark == q.mark), 0, q.none)
+    select(all | (mark == q.mark), 0, q.none)
 }
 
 // Writes the ranks of the checks into a table: those of all facts that there may be stand from word `none` on. They are alike but for that of
@@ -68,7 +58,7 @@ fn write_check_ranks(all: bool, q: Asked, ranks: &mut [u32])
     ranks[base + q.fact as usize] = mark_rank(
         all,
         q,
-        choose(q.first, Mark::Present, Mark::Untouched),
+        select(q.first, Mark::Present, Mark::Untouched),
     );
 }
 
@@ -100,11 +90,12 @@ fn slot_of(none: u32, w: u32) -> usize
     requires { is_entry w ≡ true }
     ensures { result ≡ slot_of none w }
 {
-    let kind = w / PAYLOADS;
+    let kind = kind_of(w);
     let first_check = none as usize;
     let first_step = first_check + MOST_FACTS as usize;
-    let check_or_call = selected_index(KIND_CHECK <= kind, first_check, 0);
-    payload_of(w) as usize + selected_index(kind <= KIND_STEP_ENTRY, first_step, check_or_call)
+    let check_or_call = select(Kind::Check.number() <= kind, first_check, 0);
+    let base = select(kind <= Kind::StepEntry.number(), first_step, check_or_call);
+    payload_of(w) as usize + base
 }
 
 // The rank of an entry.

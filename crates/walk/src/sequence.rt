@@ -69,14 +69,11 @@ pub fn rest_end(part: &[u32], at: usize) -> usize
     entries_end(part, i)
 }
 
-// The index where the test holds, otherwise the other one.
-pub fn selected_index(test: bool, x: usize, other: usize) -> usize
+// The value where the test holds, otherwise the other one. No way out and no work in either, so that it compiles to no branch.
+pub fn select<T: Copy>(test: bool, x: T, other: T) -> T
     ensures { result ≡ cond test x other }
 {
-    if test {
-        return x;
-    }
-    other
+    if test { x } else { other }
 }
 
 // The alternatives that stand from index `at` on.
@@ -97,7 +94,7 @@ pub fn alternatives_of(part: &[u32], at: usize) -> Alternatives
             };
         }
         count += opens as u32;
-        last = selected_index(opens, end, last);
+        last = select(opens, end, last);
         end += 1;
     }
 }

@@ -10,7 +10,7 @@ use Rattle.link.proofs.link.tail_from.Goals as goal
 
 pub loop-i-preserved : goal.loop-i-preserved
 loop-i-preserved c =
-    rw c.selected_index-start.ensures
+    rw c.select-start.ensures
     (folding_turn c.loop-i.invariant (sym c.part_entry.ensures ∙ c.if-not-part_entry.false) (tail_cons _ _ _ _ _ _ (sym c.passes.ensures)))
 
 pub returns-after-loop-i : goal.returns-after-loop-i

@@ -44,4 +44,4 @@ loop-at-smaller c =
 pub loop-at-preserved : goal.loop-at-preserved
 loop-at-preserved c =
     let next : LastBefore c.args.part.now c.args.at (c.loop-at.count + bool_byte c.is_kind-opens.result) (cond c.is_kind-opens.result c.loop-at.end c.loop-at.last) (c.loop-at.end + 1) = let read = c in rw (c.is_kind-opens.ensures, read.word_at-w.ensures) (last_turn _ _ _ _ _ read.loop-at.invariant (word _ _ _ _ true read.word_at-w.ensures c.is_kind-opens.ensures c.is_entry.ensures (c.if-not-opens-is_entry.false))) in
-    rw c.selected_index-last.ensures (next)
+    rw c.select-last.ensures (next)
