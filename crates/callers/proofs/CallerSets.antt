@@ -20,12 +20,10 @@ use lib.Pow.{pow-lt}
 use lib.Seq.{get_or-set_same, get_or-set_other}
 use mir.Val.{bool_byte}
 use borrow.Author.Tests.{eqb-true, eqb-false, eq-eqb, ne_eqb, lt-ltb, le-ltb}
-use Rattle.image.specs.Word.{payload, is_kind}
 use Rattle.general.proofs.Bools.{or_right}
 use Rattle.library.specs.Library.{alternatives_from}
 use Rattle.library.specs.Calls.{calls_of}
-use Rattle.walk.specs.Walk.{entries_end}
-use Rattle.callers.proofs.Calls.{left, left_start, left_call, left_on, left_out, left_past}
+use Rattle.callers.specs.Callees.{calls_left, Called}
 use Rattle.column.specs.Column.{bit, with_fact}
 use Rattle.column.specs.Sets.{in_column, difference}
 use Rattle.column.proofs.Bits.{bit_none, bit_le, bit_or_lem, bit_and_lem, bit_not, bit_pow}
@@ -207,8 +205,8 @@ or_none : (x : Bool) → x ≡ (x || false)
 or_none true = refl
 or_none false = refl
 
--- the sequence that a word names has c among its callers
-module _ (s : List ℕ) (w c p v : ℕ) (named : p ≡ payload w) (few : c < 256) (l : 4 * p + c / 64 < length s)
+-- sequence p has c among its callers
+module _ (s : List ℕ) (c p v : ℕ) (few : c < 256) (l : 4 * p + c / 64 < length s)
     (e : v ≡ with_fact (get_or s (4 * p + c / 64) 0) (c % 64)) where
   abbrev k : ℕ
   k = 4 * p + c / 64
@@ -218,7 +216,7 @@ module _ (s : List ℕ) (w c p v : ℕ) (named : p ≡ payload w) (few : c < 256
   there d b same =
       ap (λ (j : ℕ). in_column (get_or (set s k v) j 0) (b % 64)) same ∙ ap (λ (x : ℕ). in_column x (b % 64)) (get_or-set_same s k v 0 l ∙ e)
 
-  others_callers : (d b : ℕ) → b < 256 → (b ≡ c → payload w ≡ d → ⊥) → is_caller (set s k v) d b ≡ is_caller s d b
+  others_callers : (d b : ℕ) → b < 256 → (b ≡ c → p ≡ d → ⊥) → is_caller (set s k v) d b ≡ is_caller s d b
   others_callers d b low other =
       elim (ℕ_discrete (4 * d + b / 64) k) [
         | yes same ↦
@@ -228,69 +226,60 @@ module _ (s : List ℕ) (w c p v : ℕ) (named : p ≡ payload w) (few : c < 256
         | no apart ↦ ap (λ (x : ℕ). in_column x (b % 64)) (get_or-set_other s k (4 * d + b / 64) v 0 apart)
       ]
 
-  pub added : Put c (λ d. eqb (payload w) d) s (set s k v)
-  added d b low room = go (eqb b c) (eqb (payload w) d) refl refl
+  pub added : Put c (λ d. eqb p d) s (set s k v)
+  added d b low room = go (eqb b c) (eqb p d) refl refl
     where
-      go : (x y : Bool) → eqb b c ≡ x → eqb (payload w) d ≡ y → is_caller (set s k v) d b ≡ (is_caller s d b || (x && y))
+      go : (x y : Bool) → eqb b c ≡ x → eqb p d ≡ y → is_caller (set s k v) d b ≡ (is_caller s d b || (x && y))
       go true true same name =
           let one = eqb-true b c same in
-          let two = eqb-true (payload w) d name in
+          let two = eqb-true p d name in
           there d b (omega arith)
           ∙ ap (λ (f : ℕ). in_column (with_fact (get_or s k 0) (c % 64)) (f % 64)) one
           ∙ with_same (get_or s k 0) (c % 64)
           ∙ sym (or_right (is_caller s d b) true refl)
-      go true false same name = others_callers d b low (λ q r. eqb-false (payload w) d name r) ∙ or_none (is_caller s d b)
+      go true false same name = others_callers d b low (λ q r. eqb-false p d name r) ∙ or_none (is_caller s d b)
       go false y same name = others_callers d b low (λ q r. eqb-false b c same q) ∙ or_none (is_caller s d b)
 
 -- where the set has no room
-pub added_none : (s : List ℕ) (w c : ℕ) → c < 256 → length s ≤ 4 * payload w + c / 64 → Put c (λ d. eqb (payload w) d) s s
-added_none s w c few l d b low room =
+pub added_none : (s : List ℕ) (p c : ℕ) → c < 256 → length s ≤ 4 * p + c / 64 → Put c (λ d. eqb p d) s s
+added_none s p c few l d b low room =
     or_none (is_caller s d b)
-    ∙ ap (λ (x : Bool). is_caller s d b || x) (sym (and_none (eqb b c)) ∙ ap (λ (y : Bool). eqb b c && y) (sym (ne_eqb (payload w) d (λ q. omega arith))))
+    ∙ ap (λ (x : Bool). is_caller s d b || x) (sym (and_none (eqb b c)) ∙ ap (λ (y : Bool). eqb b c && y) (sym (ne_eqb p d (λ q. omega arith))))
   where
     and_none : (x : Bool) → (x && false) ≡ false
     and_none true = refl
     and_none false = refl
 
--- what holds at the head of the loop over a sequence's words: the callers so far, with the calls that are left, are all
+-- what holds at the head of the loop over the calls of sequence c: the callers so far, with the calls that are left, are all
 pub record Adding (part : List ℕ) (at c : ℕ) (s₀ s : List ℕ) (i : ℕ) : Type 0 where
   pub long : length s ≡ length s₀
   pub same : (d b : ℕ) → b < 256 → 4 * d + 4 ≤ length s₀
-      → (is_caller s d b || (eqb b c && left part i d)) ≡ (is_caller s₀ d b || (eqb b c && calls_of (alternatives_from (drop at part)) d))
+      → (is_caller s d b || (eqb b c && calls_left part i d)) ≡ (is_caller s₀ d b || (eqb b c && calls_of (alternatives_from (drop at part)) d))
 
-pub adding_start : (part : List ℕ) (at c : ℕ) (s : List ℕ) (i : ℕ) → i ≡ entries_end part at → Adding part at c s s i
-adding_start part at c s i e =
-    record { long = refl; same = λ d b low room. ap (λ (x : Bool). is_caller s d b || (eqb b c && x)) (left_start part at i d e) }
+pub adding_start : (part : List ℕ) (at c : ℕ) (s : List ℕ) (i : ℕ) → ((d : ℕ) → calls_left part i d ≡ calls_of (alternatives_from (drop at part)) d)
+    → Adding part at c s s i
+adding_start part at c s i e = record { long = refl; same = λ d b low room. ap (λ (x : Bool). is_caller s d b || (eqb b c && x)) (e d) }
 
 shift : (x e p r : Bool) → ((x || (e && p)) || (e && r)) ≡ (x || (e && (p || r)))
 shift true e p r = refl
 shift false false p r = refl
 shift false true p r = refl
 
-module _ (part : List ℕ) (at c : ℕ) (s₀ s : List ℕ) (i : ℕ) (here : Adding part at c s₀ s i) where
+module _ {part : List ℕ} {at c : ℕ} {s₀ s : List ℕ} {i : ℕ} (here : Adding part at c s₀ s i) where
   -- a call
-  pub adding_call : (s' : List ℕ) → length s' ≡ length s → is_kind 9 (get_or part i 0) ≡ true → Put c (λ d. eqb (payload (get_or part i 0)) d) s s'
-      → Adding part at c s₀ s' (i + 1)
-  adding_call s' long nine put =
+  pub adding_call : {next p : ℕ} (s' : List ℕ) → length s' ≡ length s → Called part i next p → Put c (λ d. eqb p d) s s' → Adding part at c s₀ s' next
+  adding_call {next} {p} s' long call put =
       record {
         long = long ∙ here.long;
         same = λ d b low room.
-            ap (λ (x : Bool). x || (eqb b c && left part (i + 1) d)) (put d b low (omega (arith, here.long)))
-            ∙ shift (is_caller s d b) (eqb b c) (eqb (payload (get_or part i 0)) d) (left part (i + 1) d)
-            ∙ ap (λ (x : Bool). is_caller s d b || (eqb b c && x)) (sym (left_call part i d nine))
+            ap (λ (x : Bool). x || (eqb b c && calls_left part next d)) (put d b low (omega (arith, here.long)))
+            ∙ shift (is_caller s d b) (eqb b c) (eqb p d) (calls_left part next d)
+            ∙ ap (λ (x : Bool). is_caller s d b || (eqb b c && x)) (sym (call.left d))
             ∙ here.same d b low room;
       }
 
-  -- the opener of an alternative, or an item
-  pub adding_on : is_kind 7 (get_or part i 0) || is_kind 8 (get_or part i 0) || is_kind 13 (get_or part i 0) ≡ true → Adding part at c s₀ s (i + 1)
-  adding_on inside =
-      record {
-        long = here.long;
-        same = λ d b low room. ap (λ (x : Bool). is_caller s d b || (eqb b c && x)) (left_on part i d inside) ∙ here.same d b low room;
-      }
-
   -- no call is left
-  adding_done : ((d : ℕ) → left part i d ≡ false) → Put c (λ d. calls_of (alternatives_from (drop at part)) d) s₀ s
+  pub adding_done : ((d : ℕ) → calls_left part i d ≡ false) → Put c (λ d. calls_of (alternatives_from (drop at part)) d) s₀ s
   adding_done none d b low room =
       or_none (is_caller s d b)
       ∙ ap (λ (x : Bool). is_caller s d b || x) (sym (and_none (eqb b c)) ∙ ap (λ (y : Bool). eqb b c && y) (sym (none d)))
@@ -299,13 +288,6 @@ module _ (part : List ℕ) (at c : ℕ) (s₀ s : List ℕ) (i : ℕ) (here : Ad
       and_none : (x : Bool) → (x && false) ≡ false
       and_none true = refl
       and_none false = refl
-
-  pub adding_out : is_kind 9 (get_or part i 0) ≡ false → is_kind 7 (get_or part i 0) || is_kind 8 (get_or part i 0) || is_kind 13 (get_or part i 0) ≡ false
-      → Put c (λ d. calls_of (alternatives_from (drop at part)) d) s₀ s
-  adding_out nine outside = adding_done (λ d. left_out part i d nine outside)
-
-  pub adding_end : length part ≤ i → Put c (λ d. calls_of (alternatives_from (drop at part)) d) s₀ s
-  adding_end past = adding_done (λ d. left_past part i d past)
 
 -- what holds at the head of the loop over the sequences
 pub record Writing (part places s₀ s : List ℕ) (n c : ℕ) : Type 0 where

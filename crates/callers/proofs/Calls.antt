@@ -18,6 +18,7 @@ use Rattle.walk.proofs.Walking.{entries_at, alternatives_at_lem, end_skips, end_
 use Rattle.general.specs.Tests.{All, some}
 use Rattle.general.proofs.Bools.{or_left, or_right, or_cases, nor_left, nor_right}
 use Rattle.library.specs.Calls.{is_call_of, calls_of}
+use Rattle.callers.specs.Callees.{calls_left}
 
 -- ---- something of each entry
 
@@ -41,18 +42,17 @@ module _ (P : Entry → Type 0) (items : (x : Item) → P (item x)) where
 
 -- ---- the calls that are left from an index on
 
--- by the entries from there on, or by the alternatives after them
 abbrev pub left : List ℕ → ℕ → ℕ → Bool
-left part i d = some (is_call_of d) (entries_from (drop i part)) || calls_of (alternatives_from (drop i part)) d
+left = calls_left
 
 left_by : (part : List ℕ) (i d : ℕ) {es : List Entry} {alts : List Alternative} → entries_from (drop i part) ≡ es → alternatives_from (drop i part) ≡ alts
-    → left part i d ≡ (some (is_call_of d) es || calls_of alts d)
+    → calls_left part i d ≡ (some (is_call_of d) es || calls_of alts d)
 left_by part i d = ap₂ (λ (es : List Entry) (alts : List Alternative). some (is_call_of d) es || calls_of alts d)
 
 -- after the entries that stand from index `at` on, all calls of the alternatives from there on are left
-pub left_start : (part : List ℕ) (at i d : ℕ) → i ≡ entries_end part at → left part i d ≡ calls_of (alternatives_from (drop at part)) d
+pub left_start : (part : List ℕ) (at i d : ℕ) → i ≡ entries_end part at → calls_left part i d ≡ calls_of (alternatives_from (drop at part)) d
 unfolding some
-left_start part at i d e = ap (λ (k : ℕ). left part k d) e ∙ left_by part (entries_end part at) d (end_ends part at) (sym (end_skips part at))
+left_start part at i d e = ap (λ (k : ℕ). calls_left part k d) e ∙ left_by part (entries_end part at) d (end_ends part at) (sym (end_skips part at))
 
 module _ (part : List ℕ) (i d : ℕ) where
   abbrev w : ℕ
@@ -63,37 +63,37 @@ module _ (part : List ℕ) (i d : ℕ) where
   or_assoc false y z = refl
 
   -- an entry
-  left_entry : is_entry w ≡ true → left part i d ≡ (is_call_of d (entry_of w) || left part (i + 1) d)
+  left_entry : is_entry w ≡ true → calls_left part i d ≡ (is_call_of d (entry_of w) || calls_left part (i + 1) d)
   unfolding some
   left_entry e =
       left_by part i d (entries_at part i true e) (alternatives_at_lem part i false true (entry_opens_none w e) e)
       ∙ or_assoc (is_call_of d (entry_of w)) (some (is_call_of d) (entries_from (drop (i + 1) part))) (calls_of (alternatives_from (drop (i + 1) part)) d)
 
-  left_item : is_entry w ≡ true → (x : Item) → entry_of w ≡ item x → left part (i + 1) d ≡ left part i d
-  left_item e x is = sym (left_entry e ∙ ap (λ (y : Entry). is_call_of d y || left part (i + 1) d) is)
+  left_item : is_entry w ≡ true → (x : Item) → entry_of w ≡ item x → calls_left part (i + 1) d ≡ calls_left part i d
+  left_item e x is = sym (left_entry e ∙ ap (λ (y : Entry). is_call_of d y || calls_left part (i + 1) d) is)
 
   -- an alternative
-  left_opener : is_kind 7 w ≡ true → left part (i + 1) d ≡ left part i d
+  left_opener : is_kind 7 w ≡ true → calls_left part (i + 1) d ≡ calls_left part i d
   unfolding some
   left_opener e = go (is_entry w) refl
     where
-      go : (b : Bool) → is_entry w ≡ b → left part (i + 1) d ≡ left part i d
+      go : (b : Bool) → is_entry w ≡ b → calls_left part (i + 1) d ≡ calls_left part i d
       go true f = absurd (false≢true (sym (entry_opens_none w f) ∙ e))
       go false f = sym (left_by part i d (entries_at part i false f) (alternatives_at_lem part i true false e f))
 
   -- neither
-  left_none : is_kind 7 w ≡ false → is_entry w ≡ false → left part i d ≡ false
+  left_none : is_kind 7 w ≡ false → is_entry w ≡ false → calls_left part i d ≡ false
   unfolding some
   left_none e f = left_by part i d (entries_at part i false f) (alternatives_at_lem part i false false e f)
 
   -- a call
-  pub left_call : is_kind 9 w ≡ true → left part i d ≡ (eqb (payload w) d || left part (i + 1) d)
+  pub left_call : is_kind 9 w ≡ true → calls_left part i d ≡ (eqb (payload w) d || calls_left part (i + 1) d)
   left_call nine =
       let k = kind_is 9 w nine in
-      left_entry (entry_of_lem w (inr (inl k))) ∙ ap (λ (y : Entry). is_call_of d y || left part (i + 1) d) (call_entry w k)
+      left_entry (entry_of_lem w (inr (inl k))) ∙ ap (λ (y : Entry). is_call_of d y || calls_left part (i + 1) d) (call_entry w k)
 
   -- the opener of an alternative, or an item
-  pub left_on : is_kind 7 w || is_kind 8 w || is_kind 13 w ≡ true → left part (i + 1) d ≡ left part i d
+  pub left_on : is_kind 7 w || is_kind 8 w || is_kind 13 w ≡ true → calls_left part (i + 1) d ≡ calls_left part i d
   left_on inside =
       ⊎_elim
       (λ (on : is_kind 7 w || is_kind 8 w ≡ true).
@@ -103,13 +103,13 @@ module _ (part : List ℕ) (i d : ℕ) where
       (or_cases (is_kind 7 w || is_kind 8 w) (is_kind 13 w) inside)
 
   -- another word, or the end of the words
-  pub left_out : is_kind 9 w ≡ false → is_kind 7 w || is_kind 8 w || is_kind 13 w ≡ false → left part i d ≡ false
+  pub left_out : is_kind 9 w ≡ false → is_kind 7 w || is_kind 8 w || is_kind 13 w ≡ false → calls_left part i d ≡ false
   left_out nine outside =
       let early = nor_left (is_kind 7 w || is_kind 8 w) (is_kind 13 w) outside in
       let none : is_entry w ≡ false = rw (nor_right (is_kind 7 w) (is_kind 8 w) early, nine, nor_right (is_kind 7 w || is_kind 8 w) (is_kind 13 w) outside) in
       left_none (nor_left (is_kind 7 w) (is_kind 8 w) early) none
 
-  pub left_past : length part ≤ i → left part i d ≡ false
+  pub left_past : length part ≤ i → calls_left part i d ≡ false
   left_past past =
       let zero_word = get_or-eq_default part 0 {n = i} past in
       left_none (ap (is_kind 7) zero_word) (ap is_entry zero_word)

@@ -2,5 +2,6 @@
 // order they are best visited.
 #![tactic(auto)]
 
+pub mod callees;
 pub mod sets;
 pub mod write;

@@ -14,7 +14,7 @@ const STACK: usize = MOST_SEQUENCES as usize;
 
 // Where the walk stands: the sequences that it has not entered, those that are entered and not finished, as many of the stack as it is deep, how many
 // are not finished, and how many it has not begun with.
-#[derive(Clone, Copy)]
+#[derive(Drop)]
 struct Walk<'a> {
     callers: &'a [u64],
     fresh: Set,

@@ -1,25 +1,15 @@
 -- `callers::write::add` meets its contract: where the area ends before it, nothing is written.
 -- Assumes nothing.
-use Prim.Native.Nat.{ℕ, ◌+◌, ◌*◌, ◌/◌}
-use native.Mathlib.Omega.{arith}
-use mathlib.Core.Path.{ap, ◌∙◌}
-use lib.ListN.{get_or}
+use Rattle.std.proofs.Common.{◌+◌, ◌*◌, ◌/◌, slice_index_or, ap, ◌∙◌}
 use Rattle.column.specs.Column.{with_fact}
 use Rattle.callers.proofs.CallerSets.{added, added_none}
 use Rattle.callers.proofs.write.add.Goals as goal
 
 pub returns-then-k-callers : goal.returns-then-k-callers
 returns-then-k-callers c =
-    let room = c in
-    let name = room in
-    let start = name in
-    let a = start.args in
-    added a.callers.now a.w a.c name.payload_of.result c.with_fact.result name.payload_of.ensures start.requires room.if-k-callers.true
-    (c.with_fact.ensures ∙ ap (λ (f : ℕ). with_fact (get_or a.callers.now (4 * name.payload_of.result + a.c / 64) 0) f) c.bit_of.ensures.0)
+    let s = c.args.callers.now in
+    let k = 4 * c.args.p + c.args.c / 64 in
+    added s c.args.c c.args.p c.with_fact.result c.requires c.if-k-callers.true (c.with_fact.ensures ∙ ap (with_fact (slice_index_or s k 0)) c.bit_of.ensures.0)
 
 pub returns-else-k-callers : goal.returns-else-k-callers
-returns-else-k-callers c =
-    let name = c in
-    let start = name in
-    let a = start.args in
-    added_none a.callers.now a.w a.c start.requires (omega (arith, c.if-k-callers.false, name.payload_of.ensures))
+returns-else-k-callers c = added_none c.args.callers.now c.args.p c.args.c c.requires c.if-k-callers.false

@@ -1,48 +1,22 @@
 -- `callers::write::add_calls` meets its contract: the callers so far, with the calls that are left, are all.
 -- Assumes nothing.
-use native.Mathlib.Omega.{arith}
-use mathlib.Core.Path.{sym, ◌∙◌}
-use Rattle.callers.proofs.CallerSets.{adding_start, adding_call, adding_on, adding_out, adding_end}
+use Rattle.std.proofs.Common.{◌≡◌, false, ℕ, List, subst, ◌∙◌, arith}
+use Rattle.callers.specs.Callees.{calls_left, Called}
+use Rattle.callers.proofs.CallerSets.{adding_start, adding_call, adding_done}
 use Rattle.callers.proofs.write.add_calls.Goals as goal
 
-pub loop-i-init : goal.loop-i-init
-loop-i-init c =
-    let a = c.args in
-    adding_start a.part.now a.at a.c a.callers.now _ c.entries_end-i.ensures
+pub loop-d-init : goal.loop-d-init
+loop-d-init c = (c.of-callees.ensures.same, adding_start c.args.part.now c.args.at c.args.c c.args.callers.now c.of-callees.result.at c.of-callees.ensures.calls)
 
-pub loop-i-preserved-then-is_kind : goal.loop-i-preserved-then-is_kind
-loop-i-preserved-then-is_kind c =
-    let add = c in
-    let call = add in
-    let at-loop = call in
-    let a = at-loop.args in
-    adding_call a.part.now a.at a.c a.callers.now at-loop.loop-i.callers at-loop.loop-i.i at-loop.loop-i.invariant _ (omega (arith, add.add.auto))
-    (sym call.is_kind.ensures ∙ call.if-is_kind.true) add.add.ensures
+pub loop-d-smaller : goal.loop-d-smaller
+loop-d-smaller c =
+    let call = subst (λ (part : List ℕ). Called part c.loop-d.callees.at c.next.new.self.at c.in-Some.d) c.loop-d.invariant.0 c.in-Some.ensures.call in
+    omega (arith, call.from, call.within, call.after)
 
-pub shape_of-callers-then-not-goes_on : goal.shape_of-callers-then-not-goes_on
-shape_of-callers-then-not-goes_on c = c.loop-i.invariant.long
-
-pub returns-then-not-goes_on : goal.returns-then-not-goes_on
-returns-then-not-goes_on c =
-    let call = c in
-    let at-loop = call in
-    let a = at-loop.args in
-    adding_out a.part.now a.at a.c a.callers.now at-loop.loop-i.callers at-loop.loop-i.i at-loop.loop-i.invariant
-    (sym call.is_kind.ensures ∙ call.if-is_kind.false) (sym c.goes_on.ensures ∙ c.if-not-goes_on.true)
-
-pub loop-i-preserved : goal.loop-i-preserved
-loop-i-preserved c =
-    let call = c in
-    let at-loop = call in
-    let a = at-loop.args in
-    adding_on a.part.now a.at a.c a.callers.now at-loop.loop-i.callers at-loop.loop-i.i at-loop.loop-i.invariant
-    (sym c.goes_on.ensures ∙ c.if-not-goes_on.false)
-
-pub shape_of-callers : goal.shape_of-callers
-shape_of-callers c = c.loop-i.invariant.long
+pub loop-d-preserved : goal.loop-d-preserved
+loop-d-preserved c =
+    let call = subst (λ (part : List ℕ). Called part c.loop-d.callees.at c.next.new.self.at c.in-Some.d) c.loop-d.invariant.0 c.in-Some.ensures.call in
+    (c.next.ensures.same ∙ c.loop-d.invariant.0, adding_call c.loop-d.invariant.1 c.add.new.callers (omega (arith, c.add.auto)) call c.add.ensures)
 
 pub returns : goal.returns
-returns c =
-    let at-loop = c in
-    let a = at-loop.args in
-    adding_end a.part.now a.at a.c a.callers.now at-loop.loop-i.callers at-loop.loop-i.i at-loop.loop-i.invariant (omega (arith, c.loop-i-test.false))
+returns c = adding_done c.loop-d.invariant.1 (subst (λ (part : List ℕ). (d : ℕ) → calls_left part c.loop-d.callees.at d ≡ false) c.loop-d.invariant.0 c.in_default.ensures.call)
