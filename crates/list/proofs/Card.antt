@@ -5,15 +5,14 @@ use Prim.Native.Nat.{ℕ, suc, ◌+◌, ◌-◌, ◌*◌, ◌%◌, ◌^◌, ◌�
 use native.Mathlib.Numerals.{add-one}
 use native.Mathlib.Omega.{arith}
 use mathlib.Core.Path.{◌≡◌, refl, sym, ap, ap₂, ◌∙◌}
-use mathlib.Core.Logic.{◌⊎◌, inl, inr, ⊎_elim}
-use mathlib.Core.Bool.{Bool, true, false, not, cond, ◌&&◌, ◌||◌, true≢false}
-use mathlib.Core.List.{List, [], ◌∷◌, ◌++◌, append-nil}
-use lib.ListN.{length, drop, replicate, length-replicate, drop_of_length-le}
+use mathlib.Core.Logic.{⊎_elim}
+use mathlib.Core.Bool.{Bool, true, false, not, cond, ◌||◌, true≢false}
+use mathlib.Core.List.{List, [], ◌∷◌}
+use lib.ListN.{replicate}
 use lib.Bits.{bit_and, bit_or, and_le_r}
 use lib.Count.{ones}
-use lib.Dec.{eqb, ltb}
+use lib.Dec.{eqb}
 use lib.Pow.{pow_pos}
-use borrow.Author.Tests.{eqb-true, eqb-false, ltb-true, ltb-false}
 use mir.Val.{bool_byte}
 use Rattle.column.specs.Column.{bit, column}
 use Rattle.column.specs.Sets.{in_column, difference, count_below}
@@ -21,17 +20,16 @@ use Rattle.column.specs.Words.{block, facts_in, all_in}
 use Rattle.column.proofs.Bits.{byte_le, bit_le, bit_and_lem, bit_column, column_is}
 use Rattle.column.proofs.Operations.{column_or, column_difference, column_all, ones_column}
 use Rattle.general.specs.Scan.{every}
-use Rattle.general.proofs.Bools.{passes_or_not, and_left, or_cases, nor_left, nor_right}
+use Rattle.general.proofs.Bools.{passes_or_not}
 use Rattle.cards.specs.Layout.{CardColumn, column_words, card_words, laid, may_need, may_set, may_clear}
 use Rattle.cards.specs.Layout.{may_first_set, may_first_untouched, may_last_untouched, may_end_cleared, may_end_unmentioned}
-use Rattle.cards.proofs.Laid.{length_laid}
 use Rattle.row.specs.Words.{is_set}
 use Rattle.row.specs.declared.words.Row.{Row}
 use Rattle.writer.specs.Card.{flags_of, always_of, row_numbers}
 use Rattle.writer.specs.Block.{with_block}
 use Rattle.writer.proofs.Blocks.{Test, tests_of, changes_of, numbers_below, numbers_in, Written, written_none, written_laid, block_written}
 use Rattle.cards.specs.Composed.{has_run, has_empty_run, list_has, kept, list_column, list_count, list_flags, composed_numbers, blank_numbers, list_numbers, list_card}
-use Rattle.list.specs.Fold.{list_row, row_written, is_due, row_added}
+use Rattle.list.specs.Fold.{list_row, row_written, row_added}
 use Rattle.list.proofs.Words.{list_bits, set_byte, list_run, list_empty}
 
 -- ---- words of which the bits from n upward are dropped
@@ -50,16 +48,6 @@ module _ (n : ℕ) where
   always_column u a b p q e d =
       ap₂ (difference 64) (sym (column_all n)) (ap₂ bit_or e d ∙ column_or n p q)
       ∙ column_difference 64 n (λ (f : ℕ). true) (λ (f : ℕ). p f || q f) u
-
-nand_cases : (a b : Bool) → (a && b) ≡ false → (a ≡ false) ⊎ (b ≡ false)
-nand_cases true b e = inr e
-nand_cases false b e = inl refl
-
--- a block that is due is one of a column's
-pub due_low : (facts k : ℕ) → is_due facts k ≡ true → k < column_words
-due_low facts k due =
-    ⊎_elim (λ first. let zeroth = eqb-true k 0 first in omega arith)
-    (λ more. ltb-true k column_words (and_left (ltb k column_words) (ltb (64 * k) facts) more)) (or_cases (eqb k 0) (ltb k column_words && ltb (64 * k) facts) due)
 
 module _ (facts : ℕ) (area ms : List ℕ) where
   -- what each column says
@@ -149,19 +137,13 @@ module _ (facts : ℕ) (area ms : List ℕ) where
 
   -- the blocks below k are written: nothing where a member has no run
   pub record ListAt (card : List ℕ) (k : ℕ) : Type 0 where
-    pub within : k ≤ column_words
-    pub long : length card ≡ card_words
     pub blank : every (has_run area) ms ≡ false → card ≡ replicate card_words 0
     pub blocks : every (has_run area) ms ≡ true → Written facts k (changes_of says) (tests_of says) card
     pub whole : every (has_run area) ms ≡ true → 0 < k → card ≡ laid (below (min facts (64 * k)))
 
-  pub list_start : (before card : List ℕ) → length before ≡ card_words → card ≡ replicate (card_words * 1) 0 ++ drop (card_words * 1) before → ListAt card 0
-  list_start before card long e =
-      let clear : card ≡ replicate card_words 0 =
-      e ∙ ap (λ (r : List ℕ). replicate card_words 0 ++ r) (drop_of_length-le before {i = card_words} (omega arith)) ∙ append-nil (replicate card_words 0) in
+  pub list_start : (card : List ℕ) → card ≡ replicate card_words 0 → ListAt card 0
+  list_start card clear =
       record {
-        within = omega arith;
-        long = ap length clear ∙ length-replicate {A = ℕ} card_words 0;
         blank = λ none. clear;
         blocks = λ runs. rw clear (written_none facts (changes_of says) (tests_of says) card_words refl);
         whole = λ runs some. absurd (omega arith);
@@ -180,8 +162,6 @@ module _ (facts : ℕ) (area ms : List ℕ) where
             ∙ block_written facts (changes_of says) (tests_of says) bits bits_low k low card (at.blocks runs) in
             let next : after ≡ laid (below (min facts (64 * (k + 1)))) = written ∙ ap (λ (j : ℕ). laid (below (min facts (64 * j)))) (sym (add-one k)) in
             record {
-              within = omega arith;
-              long = ap length written ∙ length_laid (below (min facts (64 * suc k))) 12 refl;
               blank = λ none. absurd (true≢false (sym runs ∙ none));
               blocks = λ so. written_laid facts (changes_of says) (tests_of says) bits bits_low (k + 1) after next;
               whole = λ so some. next;
@@ -192,28 +172,19 @@ module _ (facts : ℕ) (area ms : List ℕ) where
             let even : eqb ((list_row area k ms).run % 2) 0 ≡ true = ap (λ (m : ℕ). eqb m 0) (list_run area k ms ∙ ap bool_byte none) in
             let same : after ≡ card = e ∙ ap (λ (b : Bool). cond b card (with_block k (row_written (list_row area k ms) (all_in facts k)) card)) even in
             record {
-              within = omega arith;
-              long = ap length same ∙ at.long;
               blank = λ so. same ∙ at.blank none;
               blocks = λ runs. absurd (true≢false (sym runs ∙ none));
               whole = λ runs. absurd (true≢false (sym runs ∙ none));
             }
 
-    pub list_end : is_due facts k ≡ false → card ≡ list_card facts area ms
+    pub list_end : 0 < k → min facts (64 * k) ≡ kept facts → card ≡ list_card facts area ms
     unfolding list_card list_numbers composed_numbers list_flags list_count list_column laid
-    list_end done = ⊎_elim live dead (passes_or_not (every (has_run area) ms))
+    list_end some all = ⊎_elim live dead (passes_or_not (every (has_run area) ms))
       where
         live : every (has_run area) ms ≡ true → card ≡ list_card facts area ms
         live runs =
-            let some = eqb-false k 0 (nor_left (eqb k 0) (ltb k column_words && ltb (64 * k) facts) done) in
-            let all : min facts (64 * k) ≡ kept facts = no_more (nor_right (eqb k 0) (ltb k column_words && ltb (64 * k) facts) done) in
-            at.whole runs (omega (arith, some)) ∙ ap (λ (m : ℕ). laid (below m)) all
+            at.whole runs some ∙ ap (λ (m : ℕ). laid (below m)) all
             ∙ sym (ap (λ (b : Bool). laid (cond b (composed_numbers facts area ms) blank_numbers)) runs)
-          where
-            no_more : (ltb k column_words && ltb (64 * k) facts) ≡ false → min facts (64 * k) ≡ kept facts
-            no_more none =
-                ⊎_elim (λ past. let high = ltb-false k column_words past in omega (arith, at.within))
-                (λ past. let high = ltb-false (64 * k) facts past in omega (arith, at.within)) (nand_cases (ltb k column_words) (ltb (64 * k) facts) none)
 
         dead : every (has_run area) ms ≡ false → card ≡ list_card facts area ms
         dead none = at.blank none ∙ sym (ap (λ (b : Bool). laid (cond b (composed_numbers facts area ms) blank_numbers)) none)

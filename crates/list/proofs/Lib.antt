@@ -2,4 +2,3 @@ pub mod Words
 pub mod Card
 pub mod Loops
 pub mod Written
-pub mod Called

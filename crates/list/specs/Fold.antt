@@ -1,9 +1,9 @@
 -- The composition in the form that the code follows, a block of 64 facts after the other: the members' rows folded from left to right, all facts
 -- of the block at once, and the numbers of the row that comes out. That this gives the list's card is shown in `proofs/`.
-use Rattle.std.specs.Prelude.{ℕ, ◌+◌, ◌*◌, ◌/◌, ◌%◌, ◌≤◌, ◌<◌, Bool, cond, ◌&&◌, ◌||◌, List, [], ◌∷◌, eqb, ltb, length, get_or, set}
+use Rattle.std.specs.Prelude.{ℕ, ◌+◌, ◌*◌, ◌/◌, ◌%◌, ◌≤◌, ◌<◌, cond, List, [], ◌∷◌, eqb, length, get_or, set}
 use Rattle.std.specs.Int.Bits.{bit_and}
 use Rattle.column.specs.Words.{all_in}
-use Rattle.cards.specs.Layout.{CardColumn, column_words, card_words, first_word, may_need, may_set, may_clear}
+use Rattle.cards.specs.Layout.{CardColumn, card_words, first_word, may_need, may_set, may_clear}
 use Rattle.cards.specs.Layout.{may_first_set, may_first_untouched, may_last_untouched, may_end_cleared, may_end_unmentioned}
 use Rattle.cards.specs.Area.{part_word}
 use Rattle.row.specs.Words.{join_rows, start_row, all_bits, kept_marks, words_of}
@@ -78,10 +78,6 @@ kept_row x all =
 abbrev pub row_written : Row → ℕ → List ℕ
 row_written x all =
     set (row_numbers (words_of (kept_row x all))) 0 (flags_of x.run x.empty (bit_and x.last.present all) (bit_and x.last.absent all))
-
--- block 0 is written, for the flags, and each other block that has facts
-abbrev pub is_due : ℕ → ℕ → Bool
-is_due facts k = eqb k 0 || ltb k column_words && ltb (64 * k) facts
 
 -- a card with block k of the row x written, if there is a run
 abbrev pub row_added : ℕ → ℕ → Row → List ℕ → List ℕ

@@ -1,10 +1,9 @@
 // The list call: refusals 8, 14 and 15, or the list's card.
 ghost use Rattle.std.specs.Prelude.{◌≡◌, leb};
-ghost use Rattle.general.specs.Tests.{some};
+ghost use Rattle.std.specs.List.{list_any};
 ghost use Rattle.list.specs.Answer.{ListCalled};
 
-use crate::answer::Listed;
-use crate::compose::compose;
+use crate::compose::Members;
 use image::answer::Refusal;
 use writer::block::CARD_WORDS;
 
@@ -13,16 +12,9 @@ pub const MOST_LIST: usize = 256;
 
 // Whether a member of the list is not below the number of sequences.
 fn member_past(sequences: u64, list: &[u32]) -> bool
-    ensures { result ≡ some (λ m. leb sequences m) list.now }
+    ensures { result ≡ list_any (λ m. leb sequences m) list.now }
 {
-    let mut i = 0;
-    while i < list.len() {
-        if sequences <= list[i] as u64 {
-            return true;
-        }
-        i += 1;
-    }
-    false
+    list.iter().any(|m| sequences <= u64::from(*m))
 }
 
 // The list call: what it answers, and the words of the list's card after it. Nothing is written before the list is known to be right.
@@ -32,18 +24,18 @@ pub fn list(
     cards: &[u64],
     list: &[u32],
     card: &mut [u64; CARD_WORDS],
-) -> Listed
+) -> Result<(), Refusal>
     ensures { ListCalled facts sequences cards.now list.now card.old result card.new }
 {
     if ((cards.len() / CARD_WORDS) as u64) < sequences {
-        return Listed::Refused(Refusal::CardArea);
+        return Err(Refusal::CardArea);
     }
     if MOST_LIST < list.len() {
-        return Listed::Refused(Refusal::ListLength);
+        return Err(Refusal::ListLength);
     }
     if member_past(sequences, list) {
-        return Listed::Refused(Refusal::Member);
+        return Err(Refusal::Member);
     }
-    compose(facts, cards, list, card);
-    Listed::Composed
+    Members { cards, list }.compose(facts, card);
+    Ok(())
 }

@@ -1,57 +1,41 @@
 // The card of a list from the cards of its members: a block of 64 facts after the other, their columns folded from left to right, all facts of the
 // block at once.
-ghost use Rattle.std.specs.Prelude.{◌≡◌, ◌+◌, ◌-◌, ◌*◌, ◌≤◌, ◌<◌, length};
-ghost use Rattle.cards.specs.Layout.{card_numbers, column_words, card_words};
-ghost use Rattle.cards.specs.Area.{part_word};
+ghost use Rattle.std.specs.Prelude.{◌≡◌, ◌+◌, ◌*◌, ◌≤◌, ◌<◌, length};
+ghost use Rattle.cards.specs.Layout.{column_words, card_words};
 ghost use Rattle.cards.specs.Composed.{list_card};
 ghost use Rattle.writer.specs.Block.{with_block};
-ghost use Rattle.list.specs.Fold.{MembersIn, member_row, followed_row, list_row, kept_row, row_written, is_due, row_added};
+ghost use Rattle.list.specs.Fold.{MembersIn, member_row, followed_row, list_row, kept_row, row_written, row_added};
 
 use column::{BLOCK_FACTS, all_in};
 use row::words::{ALL_BITS, Marks, Row};
-use writer::block::{CARD_WORDS, COLUMN_WORDS, clear, put_block};
+use writer::block::{CARD_WORDS, COLUMN_WORDS, put_block};
 use writer::card::{
     EMPTY_FROM, FLAGS, MAY_CLEAR, MAY_END_CLEARED, MAY_END_UNMENTIONED, MAY_FIRST_SET,
     MAY_FIRST_UNTOUCHED, MAY_LAST_UNTOUCHED, MAY_NEED, MAY_SET, flags, numbers_of,
 };
-
-// Word `i` of the card of member `m`.
-fn member_word(cards: &[u64], m: u32, i: usize) -> u64
-    requires { (card_words * m + card_words ≤ length cards.now) × (i < card_words) }
-    ensures { result ≡ part_word cards.now m i }
-{
-    cards[CARD_WORDS * m as usize + i]
-}
-
-// A block of column `k` of the card of member `m`.
-fn member_column(cards: &[u64], block: u32, m: u32, k: usize) -> u64
-    requires { (card_words * m + card_words ≤ length cards.now) × (block < column_words) × (1 ≤ k) × (k < card_numbers) }
-    ensures { result ≡ part_word cards.now m (1 + column_words * (k - 1) + block) }
-{
-    member_word(cards, m, 1 + COLUMN_WORDS * (k - 1) + block as usize)
-}
 
 // The row of member `m` in a block, made of the columns that its card has of "some run". Of the first two words only the lowest bit says something.
 fn member_row(cards: &[u64], block: u32, m: u32) -> Row
     requires { (card_words * m + card_words ≤ length cards.now) × (block < column_words) }
     ensures { result ≡ member_row cards.now block m }
 {
-    let flags = member_word(cards, m, FLAGS);
+    let card = &cards[CARD_WORDS * m as usize..];
+    let column = |k: usize| card[1 + COLUMN_WORDS * (k - 1) + block as usize];
     Row {
-        run: flags,
-        empty: flags / EMPTY_FROM,
+        run: card[FLAGS],
+        empty: card[FLAGS] / EMPTY_FROM,
         last: Marks {
-            present: member_column(cards, block, m, MAY_SET),
-            absent: member_column(cards, block, m, MAY_CLEAR),
-            untouched: member_column(cards, block, m, MAY_LAST_UNTOUCHED),
+            present: column(MAY_SET),
+            absent: column(MAY_CLEAR),
+            untouched: column(MAY_LAST_UNTOUCHED),
         },
         first: Marks {
-            present: member_column(cards, block, m, MAY_NEED),
-            absent: member_column(cards, block, m, MAY_FIRST_SET),
-            untouched: member_column(cards, block, m, MAY_FIRST_UNTOUCHED),
+            present: column(MAY_NEED),
+            absent: column(MAY_FIRST_SET),
+            untouched: column(MAY_FIRST_UNTOUCHED),
         },
-        cleared: member_column(cards, block, m, MAY_END_CLEARED),
-        unmentioned: member_column(cards, block, m, MAY_END_UNMENTIONED),
+        cleared: column(MAY_END_CLEARED),
+        unmentioned: column(MAY_END_UNMENTIONED),
     }
 }
 
@@ -63,20 +47,6 @@ fn followed(x: Row, y: Row) -> Row
         run: x.run & y.run,
         ..x.joined(y)
     }
-}
-
-// The row of the members in their order, in a block.
-fn folded(cards: &[u64], block: u32, list: &[u32]) -> Row
-    requires { MembersIn cards.now list.now × (block < column_words) }
-    ensures { result ≡ list_row cards.now block list.now }
-{
-    let mut x = Row::start(ALL_BITS);
-    let mut i = 0;
-    while i < list.len() {
-        x = followed(x, member_row(cards, block, list[i]));
-        i += 1;
-    }
-    x
 }
 
 // The row of the facts in `all`. A run exists for each of them.
@@ -94,8 +64,8 @@ fn kept_row(x: Row, all: u64) -> Row
 }
 
 // Writes a block of a card, by its row, of the facts in `all`. The flags are those of the row where `all` is empty too.
-fn write_row(x: Row, all: u64, block: u32, card: &mut [u64])
-    requires { (length card.old ≡ card_words) × (block < column_words) }
+fn write_row(x: Row, all: u64, block: u32, card: &mut [u64; CARD_WORDS])
+    requires { block < column_words }
     ensures { card.new ≡ with_block block (row_written x all) card.old }
 {
     let kept = kept_row(x, all);
@@ -104,35 +74,48 @@ fn write_row(x: Row, all: u64, block: u32, card: &mut [u64])
     put_block(&numbers, block, card);
 }
 
-// Whether a block is written: the first, for the flags, and each other that has facts.
-fn is_due(facts: u64, block: u32) -> bool
-    ensures { result ≡ is_due facts block }
-{
-    let from = BLOCK_FACTS as u64 * block as u64;
-    (block == 0) | ((block < COLUMN_WORDS as u32) & (from < facts))
+// A list of members whose cards are all in an area.
+#[derive(Clone, Copy)]
+pub struct Members<'a> {
+    pub cards: &'a [u64],
+    pub list: &'a [u32],
+    ghost within: { MembersIn cards.now list.now },
 }
 
-// Adds a block to the card of a list. Where a member has no run the card stays.
-fn add_block(facts: u64, cards: &[u64], block: u32, list: &[u32], card: &mut [u64])
-    requires { MembersIn cards.now list.now × (block < column_words) × (length card.old ≡ card_words) }
-    ensures { card.new ≡ row_added facts block (list_row cards.now block list.now) card.old }
-{
-    let x = folded(cards, block, list);
-    if x.run % 2 == 0 {
-        return;
+impl<'a> Members<'a> {
+    // The row of the members in their order, in a block.
+    fn row(&self, block: u32) -> Row
+        requires { block < column_words }
+        ensures { result ≡ list_row self.now.cards.now block self.now.list.now }
+    {
+        let mut x = Row::start(ALL_BITS);
+        for m in self.list {
+            x = followed(x, member_row(self.cards, block, *m));
+        }
+        x
     }
-    write_row(x, all_in(facts, block), block, card);
-}
 
-// Writes the card of a list: blank where a member has no run.
-pub fn compose(facts: u64, cards: &[u64], list: &[u32], card: &mut [u64])
-    requires { MembersIn cards.now list.now × (length card.old ≡ card_words) }
-    ensures { card.new ≡ list_card facts cards.now list.now }
-{
-    clear(1, card);
-    let mut block = 0;
-    while is_due(facts, block) {
-        add_block(facts, cards, block, list, card);
-        block += 1;
+    // Adds a block to the card of the list. Where a member has no run the card stays.
+    fn add_block(&self, facts: u64, block: u32, card: &mut [u64; CARD_WORDS])
+        requires { block < column_words }
+        ensures { card.new ≡ row_added facts block (list_row self.now.cards.now block self.now.list.now) card.old }
+    {
+        let x = self.row(block);
+        if x.run % 2 == 1 {
+            write_row(x, all_in(facts, block), block, card);
+        }
+    }
+
+    // Writes the card of the list: blank where a member has no run. The first block is written for the flags, and each other that has facts.
+    pub fn compose(&self, facts: u64, card: &mut [u64; CARD_WORDS])
+        ensures { card.new ≡ list_card facts self.now.cards.now self.now.list.now }
+    {
+        let blocks = facts
+            .div_ceil(BLOCK_FACTS as u64)
+            .clamp(1, COLUMN_WORDS as u64);
+        card.fill(0);
+        for block in 0..blocks as u32 {
+            self.add_block(facts, block, card);
+        }
     }
 }
