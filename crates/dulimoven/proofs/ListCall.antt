@@ -10,6 +10,7 @@ use mathlib.Core.List.{List, [], ◌∷◌}
 use lib.ListN.{length}
 use lib.Dec.{leb, ltb}
 use borrow.Author.Tests.{lt-ltb, le-ltb, ltb-true, ltb-false, le-leb, lt-leb, leb-true, leb-false}
+use Rattle.std.proofs.Common.{Ok, Err}
 use Rattle.general.specs.Tests.{some, All}
 use Rattle.general.proofs.Bools.{nor_left, nor_right}
 use Rattle.general.proofs.Tests.{some_found, some_intro}
@@ -17,8 +18,7 @@ use Rattle.image.specs.declared.answer.Refusal.{Refusal}
 use Rattle.image.specs.declared.answer.Refusal.TheVariants.{CardArea, ListLength, Member}
 use Rattle.cards.specs.Layout.{card_words}
 use Rattle.cards.specs.Composed.{most_list}
-use Rattle.list.specs.Answer.{listed_answer, card_after}
-use Rattle.list.specs.declared.answer.Listed.{Listed}
+use Rattle.list.specs.Answer.{Listed, listed_answer, card_after}
 use Rattle.dulimoven.specs.Returned.{Returned, returned, turned_down}
 use Rattle.dulimoven.specs.ListCall.{ListRefused, by_area, by_length, by_member, ListReturn, refused, composed}
 use Rattle.dulimoven.specs.Demands.{Refuses}
@@ -53,7 +53,7 @@ module _ (facts sequences : ℕ) (cards list card : List ℕ) where
   abbrev list_by : Bool → Bool → Bool → Returned
   list_by a b c =
       let found : Listed =
-      cond a (Listed.Refused CardArea) (cond b (Listed.Refused ListLength) (cond c (Listed.Refused Member) Listed.Composed)) in
+      cond a (Err CardArea) (cond b (Err ListLength) (cond c (Err Member) (Ok tt))) in
       returned (listed_answer found) (card_after found facts cards list card)
 
   pub list_return : ListReturn facts sequences cards list card (engine.list facts sequences cards list card)
