@@ -6,3 +6,4 @@ pub mod Accepted
 pub mod Lookup
 pub mod Rows
 pub mod Sizes
+pub mod Back

@@ -4,6 +4,7 @@
 -- Assumes nothing.
 use Prim.Native.Nat.{ℕ, zero, suc, ◌+◌, ◌*◌, ◌-◌, ◌≤◌, ◌<◌}
 use native.Mathlib.Nat.{suc-add, le_of_suc-le-suc}
+use native.Mathlib.Numerals.{add-one}
 use native.Mathlib.Omega.{arith}
 use mathlib.Core.Path.{◌≡◌, refl, sym, ap, ap₂, ◌∙◌, subst}
 use mathlib.Core.Bool.{Bool, true, false, cond}
@@ -20,11 +21,12 @@ use Rattle.library.specs.Library.{has, Step, facts_from, steps_from}
 use Rattle.library.specs.Seam.{NoneOpens}
 use Rattle.general.specs.Tests.{All}
 use Rattle.library.specs.Accepted.{StepWord}
-use Rattle.library.specs.Tables.{mask_words, mask_of, masks, places_from, masks_from, with_word, with_row, NoPlaces, StepsAsked, SequencesAsked}
+use Rattle.library.specs.Tables.{mask_words, mask_of, masks, places_from, masks_from, with_word, with_row, NoPlaces, LastPlace, StepsAsked, SequencesAsked}
 use Rattle.image.specs.declared.answer.Head.{Head}
 use Rattle.library.specs.declared.tables.Masks.{Masks}
 use Rattle.library.proofs.Decode.{kind_is, steps_open, steps_skip, facts_here, facts_other, facts_end}
 use Rattle.library.proofs.Lookup.{mask_none}
+use Rattle.library.proofs.Back.{last_length, last_within, last_word, last_left}
 use Rattle.rules.proofs.Checked.{opened_snoc}
 
 -- ---- lists
@@ -33,10 +35,6 @@ pub all_at : {A : Type 0} (P : A → Type 0) (xs : List A) → All P xs → (d :
 all_at P [] a d i l = absurd (omega arith)
 all_at P (x ∷ xs) a d zero l = a.0
 all_at P (x ∷ xs) a d (suc i) l = all_at P xs a.1 d i (le_of_suc-le-suc l)
-
--- what holds at i holds at the number after i - 1: for a loop that goes down
-pub back : (P : ℕ → Type 0) (i : ℕ) → 0 < i → P i → P (suc (i - 1))
-back P i l p = let e : i ≡ suc (i - 1) = omega arith in subst P e p
 
 -- a store at the seam takes the place of the element before it
 put_one : (t r : List ℕ) (j v : ℕ) → j < length t → set (take (j + 1) t ++ r) j v ≡ take j t ++ (v ∷ r)
@@ -199,6 +197,56 @@ module _ (n : ℕ) (part area₀ : List ℕ) where
   unfolding opened
   masks_end area m at = at.written
 
+-- the masks that `default` gives
+pub no_masks : (m : Masks) → (m.needs ≡ 0) × ((m.sets ≡ 0) × (m.clears ≡ 0)) → m ≡ record { needs = 0; sets = 0; clears = 0 }
+no_masks m none = λ i. record { needs = none.0 i; sets = none.1.0 i; clears = none.1.1 i }
+
+-- the words that are left stand before those whose masks and rows are there
+pub record MasksLeft (n : ℕ) (part area₀ area : List ℕ) (m : Masks) (left : List ℕ) : Type 0 where
+  pub is : left ≡ take (length left) part
+  pub at : MasksAt n part area₀ area m (length left)
+
+module _ (n : ℕ) (part area₀ : List ℕ) (h : Head) (asked : StepsAsked h part area₀) where
+  pub left_start : MasksLeft n part area₀ area₀ (record { needs = 0; sets = 0; clears = 0 }) part
+  left_start = record { is = sym (take-length part); at = masks_start n part area₀ }
+
+  pub left_end : (area : List ℕ) (m : Masks) (left : List ℕ) → MasksLeft n part area₀ area m left → length left ≡ 0
+      → area ≡ masks n (steps_from part) ++ drop (mask_words * h.steps) area₀
+  left_end area m left here none =
+      masks_end n part area₀ area m (subst (MasksAt n part area₀ area m) none here.at)
+      ∙ ap (λ (k : ℕ). masks n (steps_from part) ++ drop (mask_words * k) area₀) asked.opened
+
+  module _ (area : List ℕ) (m : Masks) (left next : List ℕ) (w : ℕ) (here : MasksLeft n part area₀ area m left) (step : left ≡ next ++ w ∷ []) where
+    word : get_or part (length next) 0 ≡ w
+    word = last_word part left next w here.is step
+
+    at_next : MasksAt n part area₀ area m (suc (length next))
+    at_next = subst (MasksAt n part area₀ area m) (last_length part left next w here.is step) here.at
+
+    pub left_fact : is_kind 5 w ≡ false → MasksLeft n part area₀ area (with_word n m w) next
+    left_fact e =
+        record {
+          is = last_left part left next w here.is step;
+          at =
+              subst (λ (x : ℕ). MasksAt n part area₀ area (with_word n m x) (length next)) word
+              (masks_fact n part area₀ h asked area m (length next) (last_within part left next w here.is step) at_next (ap (is_kind 5) word ∙ e));
+        }
+
+    pub left_room : is_kind 5 w ≡ true → mask_words * payload w + mask_words ≤ length area
+    left_room e =
+        subst (λ (x : ℕ). mask_words * payload x + mask_words ≤ length area) word
+        (row_room n part area₀ h asked area m (length next) (last_within part left next w here.is step) at_next (ap (is_kind 5) word ∙ e))
+
+    pub left_row : is_kind 5 w ≡ true
+        → MasksLeft n part area₀ (with_row area (mask_words * payload w) m) (record { needs = 0; sets = 0; clears = 0 }) next
+    left_row e =
+        record {
+          is = last_left part left next w here.is step;
+          at =
+              subst (λ (x : ℕ). MasksAt n part area₀ (with_row area (mask_words * payload x) m) (record { needs = 0; sets = 0; clears = 0 }) (length next)) word
+              (masks_row n part area₀ h asked area m (length next) (last_within part left next w here.is step) at_next (ap (is_kind 5) word ∙ e));
+        }
+
 -- the places of the sequences from word i on are written
 pub record PlacesAt (part area₀ area : List ℕ) (i : ℕ) : Type 0 where
   pub within : i ≤ length part
@@ -226,6 +274,13 @@ none_start part i = record { low = omega arith; opened = refl; places = refl }
 pub none_both : (part : List ℕ) (i k end : ℕ) → NoPlaces part i k → NoPlaces part k end → NoPlaces part i end
 none_both part i k end low high =
     record { low = omega (arith, low.low, high.low); opened = low.opened ∙ high.opened; places = low.places ∙ high.places }
+
+-- a turn of a loop that goes down
+pub none_turn : (part : List ℕ) (i end : ℕ) → 0 < i → i ≤ length part → is_kind 6 (get_or part (i - 1) 0) ≡ false → NoPlaces part i end
+    → NoPlaces part (i - 1) end
+none_turn part i end some within e none =
+    let low : suc (i - 1) ≡ i = omega arith in
+    none_both part (i - 1) i end (subst (NoPlaces part (i - 1)) low (none_here part (i - 1) (omega arith) e)) none
 
 pub none_four : (part : List ℕ) (i end : ℕ) → 4 ≤ i → i ≤ length part → NoneOpens part (i - 4) → NoPlaces part i end → NoPlaces part (i - 4) end
 none_four part i end four l none after =
@@ -258,16 +313,13 @@ module _ (part area₀ : List ℕ) where
       }
 
   module _ (h : Head) (asked : SequencesAsked h part area₀) (area : List ℕ) (j : ℕ) (l : j < length part) (at : PlacesAt part area₀ area (suc j)) where
-    pub places_skip : is_kind 6 (get_or part j 0) ≡ false → PlacesAt part area₀ area j
-    places_skip e = places_pass area j (suc j) (none_here part j l e) at
-
     place : is_kind 6 (get_or part j 0) ≡ true → (payload (get_or part j 0) ≡ opened 6 (take j part)) × (opened 6 (take j part) < length area₀)
     place e = (asked.numbered j l (kind_is 6 (get_or part j 0) e), omega (arith, past_opener part j l true e, opened_within 6 (suc j) part, asked.opened, asked.room))
 
-    pub place_room : is_kind 6 (get_or part j 0) ≡ true → payload (get_or part j 0) < length area
+    place_room : is_kind 6 (get_or part j 0) ≡ true → payload (get_or part j 0) < length area
     place_room e = omega (arith, place e, at.long)
 
-    pub places_write : is_kind 6 (get_or part j 0) ≡ true → PlacesAt part area₀ (set area (payload (get_or part j 0)) j) j
+    places_write : is_kind 6 (get_or part j 0) ≡ true → PlacesAt part area₀ (set area (payload (get_or part j 0)) j) j
     places_write e =
         let k = opened 6 (take j part) in
         let later = places_from (suc j) (drop (suc j) part) ++ drop (opened 6 part) area₀ in
@@ -279,6 +331,20 @@ module _ (part area₀ : List ℕ) where
               ∙ ap (λ (ps : List ℕ). take k area₀ ++ (ps ++ drop (opened 6 part) area₀)) (sym (places_drop part j l true e));
           long = simp length-set at.long;
         }
+
+  -- a turn: the last opener before index `end`
+  module _ (h : Head) (asked : SequencesAsked h part area₀) (area : List ℕ) (end j : ℕ) (at : PlacesAt part area₀ area end) (last : LastPlace part end j) where
+    in_part : j < length part
+    in_part = omega (arith, last.none.low, at.within)
+
+    after_it : PlacesAt part area₀ area (suc j)
+    after_it = subst (PlacesAt part area₀ area) (add-one j) (places_pass area (j + 1) end last.none at)
+
+    pub last_room : payload (get_or part j 0) < length area
+    last_room = place_room h asked area j in_part after_it last.opens
+
+    pub last_written : PlacesAt part area₀ (set area (payload (get_or part j 0)) j) j
+    last_written = places_write h asked area j in_part after_it last.opens
 
   pub places_end : (area : List ℕ) → PlacesAt part area₀ area 0 → area ≡ places_from 0 part ++ drop (opened 6 part) area₀
   unfolding opened

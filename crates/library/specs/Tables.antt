@@ -1,5 +1,5 @@
 -- Tables that the crates above look up: the steps' masks, and where each sequence stands.
-use Rattle.std.specs.Prelude.{ℕ, suc, ◌+◌, ◌*◌, ◌≤◌, ◌≡◌, cond, List, [], ◌∷◌, length, take, drop, set}
+use Rattle.std.specs.Prelude.{ℕ, suc, ◌+◌, ◌*◌, ◌≤◌, ◌≡◌, true, cond, List, [], ◌∷◌, length, get_or, take, drop, set}
 use Rattle.column.specs.Column.{column}
 use Rattle.column.specs.Words.{block, with_fact_in}
 use Rattle.image.specs.Word.{payload, is_kind}
@@ -66,3 +66,8 @@ pub record NoPlaces (part : List ℕ) (i end : ℕ) : Type 0 where
   pub low : i ≤ end
   pub opened : opened 6 (take i part) ≡ opened 6 (take end part)
   pub places : places_from i (drop i part) ≡ places_from end (drop end part)
+
+-- the word at index i opens a sequence, and none between it and `end` does
+pub record LastPlace (part : List ℕ) (end i : ℕ) : Type 0 where
+  pub opens : is_kind 6 (get_or part i 0) ≡ true
+  pub none : NoPlaces part (i + 1) end

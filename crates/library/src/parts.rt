@@ -33,14 +33,12 @@ fn pass_fours(words: &[u32]) -> usize
 fn first_sequence(words: &[u32]) -> usize
     ensures { result ≡ length (before_sequences words.now) }
 {
-    let mut i = pass_fours(words);
-    while i < words.len() {
+    for i in pass_fours(words)..words.len() {
         if is_kind(KIND_SEQUENCE, words[i]) {
             return i;
         }
-        i += 1;
     }
-    i
+    words.len()
 }
 
 // The words between head and sum word.

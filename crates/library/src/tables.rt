@@ -1,8 +1,8 @@
 // Tables made of the parts of an accepted image, in lent areas: the steps' masks, and where each sequence stands. Both are written from the
 // last word to the first, since a step's facts stand after its opener.
-ghost use Rattle.std.specs.Prelude.{◌≡◌, ◌++◌, ◌+◌, ◌*◌, ◌≤◌, length, drop};
+ghost use Rattle.std.specs.Prelude.{◌≡◌, ◌++◌, ◌+◌, ◌*◌, ◌≤◌, length, drop, MatchOption};
 ghost use Rattle.library.specs.Library.{steps_from};
-ghost use Rattle.library.specs.Tables.{mask_words, masks, places_from, with_word, with_row, NoPlaces, StepsAsked, SequencesAsked};
+ghost use Rattle.library.specs.Tables.{mask_words, masks, places_from, with_word, with_row, NoPlaces, LastPlace, StepsAsked, SequencesAsked};
 
 use crate::parts::none_opens;
 use column::with_fact_in;
@@ -13,7 +13,7 @@ use image::word::{AT_ONCE, KIND_NEEDS, KIND_SEQUENCE, KIND_SETS, KIND_STEP, is_k
 pub const MASK_WORDS: usize = 3;
 
 // What a step needs, sets and clears, a bit a fact of a block.
-#[derive(Clone, Copy)]
+#[derive(Clone, Copy, Default)]
 pub struct Masks {
     pub needs: u64,
     pub sets: u64,
@@ -26,23 +26,20 @@ fn with_word(m: Masks, block: u32, w: u32) -> Masks
 {
     let f = payload_of(w);
     if is_kind(KIND_NEEDS, w) {
-        return Masks {
+        Masks {
             needs: with_fact_in(m.needs, block, f),
-            sets: m.sets,
-            clears: m.clears,
-        };
-    }
-    if is_kind(KIND_SETS, w) {
-        return Masks {
-            needs: m.needs,
+            ..m
+        }
+    } else if is_kind(KIND_SETS, w) {
+        Masks {
             sets: with_fact_in(m.sets, block, f),
-            clears: m.clears,
-        };
-    }
-    Masks {
-        needs: m.needs,
-        sets: m.sets,
-        clears: with_fact_in(m.clears, block, f),
+            ..m
+        }
+    } else {
+        Masks {
+            clears: with_fact_in(m.clears, block, f),
+            ..m
+        }
     }
 }
 
@@ -62,24 +59,13 @@ pub fn write_masks(h: Head, part: &[u32], block: u32, area: &mut [u64])
     requires { StepsAsked h part.now area.old }
     ensures { area.new ≡ masks block (steps_from part.now) ++ drop (mask_words * h.steps) area.old }
 {
-    let mut m = Masks {
-        needs: 0,
-        sets: 0,
-        clears: 0,
-    };
-    let mut i = part.len();
-    while 0 < i {
-        i -= 1;
-        let w = part[i];
-        if is_kind(KIND_STEP, w) {
-            write_row(area, payload_of(w), m);
-            m = Masks {
-                needs: 0,
-                sets: 0,
-                clears: 0,
-            };
+    let mut m = Masks::default();
+    for w in part.iter().rev() {
+        if is_kind(KIND_STEP, *w) {
+            write_row(area, payload_of(*w), m);
+            m = Masks::default();
         } else {
-            m = with_word(m, block, w);
+            m = with_word(m, block, *w);
         }
     }
 }
@@ -99,18 +85,27 @@ fn pass_back(part: &[u32], end: usize) -> usize
     i
 }
 
+// The index of the last word before index `end` that opens a sequence, if there is one.
+fn last_opener(part: &[u32], end: usize) -> Option<usize>
+    requires { end ≤ length part.now }
+    ensures { MatchOption result (NoPlaces part.now 0 end) (LastPlace part.now end) }
+{
+    for i in (0..pass_back(part, end)).rev() {
+        if is_kind(KIND_SEQUENCE, part[i]) {
+            return Some(i);
+        }
+    }
+    None
+}
+
 // Writes where each sequence of the sequences' part stands: the index of its opener. Words past them stay.
 pub fn write_places(h: Head, part: &[u32], area: &mut [u32])
     requires { SequencesAsked h part.now area.old }
     ensures { area.new ≡ places_from 0 part.now ++ drop h.sequences area.old }
 {
-    let mut i = part.len();
-    while 0 < i {
-        let at = i - 1;
-        let w = part[at];
-        i = pass_back(part, at);
-        if is_kind(KIND_SEQUENCE, w) {
-            area[payload_of(w) as usize] = at as u32;
-        }
+    let mut end = part.len();
+    while let Some(at) = last_opener(part, end) {
+        area[payload_of(part[at]) as usize] = at as u32;
+        end = at;
     }
 }

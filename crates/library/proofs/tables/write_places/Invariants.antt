@@ -3,8 +3,8 @@
 use Rattle.library.proofs.Rows.{PlacesAt}
 use Rattle.library.proofs.tables.write_places.Given as goal
 
-abbrev pub invariant-loop-i : goal.invariant-loop-i
-invariant-loop-i l = PlacesAt l.part l.initial.area l.area l.i
+abbrev pub invariant-loop-at : goal.invariant-loop-at
+invariant-loop-at l = PlacesAt l.part l.initial.area l.area l.end
 
-abbrev pub decreases-loop-i : goal.decreases-loop-i
-decreases-loop-i l = l.i
+abbrev pub decreases-loop-at : goal.decreases-loop-at
+decreases-loop-at l = l.end
