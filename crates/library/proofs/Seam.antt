@@ -25,9 +25,6 @@ module _ (ws : List ℕ) where
   pub drop_before : drop (length (before_sequences ws)) ws ≡ from_sequences ws
   drop_before = ap (drop (length (before_sequences ws))) (sym (parts_joined ws)) ∙ drop-append_seam (before_sequences ws) (from_sequences ws)
 
-  pub before_length : length (before_sequences ws) ≤ length ws
-  before_length = omega (arith, ap length (parts_joined ws), length-append (before_sequences ws) (from_sequences ws))
-
 -- a loop that passes words, none of which opens a sequence
 
 before_cons : (w : ℕ) (ws : List ℕ) (b : Bool) → is_kind 6 w ≡ b → before_sequences (w ∷ ws) ≡ cond b [] (w ∷ before_sequences ws)
@@ -75,9 +72,6 @@ module _ (image ws : List ℕ) (same : ws ≡ between image) (after : ℕ) (rest
 
 -- the two slices that meet after r words
 module _ (image ws : List ℕ) (r : ℕ) (same : ws ≡ between image) (at : r ≡ length (before_sequences ws)) where
-  pub seam_within : (r ≤ length ws) × (r ≤ length image)
-  seam_within = omega (arith, before_length ws, ap length same, length_between image)
-
   pub first_part : take r ws ≡ steps_part image
   unfolding steps_part
   first_part = ap (λ (n : ℕ). take n ws) at ∙ take_before ws ∙ ap before_sequences same

@@ -31,7 +31,8 @@ fn pass_fours(words: &[u32]) -> usize
 
 // How many words stand before the first sequence.
 fn first_sequence(words: &[u32]) -> usize
-    ensures { result ≡ length (before_sequences words.now) }
+    ensures at { result ≡ length (before_sequences words.now) }
+    ensures within { result ≤ length words.now }
 {
     for i in pass_fours(words)..words.len() {
         if is_kind(KIND_SEQUENCE, words[i]) {

@@ -4,13 +4,13 @@ use Rattle.std.proofs.Common.{◌≡◌, length, arith, sym, ◌∙◌}
 use Rattle.library.proofs.Seam.{passed_found, passed_turn, passed_end}
 use Rattle.library.proofs.parts.first_sequence.Goals as goal
 
-pub returns-then-is_kind : goal.returns-then-is_kind
-returns-then-is_kind c = passed_found _ _ (omega arith) c.loop-i.invariant (sym c.is_kind.ensures ∙ c.if-is_kind.true)
+pub returns-then-is_kind-clause-at : goal.returns-then-is_kind-clause-at
+returns-then-is_kind-clause-at c = passed_found _ _ (omega arith) c.loop-i.invariant (sym c.is_kind.ensures ∙ c.if-is_kind.true)
 
 pub loop-i-preserved : goal.loop-i-preserved
 loop-i-preserved c = passed_turn _ _ (omega arith) c.loop-i.invariant (sym c.is_kind.ensures ∙ c.if-is_kind.false)
 
-pub returns : goal.returns
-returns c =
+pub returns-clause-at : goal.returns-clause-at
+returns-clause-at c =
     let out : c.loop-i.i ≡ length c.args.words.now = omega (arith, c.loop-i.invariant.within) in
     sym out ∙ passed_end _ _ out c.loop-i.invariant
