@@ -22,7 +22,7 @@ pub const MOST_CARD_WORDS: usize = CARD_WORDS * MOST_SEQUENCES as usize;
 fn counted(before: u64, flags: u64) -> u64
     ensures { result ≡ with_count before flags }
 {
-    std::num::wrapping_add_u64(before / COUNT_FROM * COUNT_FROM, flags)
+    (before / COUNT_FROM * COUNT_FROM).wrapping_add(flags)
 }
 
 // Writes a block into a card: the flags, with the count so far, and the block's word of each column. The card is a slice and no array, since what is
