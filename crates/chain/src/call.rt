@@ -9,9 +9,10 @@ ghost use Rattle.question.specs.Reply.{ChainCalled};
 use image::answer::Checked;
 use image::word::{MOST_FACTS, MOST_SEQUENCES, MOST_STEPS};
 use library::checked::Accepted;
-use link::write::write_chain;
+use link::write::Chooser;
 use question::answer::Chained;
 use question::asked::{Asked, Mark, NO_RANK_ABOVE, in_range};
+use rank::read::Ranks;
 use rank::settle::RankVisits;
 use reader::check::check;
 use settling::settle::Schedule;
@@ -33,98 +34,81 @@ pub const MOST_RANKS: usize = MOST_SEQUENCES as usize
     + MOST_FACTS as usize
     + MOST_STEPS as usize;
 
-// Ranks the items by one question and the sequences by another.
-fn rank(
-    all: bool,
-    p: Asked,
-    q: Asked,
-    masks: &[u64],
-    ahead: &[u32],
-    behind: &[u32],
-    part: &[u32],
-    places: &[u32],
-    callers: &[u64],
-    order: &[usize],
-    ranks: &mut [u32],
-    n: usize,
-)
-    requires { ItemsRankable p masks.now ranks.old × RanksVisitable q n ahead.now behind.now ranks.old part.now places.now × Scheduled n part.now places.now callers.now order.now }
-    ensures { Ranked all p q n masks.now ahead.now behind.now part.now places.now ranks.old ranks.new }
-{
-    write_item_ranks(all, p, masks, ranks);
-    let visits = RankVisits {
-        q,
-        ahead,
-        behind,
-        part,
-        places,
-    };
-    visits.settle(&Schedule { n, callers, order }, ranks);
+// What ranks are worked out of: the masks of the steps, the words of the sequences' part, the place of each sequence there, and the schedule
+// that settling goes by.
+#[derive(Clone, Copy)]
+struct Tables<'a> {
+    masks: &'a [u64],
+    part: &'a [u32],
+    places: &'a [u32],
+    schedule: Schedule<'a>,
 }
 
-// The tables of the entries that pass ahead of the position and behind it, for a question that asks for a touch: on the first side those ahead
-// can stay untouched and those behind have a run, on the last side the other way round.
-fn mark_entries(
-    q: Asked,
-    masks: &[u64],
-    blank: &[u32],
-    part: &[u32],
-    places: &[u32],
-    callers: &[u64],
-    order: &[usize],
-    ahead: &mut [u32],
-    behind: &mut [u32],
-    n: usize,
-)
-    requires { Findable q n masks.now ahead.old behind.old blank.now part.now places.now callers.now order.now }
-    ensures { EntriesMarked q n masks.now blank.now part.now places.now ahead.old behind.old ahead.new behind.new }
-{
-    if q.mark != Mark::Untouched {
-        let untouched = Asked {
-            mark: Mark::Untouched,
-            ..q
+impl Tables<'_> {
+    // Ranks the items by one question and the sequences by another.
+    fn rank(&self, all: bool, p: Asked, q: Asked, ahead: &[u32], behind: &[u32], ranks: &mut [u32])
+        requires { ItemsRankable p self.now.masks.now ranks.old × RanksVisitable q self.now.schedule.n ahead.now behind.now ranks.old self.now.part.now self.now.places.now × Scheduled self.now.schedule.n self.now.part.now self.now.places.now self.now.schedule.callers.now self.now.schedule.order.now }
+        ensures { Ranked all p q self.now.schedule.n self.now.masks.now ahead.now behind.now self.now.part.now self.now.places.now ranks.old ranks.new }
+    {
+        write_item_ranks(all, p, self.masks, ranks);
+        let visits = RankVisits {
+            q,
+            ahead,
+            behind,
+            part: self.part,
+            places: self.places,
         };
-        let any_run = Asked {
-            mark: Mark::Run,
-            ..q
-        };
-        rank(
-            !q.first, untouched, any_run, masks, blank, blank, part, places, callers, order, ahead,
-            n,
-        );
-        rank(
-            q.first, untouched, any_run, masks, blank, blank, part, places, callers, order, behind,
-            n,
-        );
+        visits.settle(&self.schedule, ranks);
     }
-}
 
-// Ranks the sequences by the question and writes the chain of sequence `c`, with the tables that a question for a touch needs. One that asks
-// for no touch is answered by the depths of the sequences that can stay untouched, and by no other table. Answers the rank.
-fn find_by(
-    q: Asked,
-    masks: &[u64],
-    part: &[u32],
-    places: &[u32],
-    callers: &[u64],
-    order: &[usize],
-    ahead: &mut [u32],
-    behind: &mut [u32],
-    links: &mut [u32],
-    area: &mut [u32],
-    n: usize,
-    c: u32,
-) -> u32
-    requires { Findable q n masks.now ahead.old behind.old links.old part.now places.now callers.now order.now × (c < n) }
-    ensures { Found q n c masks.now part.now places.now ahead.old behind.old links.old area.old result area.new }
-{
-    mark_entries(
-        q, masks, links, part, places, callers, order, ahead, behind, n,
-    );
-    rank(
-        false, q, q, masks, ahead, behind, part, places, callers, order, links, n,
-    );
-    write_chain(q, ahead, behind, links, part, places, area, c)
+    // The tables of the entries that pass ahead of the position and behind it, for a question that asks for a touch: on the first side those
+    // ahead can stay untouched and those behind have a run, on the last side the other way round.
+    fn mark_entries(&self, q: Asked, blank: &[u32], ahead: &mut [u32], behind: &mut [u32])
+        requires { Findable q self.now.schedule.n self.now.masks.now ahead.old behind.old blank.now self.now.part.now self.now.places.now self.now.schedule.callers.now self.now.schedule.order.now }
+        ensures { EntriesMarked q self.now.schedule.n self.now.masks.now blank.now self.now.part.now self.now.places.now ahead.old behind.old ahead.new behind.new }
+    {
+        if q.mark != Mark::Untouched {
+            let untouched = Asked {
+                mark: Mark::Untouched,
+                ..q
+            };
+            let any_run = Asked {
+                mark: Mark::Run,
+                ..q
+            };
+            self.rank(!q.first, untouched, any_run, blank, blank, ahead);
+            self.rank(q.first, untouched, any_run, blank, blank, behind);
+        }
+    }
+
+    // Ranks the sequences by the question and writes the chain of sequence `c`, with the tables that a question for a touch needs. One that
+    // asks for no touch is answered by the depths of the sequences that can stay untouched, and by no other table. Answers the rank.
+    fn find(
+        &self,
+        q: Asked,
+        c: u32,
+        ahead: &mut [u32],
+        behind: &mut [u32],
+        links: &mut [u32],
+        area: &mut [u32],
+    ) -> u32
+        requires { Findable q self.now.schedule.n self.now.masks.now ahead.old behind.old links.old self.now.part.now self.now.places.now self.now.schedule.callers.now self.now.schedule.order.now × (c < self.now.schedule.n) }
+        ensures { Found q self.now.schedule.n c self.now.masks.now self.now.part.now self.now.places.now ahead.old behind.old links.old area.old result area.new }
+    {
+        self.mark_entries(q, links, ahead, behind);
+        self.rank(false, q, q, ahead, behind, links);
+        let chooser = Chooser {
+            by: Ranks {
+                q,
+                ahead,
+                behind,
+                ranks: links,
+                part: self.part,
+            },
+            places: self.places,
+        };
+        chooser.write_chain(area, c)
+    }
 }
 
 // Finds the answer to a question of sequence `c` of an accepted image, in areas of these sizes, by the masks of the block of its fact.
@@ -148,19 +132,24 @@ fn find_in<const MASKS: usize, const CALLERS: usize, const PLACES: usize, const 
     let words = q.none as usize + MOST_FACTS as usize + accepted.head.steps as usize;
     prepare_masks(accepted, q.fact_block(), &mut masks);
     prepare(accepted, &mut places, &mut callers, &mut order);
-    find_by(
+    let schedule = Schedule {
+        n,
+        callers: &callers,
+        order: &order[..n],
+    };
+    let tables = Tables {
+        masks: &masks,
+        part: accepted.sequences_part(),
+        places: &places,
+        schedule,
+    };
+    tables.find(
         q,
-        &masks,
-        accepted.sequences_part(),
-        &places,
-        &callers,
-        &order[..n],
+        c,
         &mut ahead[..words],
         &mut behind[..words],
         &mut links[..words],
         area,
-        n,
-        c,
     )
 }
 

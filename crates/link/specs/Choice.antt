@@ -10,7 +10,7 @@ use Rattle.question.specs.declared.asked.Asked.{Asked}
 use Rattle.question.specs.declared.asked.Mark.{Mark}
 use Rattle.rank.specs.Walk.{newest_link}
 use Rattle.slot.specs.Slots.{entry_number, rank_in, pass_in}
-use Rattle.rank.specs.Tables.{depth_in, RanksReadable}
+use Rattle.rank.specs.Tables.{depth_in}
 use Rattle.chains.specs.Answer.{Answer, shown, newest}
 use Rattle.chains.specs.Answer as known
 use Rattle.link.specs.declared.link.Choice.{Choice}
@@ -41,11 +41,6 @@ link_entry alts (untouched_link c i) = 0
 pub record Opened (part places : List ℕ) : Type 0 where
   pub within : (c : ℕ) → get_or places c 0 < length part
   pub short : length part ≤ 8192
-
--- what the words of a chain ask of the tables
-pub record Choosable (none : ℕ) (ahead behind ranks part places : List ℕ) : Type 0 where
-  pub readable : RanksReadable none ahead behind ranks part
-  pub opened : Opened part places
 
 module _ (none : ℕ) (ahead behind ranks part places : List ℕ) where
   -- the link of sequence c, where the links after it are k

@@ -4,12 +4,12 @@ ghost use Rattle.image.specs.Word.{most_words};
 ghost use Rattle.library.specs.Library.{entries_from, alternatives_from};
 ghost use Rattle.rank.specs.Walk.{tail_from};
 ghost use Rattle.slot.specs.Slots.{pass_in};
-ghost use Rattle.rank.specs.Tables.{Rankable, RanksReadable};
+ghost use Rattle.rank.specs.Tables.{Rankable};
 ghost use Rattle.link.specs.Choice.{alternative_in, Chosen};
 
 use image::word::payload_of;
-use rank::read::Table;
-use slot::entry::{passes, traits_of};
+use rank::read::{Ranks, Table};
+use slot::entry::passes;
 use walk::sequence::{alternatives_of, opener_before, part_entry, select};
 
 // An alternative, the position of an entry there, and the number that the entry names.
@@ -38,30 +38,22 @@ fn tail_from(none: u32, behind: &[u32], words: &[u32]) -> usize
 // The last alternative, then its first position, that comes to no more than `k`, among the alternatives that stand from index `at` on. Document
 // 01 asks for nested loops here, left by label with the chosen link. Where no alternative fits, definition `newest` names the number past the
 // last one, so that the result is no Option.
-pub fn chosen_link(
-    none: u32,
-    ahead: &[u32],
-    behind: &[u32],
-    ranks: &[u32],
-    part: &[u32],
-    at: usize,
-    k: u32,
-) -> Choice
-    requires { RanksReadable none ahead.now behind.now ranks.now part.now × (at ≤ length part.now) × (length part.now ≤ most_words) }
-    ensures { Chosen none ahead.now behind.now ranks.now part.now at k result }
+pub fn chosen_link(by: &Ranks, at: usize, k: u32) -> Choice
+    requires { (at ≤ length by.now.part.now) × (length by.now.part.now ≤ most_words) }
+    ensures { Chosen by.now.q.none by.now.ahead.now by.now.behind.now by.now.ranks.now by.now.part.now at k result }
 {
-    let all = alternatives_of(part, at);
+    let all = alternatives_of(by.part, at);
     let mut opener = all.last;
     'found: {
         for alternative in (0..all.count).rev() {
-            let words = &part[opener + 1..];
-            let tail = tail_from(none, behind, words);
+            let words = &by.part[opener + 1..];
+            let tail = tail_from(by.q.none, by.behind, words);
             let mut ok = true;
             for (position, &e) in words.iter().enumerate() {
                 if !part_entry(e) {
                     break;
                 }
-                let t = traits_of(none, ahead, behind, ranks, e);
+                let t = by.traits(e);
                 if ok & (tail <= position + 1) & (t.rank <= k) {
                     break 'found Choice {
                         alternative,
@@ -71,7 +63,7 @@ pub fn chosen_link(
                 }
                 ok &= t.ahead;
             }
-            opener = opener_before(part, opener);
+            opener = opener_before(by.part, opener);
         }
         Choice {
             alternative: all.count,
@@ -81,19 +73,19 @@ pub fn chosen_link(
     }
 }
 
-// The last alternative whose greatest depth is no more than `k`, among those that stand from index `at` on.
-pub fn chosen_alternative(none: u32, ranks: &[u32], part: &[u32], at: usize, k: u32) -> u32
-    requires { Rankable none ranks.now part.now × (at ≤ length part.now) × (length part.now ≤ most_words) }
-    ensures { (result ≡ alternative_in none ranks.now k (alternatives_from (drop at part.now))) × (result ≤ most_words) }
+// The last alternative whose greatest depth is no more than `k`, among those that stand from index `at` on; where none is that shallow, the
+// number past the last one.
+pub fn chosen_alternative(by: &Table, at: usize, k: u32) -> u32
+    requires { (at ≤ length by.now.part.now) × (length by.now.part.now ≤ most_words) }
+    ensures { (result ≡ alternative_in by.now.none by.now.ranks.now k (alternatives_from (drop at by.now.part.now))) × (result ≤ most_words) }
 {
-    let all = alternatives_of(part, at);
+    let all = alternatives_of(by.part, at);
     let mut opener = all.last;
-    let table = Table { none, ranks, part };
     for alternative in (0..all.count).rev() {
-        if table.greatest_depth(opener + 1).value <= k {
+        if by.greatest_depth(opener + 1).value <= k {
             return alternative;
         }
-        opener = opener_before(part, opener);
+        opener = opener_before(by.part, opener);
     }
     all.count
 }

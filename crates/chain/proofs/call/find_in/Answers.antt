@@ -14,8 +14,8 @@ prepare_masks-requires g c = masks_asked c.requires.1
 pub prepare-requires : goal.prepare-requires
 prepare-requires g c = tables_asked c.requires.1
 
-pub find_by-requires : goal.find_by-requires
-find_by-requires g c =
+pub find-requires : goal.find-requires
+find-requires g c =
     let areas = c.requires.1 in
     let long = ranks_long areas in (
       tables_findable c.args.accepted.now.accepted c.prepare.ensures c.sequences_part.ensures c.requires.0 long long long (zeros g.row.PLACES)
@@ -30,8 +30,8 @@ returns g c =
     let image = a.accepted.now.image.now in
     let accepted = a.accepted.now.accepted in
     let long = ranks_long c.requires.1 in
-    let by = c.find_by.ensures in
-    answered_same {found = words.by_rank a.q c.find_by.result (length a.area.now)}
+    let by = c.find.ensures in
+    answered_same {found = words.by_rank a.q c.find.result (length a.area.now)}
     (found_done image a.accepted.now.head accepted _ _ _ (places_made accepted c.prepare.ensures c.sequences_part.ensures) a.q a.c c.requires.0
     (masks_made image a.accepted.now.head accepted _ _ c.fact_block.ensures c.prepare_masks.ensures (zeros g.row.MASKS)) _ _ _ _ long by.ranked _ _
     long long by.marked)

@@ -7,4 +7,4 @@ use Rattle.link.proofs.Choices.{Seeking}
 use Rattle.link.proofs.link.chosen_alternative.Given as goal
 
 abbrev pub invariant-loop-alternative : goal.invariant-loop-alternative
-invariant-loop-alternative l = Seeking (λ (es : Alternative). leb (depth_in l.none l.ranks es) l.k) l.part l.at l.alternative l.opener
+invariant-loop-alternative l = Seeking (λ (es : Alternative). leb (depth_in l.by.none l.by.ranks.now es) l.k) l.by.part.now l.at l.alternative l.opener

@@ -14,10 +14,10 @@ pub loop-alternative-init : goal.loop-alternative-init
 loop-alternative-init c = seeking_start _ _ _ _ c.alternatives_of-all.ensures
 
 pub overflow_add-words : goal.overflow_add-words
-overflow_add-words c = omega (arith, last_within _ _ _ _ _ c.loop-alternative.invariant c.loop-alternative-test.true, c.requires.2)
+overflow_add-words c = omega (arith, last_within _ _ _ _ _ c.loop-alternative.invariant c.loop-alternative-test.true, c.requires.1)
 
-pub offset_bounds-part-opener : goal.offset_bounds-part-opener
-offset_bounds-part-opener c = omega (arith, last_within _ _ _ _ _ c.loop-alternative.invariant c.loop-alternative-test.true, c.requires.2)
+pub offset_bounds-by-opener : goal.offset_bounds-by-opener
+offset_bounds-by-opener c = omega (arith, last_within _ _ _ _ _ c.loop-alternative.invariant c.loop-alternative-test.true, c.requires.1)
 
 pub slice_bounds-words-count : goal.slice_bounds-words-count
 slice_bounds-words-count c = last_within _ _ _ _ _ c.loop-alternative.invariant c.loop-alternative-test.true
@@ -28,14 +28,14 @@ slice_bounds-words-start c = last_within _ _ _ _ _ c.loop-alternative.invariant 
 pub loop-position-preserved : goal.loop-position-preserved
 loop-position-preserved c =
     placing_turn _ _ _ _ _ _ _ c.tail_from-tail.ensures _ _ c.loop-position.invariant (sym c.part_entry.ensures ∙ c.if-not-part_entry.false)
-    c.traits_of-t.result c.traits_of-t.ensures c.if-ok-tail.false
+    c.traits-t.result c.traits-t.ensures c.if-ok-tail.false
 
 pub opener_before-opener-requires : goal.opener_before-opener-requires
 opener_before-opener-requires c = omega (arith, last_within _ _ _ _ _ c.loop-alternative.invariant c.loop-alternative-test.true)
 
 pub loop-alternative-preserved : goal.loop-alternative-preserved
 loop-alternative-preserved c =
-    let words = words_after c.args.part.now c.loop-alternative.opener in
+    let words = words_after c.args.by.now.part.now c.loop-alternative.opener in
     let out : is_entry (get_or words c.loop-position.position 0) ≡ false =
     elim c.loop-position-test.branch [
       | else-loop-position-test w ↦ let last : c.loop-position.position ≡ length words = omega arith in rw last (none_past words)
@@ -47,7 +47,7 @@ pub returns-then-ok-tail : goal.returns-then-ok-tail
 returns-then-ok-tail c =
     rw c.payload_of.ensures
     (chosen_found _ _ _ _ _ _ _ _ _ c.loop-alternative.invariant c.loop-alternative-test.true _ c.tail_from-tail.ensures _ _
-    c.loop-position.invariant (sym c.part_entry.ensures ∙ c.if-not-part_entry.false) c.traits_of-t.result c.traits_of-t.ensures c.if-ok-tail.true)
+    c.loop-position.invariant (sym c.part_entry.ensures ∙ c.if-not-part_entry.false) c.traits-t.result c.traits-t.ensures c.if-ok-tail.true)
 
 pub returns-after-loop-alternative : goal.returns-after-loop-alternative
 returns-after-loop-alternative c = chosen_out _ _ _ _ _ _ _ _ c.alternatives_of-all.ensures _ _ c.loop-alternative.invariant c.loop-alternative-test.false

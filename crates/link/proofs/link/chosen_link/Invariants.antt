@@ -5,7 +5,7 @@ use Rattle.link.proofs.Choices.{Placing, Choosing}
 use Rattle.link.proofs.link.chosen_link.Given as goal
 
 abbrev pub invariant-loop-position : goal.invariant-loop-position
-invariant-loop-position l = Placing l.none l.ahead l.behind l.ranks l.k l.words l.ok l.position
+invariant-loop-position l = Placing l.by.q.none l.by.ahead.now l.by.behind.now l.by.ranks.now l.k l.words l.ok l.position
 
 abbrev pub invariant-loop-alternative : goal.invariant-loop-alternative
-invariant-loop-alternative l = Choosing l.none l.ahead l.behind l.ranks l.k l.part l.at l.alternative l.opener
+invariant-loop-alternative l = Choosing l.by.q.none l.by.ahead.now l.by.behind.now l.by.ranks.now l.k l.by.part.now l.at l.alternative l.opener
