@@ -11,7 +11,7 @@ use mathlib.Core.Logic.{◌⊎◌, inl, inr, ⊎_elim}
 use mathlib.Core.Bool.{Bool, true, false, cond, ◌||◌}
 use mathlib.Core.List.{List, [], ◌∷◌}
 use mir.Val.{bool_byte}
-use lib.ListN.{length, get_or, drop, length-drop}
+use lib.ListN.{length, get_or, drop, length-drop, get_or-eq_default}
 use Rattle.general.specs.Scan.{last_index}
 use Rattle.general.proofs.Bools.{passes_or_not, or_cases, nor_left, nor_right}
 use Rattle.image.specs.Word.{is_kind, is_entry}
@@ -68,6 +68,10 @@ module _ (part : List ℕ) where
       pub before_out : opens i || names i ≡ false → n ≡ length (from at)
       before_out e =
           omega (arith, here.count, ap length (alternatives_at_lem part i false false (nor_left (opens i) (names i) e) (nor_right (opens i) (names i) e)))
+
+      -- past the words stands 0
+      pub before_end : i ≡ length part → n ≡ length (from at)
+      before_end e = before_out (ap (λ (w : ℕ). is_kind 7 w || is_entry w) (get_or-eq_default part 0 {n = i} (omega arith)))
 
     -- the same with the index of the last opener
     pub last_turn : (n last i : ℕ) → LastBefore part at n last i → opens i || names i ≡ true

@@ -12,6 +12,8 @@ use mathlib.Core.Bool.{Bool, true, false, cond, ◌&&◌, false≢true}
 use mathlib.Core.List.{List, [], ◌∷◌}
 use lib.ListN.{length, get_or, drop, length-drop, drop_of_length-le, get_or-eq_default}
 use lib.Seq.{drop-cons, drop-nil, drop-drop}
+use Rattle.std.specs.List.{take_while}
+use Rattle.std.proofs.lemmas.List.Sums.{take_while-cons}
 use Rattle.general.specs.Scan.{first_index}
 use Rattle.general.proofs.Bools.{and_parts}
 use Rattle.general.proofs.Scan.{first_le}
@@ -156,6 +158,17 @@ module _ (part : List ℕ) (at : ℕ) where
 
     pub walk_next : is_entry (get_or part at 0) ≡ true → dead (entry_of (get_or part at 0)) ≡ false → walk_end dead part (at + 1) ≡ walk_end dead part at
     walk_next e told = sym (walk_entry false e told)
+
+-- as many entries stand at the head of words as words that are entries
+pub entries_long : (ws : List ℕ) → length (entries_from ws) ≡ length (take_while is_entry ws)
+unfolding entries_from
+entries_long [] = refl
+entries_long (w ∷ ws) = go (is_entry w) (entries_long ws) ∙ ap length (sym (take_while-cons is_entry w ws))
+  where
+    go : (b : Bool) → length (entries_from ws) ≡ length (take_while is_entry ws)
+        → length (cond b (entry_of w ∷ entries_from ws) []) ≡ length (cond b (w ∷ take_while is_entry ws) [])
+    go true rest = ap (λ (n : ℕ). suc n) rest
+    go false rest = refl
 
 -- the words from index `at` up to i are entries, passed by fours
 pub record EntriesPassed (part : List ℕ) (at i : ℕ) : Type 0 where

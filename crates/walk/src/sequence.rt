@@ -1,5 +1,6 @@
 // The words of a sequence: walked from left to right, and back from one alternative to the one before it.
 ghost use Rattle.std.specs.Prelude.{◌≡◌, true, cond, ◌&&◌, ◌≤◌, length, get_or};
+ghost use Rattle.std.specs.List.{take_while};
 ghost use Rattle.image.specs.Word.{most_words, is_kind, is_entry};
 ghost use Rattle.library.specs.Accepted.{HighEntry};
 ghost use Rattle.walk.specs.Walk.{entries_end, AllBefore, opener_before};
@@ -20,10 +21,7 @@ pub struct Alternatives {
 pub fn word_at(part: &[u32], i: usize) -> u32
     ensures { result ≡ get_or part.now i 0 }
 {
-    if i < part.len() {
-        return part[i];
-    }
-    0
+    part.get(i).copied().unwrap_or(0)
 }
 
 // Whether a word of the sequences' part is an entry: no other word has a kind from 8 on there. It is one test of one bit.
@@ -42,19 +40,22 @@ pub fn is_check(w: u32) -> bool
     KIND_CHECK <= w / PAYLOADS
 }
 
+// How many entries the words begin with.
+fn entries_ahead(words: &[u32]) -> usize
+    ensures { result ≡ length (take_while is_entry words.now) }
+{
+    words.iter().take_while(|w| is_entry(**w)).count()
+}
+
 // The index after the entries that stand from index `at` on.
 pub fn entries_end(part: &[u32], at: usize) -> usize
     requires { at ≤ length part.now }
     ensures { result ≡ entries_end part.now at }
 {
-    let mut i = at;
-    while is_entry(word_at(part, i)) {
-        i += 1;
-    }
-    i
+    at + entries_ahead(&part[at..])
 }
 
-// The same by fours, where a walk has left many entries.
+// The same by fours, where a walk has left many entries. The index counts by hand: beside an iterator over the fours it would still be counted.
 pub fn rest_end(part: &[u32], at: usize) -> usize
     requires { at ≤ length part.now }
     ensures { result ≡ entries_end part.now at }
@@ -62,7 +63,7 @@ pub fn rest_end(part: &[u32], at: usize) -> usize
     let mut i = at;
     while AT_ONCE <= part.len() - i {
         if !all_four(part, i, is_entry) {
-            return entries_end(part, i);
+            break;
         }
         i += AT_ONCE;
     }
@@ -83,20 +84,16 @@ pub fn alternatives_of(part: &[u32], at: usize) -> Alternatives
 {
     let mut count = 0;
     let mut last = at;
-    let mut end = at;
-    loop {
-        let w = word_at(part, end);
+    for i in at..part.len() {
+        let w = part[i];
         let opens = is_kind(KIND_ALTERNATIVE, w);
         if !(opens | is_entry(w)) {
-            return Alternatives {
-                count: count,
-                last: last,
-            };
+            break;
         }
-        count += opens as u32;
-        last = select(opens, end, last);
-        end += 1;
+        count += u32::from(opens);
+        last = select(opens, i, last);
     }
+    Alternatives { count, last }
 }
 
 // The index of the last opener of an alternative before index `end`, 0 where there is none.
@@ -104,9 +101,7 @@ pub fn opener_before(part: &[u32], end: usize) -> usize
     requires { end ≤ length part.now }
     ensures { result ≡ opener_before part.now end }
 {
-    let mut i = end;
-    while 0 < i {
-        i -= 1;
+    for i in (0..end).rev() {
         if is_kind(KIND_ALTERNATIVE, part[i]) {
             return i;
         }
