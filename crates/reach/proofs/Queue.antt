@@ -1,6 +1,6 @@
 -- What is found, as a set and a queue of its members: one more, and the sequences that a loop over a sequence's words finds.
 -- Assumes nothing.
-use Prim.Native.Nat.{ℕ, ◌+◌, ◌/◌, ◌≤◌, ◌<◌}
+use Prim.Native.Nat.{ℕ, ◌+◌, ◌-◌, ◌/◌, ◌≤◌, ◌<◌}
 use native.Mathlib.Omega.{arith}
 use native.Mathlib.Decide.{ℕ_discrete}
 use mathlib.Core.Path.{◌≡◌, refl, sym, ap, ap₂, ◌∙◌}
@@ -8,10 +8,13 @@ use mathlib.Core.Bool.{Bool, true, false, not, ◌&&◌, ◌||◌, false≢true}
 use mathlib.Core.Logic.{⊎_elim}
 use mathlib.Core.List.{List}
 use lib.Dec.{eqb}
-use lib.ListN.{length, get_or, set, drop, length-set}
+use lib.ListN.{length, get_or, set, take, drop, length-set}
+use Rattle.std.proofs.lemmas.List.{take_all, length-drop, get_or-drop}
 use lib.Seq.{get_or-set_same, get_or-set_other}
-use borrow.Author.Tests.{eqb-true, eqb-false}
+use borrow.Author.Tests.{eqb-true, eqb-false, eq-eqb, ne_eqb}
 use Rattle.general.specs.Numbers.{Zeros}
+use Rattle.general.proofs.Numbers.{zeros}
+use Rattle.std.proofs.Common.{replicate}
 use Rattle.general.proofs.Bools.{or_cases, nor_left, nor_right}
 use Rattle.general.proofs.Scan.{count_passing, count_all, count_none, count_one}
 use Rattle.general.proofs.Rising.{passing_length, passing_short}
@@ -19,10 +22,12 @@ use Rattle.image.specs.Word.{payload, is_kind}
 use Rattle.library.specs.Calls.{calls_of}
 use Rattle.library.specs.Library.{alternatives_from}
 use Rattle.walk.specs.Walk.{entries_end}
-use Rattle.callers.specs.Callers.{in_set, with_member}
+use Rattle.callers.specs.Callers.{in_set, with_member, no_sequences}
 use Rattle.callers.proofs.CallerSets.{member_same, member_other, member_stays, none_member}
 use Rattle.callers.proofs.Calls.{left, left_start, left_call, left_on, left_out, left_past}
-use Rattle.reach.specs.Found.{Queued, Noted}
+use Rattle.reach.specs.declared.found.Reached.{Reached}
+use Rattle.reach.specs.Queue.{Queued}
+use Rattle.reach.specs.Found.{Noted}
 
 -- ---- the queue
 
@@ -73,14 +78,29 @@ module _ {n : ℕ} {found queue : List ℕ} {count : ℕ} (here : Queued n found
           | no other ↦
               ap (in_set (with_member found d)) (get_or-set_other queue count j d 0 other) ∙ member_stays found d word (get_or queue j 0) (here.members j (omega arith))
         ];
-        queued = λ e inside. elim (ℕ_discrete e d) [
-          | yes same ↦ (count, omega arith, get_or-set_same queue count d 0 queue_room ∙ sym same)
+        queued = λ e inside none. elim (ℕ_discrete e d) [
+          | yes same ↦ none count (omega arith) (get_or-set_same queue count d 0 queue_room ∙ sym same)
           | no other ↦
-              let (j, l, at) = here.queued e (sym (member_other found d word e other) ∙ inside) in
-              (j, omega arith, get_or-set_other queue count j d 0 (λ q. omega arith) ∙ at)
+              here.queued e (sym (member_other found d word e other) ∙ inside)
+              (λ j l at. none j (omega arith) (get_or-set_other queue count j d 0 (λ q. omega arith) ∙ at))
         ];
         size = sym (passing_length (in_set (with_member found d)) n ∙ one_more);
       }
+
+-- sequence c alone is found
+module _ (n c : ℕ) (few : n ≤ 256) (low : c < n) where
+  pub queued_one : Queued n (with_member no_sequences c) (replicate 256 c) 1
+  queued_one =
+      let blank = zeros 4 in
+      queued_more (queued_none n no_sequences (replicate 256 c) few refl few blank) c low (none_member no_sequences blank c)
+
+  pub one_found : (e : ℕ) → in_set (with_member no_sequences c) e ≡ eqb e c
+  one_found e =
+      let room : c / 64 < 4 = omega arith in
+      elim (ℕ_discrete e c) [
+        | yes same ↦ ap (in_set (with_member no_sequences c)) same ∙ member_same no_sequences c room ∙ sym (eq-eqb e c same)
+        | no other ↦ member_other no_sequences c room e other ∙ none_member no_sequences (zeros 4) e ∙ sym (ne_eqb e c other)
+      ]
 
 -- ---- one sequence
 
@@ -92,58 +112,76 @@ or_none false = refl
 not_more : (x y z : Bool) → (y && z) ≡ false → x ≡ (x || (y && z))
 not_more x y z e = or_none x ∙ ap (λ (b : Bool). x || b) (sym e)
 
-module _ (runs : List ℕ) {n : ℕ} {found queue : List ℕ} {count : ℕ} (here : Queued n found queue count) (d : ℕ) where
+module _ (before : Reached) (d : ℕ) where
   -- it has a run, or was found before
-  pub noted_before : in_set runs d || in_set found d ≡ true → Noted runs (λ e. eqb d e) n found queue count found queue count
-  noted_before before =
-      record { now_queued = here; same = λ e. go e (eqb d e) refl; kept = λ j l. refl; more = omega arith }
+  pub noted_before : in_set before.runs.now d || in_set before.set d ≡ true → Noted (λ e. eqb d e) before before
+  noted_before there = record { runs_same = refl; bound = refl; same = λ e. go e (eqb d e) refl; kept = λ j l. refl; more = omega arith }
     where
-      go : (e : ℕ) (b : Bool) → eqb d e ≡ b → in_set found e ≡ (in_set found e || (b && not (in_set runs e)))
+      go : (e : ℕ) (b : Bool) → eqb d e ≡ b → in_set before.set e ≡ (in_set before.set e || (b && not (in_set before.runs.now e)))
       go e true q =
           let same = eqb-true d e q in
-          ⊎_elim (λ run. not_more (in_set found e) true (not (in_set runs e)) (ap not (rw same at run)))
-          (λ old. let there : in_set found e ≡ true = rw same at old in there ∙ sym (ap (λ (x : Bool). x || not (in_set runs e)) there))
-          (or_cases (in_set runs d) (in_set found d) before)
-      go e false q = or_none (in_set found e)
+          ⊎_elim (λ run. not_more (in_set before.set e) true (not (in_set before.runs.now e)) (ap not (rw same at run)))
+          (λ old.
+          let inside : in_set before.set e ≡ true = rw same at old in
+          inside ∙ sym (ap (λ (x : Bool). x || not (in_set before.runs.now e)) inside))
+          (or_cases (in_set before.runs.now d) (in_set before.set d) there)
+      go e false q = or_none (in_set before.set e)
 
-  -- it is new
-  pub noted_new : d < n → in_set runs d || in_set found d ≡ false → Noted runs (λ e. eqb d e) n found queue count (with_member found d) (set queue count d) (count + 1)
-  noted_new low new =
-      let out = nor_right (in_set runs d) (in_set found d) new in
-      record {
-        now_queued = queued_more here d low out;
-        same = λ e. go e (eqb d e) refl;
-        kept = λ j l. get_or-set_other queue count j d 0 (λ q. omega arith);
-        more = omega arith;
-      }
-    where
-      room : d / 64 < length found
-      room = omega (arith, here.few, here.four)
+  module _ (low : d < before.n) (new : in_set before.runs.now d || in_set before.set d ≡ false) where
+    out : in_set before.set d ≡ false
+    out = nor_right (in_set before.runs.now d) (in_set before.set d) new
 
-      go : (e : ℕ) (b : Bool) → eqb d e ≡ b → in_set (with_member found d) e ≡ (in_set found e || (b && not (in_set runs e)))
-      go e true q =
-          let same = eqb-true d e q in
-          let none : in_set runs e ≡ false = rw same at (nor_left (in_set runs d) (in_set found d) new) in
-          let outside : in_set found e ≡ false = rw same at (nor_right (in_set runs d) (in_set found d) new) in
-          ap (in_set (with_member found d)) (sym same) ∙ member_same found d room ∙ sym (ap₂ (λ (x y : Bool). x || not y) outside none)
-      go e false q = member_other found d room e (λ same. eqb-false d e q (sym same)) ∙ or_none (in_set found e)
+    -- it is new, and there is room for it
+    pub new_room : before.count < length before.queue
+    new_room = queue_room before.queued d low out
+
+    pub new_queued : Queued before.n (with_member before.set d) (set before.queue before.count d) (before.count + 1)
+    new_queued = queued_more before.queued d low out
+
+    pub noted_new : (after : Reached) → after.runs.now ≡ before.runs.now → after.n ≡ before.n → after.set ≡ with_member before.set d
+        → after.queue ≡ set before.queue before.count d → after.count ≡ before.count + 1 → Noted (λ e. eqb d e) before after
+    noted_new after runs bound members queue count =
+        record {
+          runs_same = runs;
+          bound = bound;
+          same = λ e. ap (λ (s : List ℕ). in_set s e) members ∙ go e (eqb d e) refl;
+          kept = λ j l. ap (λ (q : List ℕ). get_or q j 0) queue ∙ get_or-set_other before.queue before.count j d 0 (λ q. omega arith);
+          more = omega arith;
+        }
+      where
+        room : d / 64 < length before.set
+        room = let here = before.queued in omega (arith, here.few, here.four)
+
+        go : (e : ℕ) (b : Bool) → eqb d e ≡ b → in_set (with_member before.set d) e ≡ (in_set before.set e || (b && not (in_set before.runs.now e)))
+        go e true q =
+            let same = eqb-true d e q in
+            let none : in_set before.runs.now e ≡ false = rw same at (nor_left (in_set before.runs.now d) (in_set before.set d) new) in
+            let outside : in_set before.set e ≡ false = rw same at out in
+            ap (in_set (with_member before.set d)) (sym same) ∙ member_same before.set d room ∙ sym (ap₂ (λ (x y : Bool). x || not y) outside none)
+        go e false q = member_other before.set d room e (λ same. eqb-false d e q (sym same)) ∙ or_none (in_set before.set e)
 
 -- ---- the sequences that a sequence's words name
 
--- what holds at the head of the loop over its words: what is found so far, with the calls that are left, is all
-pub record Noting (part : List ℕ) (at : ℕ) (runs : List ℕ) (n : ℕ) (found₀ queue₀ : List ℕ) (count₀ : ℕ) (found queue : List ℕ) (count i : ℕ) : Type 0 where
-  pub now_queued : Queued n found queue count
-  pub same : (e : ℕ) → (in_set found e || (left part i e && not (in_set runs e)))
-      ≡ (in_set found₀ e || (calls_of (alternatives_from (drop at part)) e && not (in_set runs e)))
-  pub kept : (j : ℕ) → j < count₀ → get_or queue j 0 ≡ get_or queue₀ j 0
-  pub more : count₀ ≤ count
+-- the words from index `from` on, as a part of their own
+pub word_at : (part : List ℕ) (from k : ℕ) → get_or (take (length part - from) (drop from part)) k 0 ≡ get_or part (from + k) 0
+word_at part from k =
+    ap (λ (ws : List ℕ). get_or ws k 0) (take_all (length part - from) (drop from part) (omega (arith, length-drop from part))) ∙ get_or-drop from part k 0
 
-pub noting_start : (part : List ℕ) (at : ℕ) (runs : List ℕ) {n : ℕ} {found queue : List ℕ} {count : ℕ} → Queued n found queue count → (i : ℕ) → i ≡ entries_end part at
-    → Noting part at runs n found queue count found queue count i
-noting_start part at runs {found = found} here i e =
+-- what holds at the head of the loop over its words: what is found so far, with the calls that are left, is all
+pub record Noting (part : List ℕ) (at : ℕ) (before here : Reached) (i : ℕ) : Type 0 where
+  pub runs_same : here.runs.now ≡ before.runs.now
+  pub bound : here.n ≡ before.n
+  pub same : (e : ℕ) → (in_set here.set e || (left part i e && not (in_set before.runs.now e)))
+      ≡ (in_set before.set e || (calls_of (alternatives_from (drop at part)) e && not (in_set before.runs.now e)))
+  pub kept : (j : ℕ) → j < before.count → get_or here.queue j 0 ≡ get_or before.queue j 0
+  pub more : before.count ≤ here.count
+
+pub noting_start : (part : List ℕ) (at : ℕ) (before : Reached) (i : ℕ) → i ≡ entries_end part at → Noting part at before before i
+noting_start part at before i e =
     record {
-      now_queued = here;
-      same = λ c. ap (λ (x : Bool). in_set found c || (x && not (in_set runs c))) (left_start part at i c e);
+      runs_same = refl;
+      bound = refl;
+      same = λ c. ap (λ (x : Bool). in_set before.set c || (x && not (in_set before.runs.now c))) (left_start part at i c e);
       kept = λ j l. refl;
       more = omega arith;
     }
@@ -155,47 +193,50 @@ shift false true true false = refl
 shift false true false false = refl
 shift false false r z = refl
 
-module _ {part : List ℕ} {at : ℕ} {runs : List ℕ} {n : ℕ} {found₀ queue₀ : List ℕ} {count₀ : ℕ} {found queue : List ℕ} {count i : ℕ}
-    (here : Noting part at runs n found₀ queue₀ count₀ found queue count i) where
+module _ {part : List ℕ} {at : ℕ} {before now : Reached} {i : ℕ} (here : Noting part at before now i) where
   -- a call
-  pub noting_call : {found' queue' : List ℕ} {count' : ℕ} → is_kind 9 (get_or part i 0) ≡ true
-      → Noted runs (λ e. eqb (payload (get_or part i 0)) e) n found queue count found' queue' count' → Noting part at runs n found₀ queue₀ count₀ found' queue' count' (i + 1)
-  noting_call nine noted =
+  pub noting_call : (after : Reached) → is_kind 9 (get_or part i 0) ≡ true → Noted (λ e. eqb (payload (get_or part i 0)) e) now after
+      → Noting part at before after (i + 1)
+  noting_call after nine noted =
       record {
-        now_queued = noted.now_queued;
+        runs_same = noted.runs_same ∙ here.runs_same;
+        bound = noted.bound ∙ here.bound;
         same = λ e.
-            ap (λ (x : Bool). x || (left part (i + 1) e && not (in_set runs e))) (noted.same e)
-            ∙ shift (in_set found e) (eqb (payload (get_or part i 0)) e) (left part (i + 1) e) (not (in_set runs e))
-            ∙ ap (λ (x : Bool). in_set found e || (x && not (in_set runs e))) (sym (left_call part i e nine))
+            let run : in_set now.runs.now e ≡ in_set before.runs.now e = ap (λ (r : List ℕ). in_set r e) here.runs_same in
+            ap (λ (x : Bool). x || (left part (i + 1) e && not (in_set before.runs.now e)))
+            (noted.same e ∙ ap (λ (x : Bool). in_set now.set e || (eqb (payload (get_or part i 0)) e && not x)) run)
+            ∙ shift (in_set now.set e) (eqb (payload (get_or part i 0)) e) (left part (i + 1) e) (not (in_set before.runs.now e))
+            ∙ ap (λ (x : Bool). in_set now.set e || (x && not (in_set before.runs.now e))) (sym (left_call part i e nine))
             ∙ here.same e;
         kept = λ j l. noted.kept j (omega (arith, here.more)) ∙ here.kept j l;
         more = omega (arith, here.more, noted.more);
       }
 
   -- the opener of an alternative, or an item
-  pub noting_on : is_kind 7 (get_or part i 0) || is_kind 8 (get_or part i 0) || is_kind 13 (get_or part i 0) ≡ true
-      → Noting part at runs n found₀ queue₀ count₀ found queue count (i + 1)
+  pub noting_on : is_kind 7 (get_or part i 0) || is_kind 8 (get_or part i 0) || is_kind 13 (get_or part i 0) ≡ true → Noting part at before now (i + 1)
   noting_on inside =
       record {
-        now_queued = here.now_queued;
-        same = λ e. ap (λ (x : Bool). in_set found e || (x && not (in_set runs e))) (left_on part i e inside) ∙ here.same e;
+        runs_same = here.runs_same;
+        bound = here.bound;
+        same = λ e. ap (λ (x : Bool). in_set now.set e || (x && not (in_set before.runs.now e))) (left_on part i e inside) ∙ here.same e;
         kept = here.kept;
         more = here.more;
       }
 
   -- no call is left
-  noting_done : ((e : ℕ) → left part i e ≡ false) → Noted runs (calls_of (alternatives_from (drop at part))) n found₀ queue₀ count₀ found queue count
+  noting_done : ((e : ℕ) → left part i e ≡ false) → Noted (calls_of (alternatives_from (drop at part))) before now
   noting_done none =
       record {
-        now_queued = here.now_queued;
-        same = λ e. or_none (in_set found e) ∙ ap (λ (x : Bool). in_set found e || (x && not (in_set runs e))) (sym (none e)) ∙ here.same e;
+        runs_same = here.runs_same;
+        bound = here.bound;
+        same = λ e. or_none (in_set now.set e) ∙ ap (λ (x : Bool). in_set now.set e || (x && not (in_set before.runs.now e))) (sym (none e)) ∙ here.same e;
         kept = here.kept;
         more = here.more;
       }
 
   pub noting_out : is_kind 9 (get_or part i 0) ≡ false → is_kind 7 (get_or part i 0) || is_kind 8 (get_or part i 0) || is_kind 13 (get_or part i 0) ≡ false
-      → Noted runs (calls_of (alternatives_from (drop at part))) n found₀ queue₀ count₀ found queue count
+      → Noted (calls_of (alternatives_from (drop at part))) before now
   noting_out nine outside = noting_done (λ e. left_out part i e nine outside)
 
-  pub noting_end : length part ≤ i → Noted runs (calls_of (alternatives_from (drop at part))) n found₀ queue₀ count₀ found queue count
+  pub noting_end : length part ≤ i → Noted (calls_of (alternatives_from (drop at part))) before now
   noting_end past = noting_done (λ e. left_past part i e past)

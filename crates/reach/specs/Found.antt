@@ -1,58 +1,20 @@
--- What is found from a sequence on, in the form that the loops follow: a set, and a queue of its members in the order in which they were found.
--- That it is what the sequence reaches is proved in crate `endless`.
-use Rattle.std.specs.Prelude.{ℕ, ◌+◌, ◌≤◌, ◌<◌, ◌≡◌, Bool, true, false, not, cond, ◌&&◌, ◌||◌, List, length, get_or, set}
-use mir.Val.{bool_byte}
-use Rattle.general.specs.Numbers.{Zeros}
-use Rattle.general.specs.Scan.{passing}
-use Rattle.image.specs.Word.{kind, payload, most_sequences}
-use Rattle.callers.specs.Callers.{set_words, in_set, calls}
+-- What is found, as the struct that holds it: the asked one alone, and what is found after it.
+use Rattle.std.specs.Prelude.{ℕ, ◌≤◌, ◌<◌, ◌≡◌, Bool, true, not, ◌&&◌, ◌||◌, List, [], ◌∷◌, eqb, get_or}
+use Rattle.callers.specs.Callers.{in_set}
+use Rattle.reach.specs.declared.found.Reached.{Reached}
 
--- a word that names a sequence names one below n
-abbrev pub NamesWithin : ℕ → List ℕ → Type 0
-NamesWithin n part = (i : ℕ) → i < length part → kind (get_or part i 0) ≡ 9 → payload (get_or part i 0) < n
-
--- the first words of the queue, so many of them, name what is in the set, each number below n once
-pub record Queued (n : ℕ) (found queue : List ℕ) (count : ℕ) : Type 0 where
-  pub few : n ≤ most_sequences
-  pub four : length found ≡ set_words
-  pub room : n ≤ length queue
-  pub low : (d : ℕ) → in_set found d ≡ true → d < n
-  pub members : (j : ℕ) → j < count → in_set found (get_or queue j 0) ≡ true
-  pub queued : (d : ℕ) → in_set found d ≡ true → (j : ℕ) × (j < count) × (get_or queue j 0 ≡ d)
-  pub size : count ≡ length (passing (in_set found) n)
+-- sequence c is found, and no other
+pub record Alone (runs : List ℕ) (n c : ℕ) (found : Reached) : Type 0 where
+  pub runs_same : found.runs.now ≡ runs
+  pub bound : found.n ≡ n
+  pub one : found.count ≡ 1
+  pub first : get_or found.queue 0 0 ≡ c
+  pub asked : (e : ℕ) → in_set found.set e ≡ eqb e c
 
 -- those that a test names and that are not among `runs` are found too, and no other; what stood in the queue stays
-pub record Noted (runs : List ℕ) (names : ℕ → Bool) (n : ℕ) (found₀ queue₀ : List ℕ) (count₀ : ℕ) (found queue : List ℕ) (count : ℕ) : Type 0 where
-  pub now_queued : Queued n found queue count
-  pub same : (e : ℕ) → in_set found e ≡ (in_set found₀ e || (names e && not (in_set runs e)))
-  pub kept : (j : ℕ) → j < count₀ → get_or queue j 0 ≡ get_or queue₀ j 0
-  pub more : count₀ ≤ count
-
--- what reaching asks of the areas: a set that is blank, a queue with room, and the places of the sequences below n
-pub record ReachAsked (n : ℕ) (part places runs found queue : List ℕ) : Type 0 where
-  pub few : n ≤ most_sequences
-  pub runs_four : length runs ≡ set_words
-  pub four : length found ≡ set_words
-  pub blank : Zeros found
-  pub room : n ≤ length queue
-  pub placed : n ≤ length places
-  pub within : (c : ℕ) → c < n → get_or places c 0 < length part
-  pub names : NamesWithin n part
-
--- from sequence c on: itself, and what one of these calls that is not among `runs`
-pub data FromAsked (part places runs : List ℕ) (c : ℕ) : ℕ → Type 0 where
-  itself : FromAsked part places runs c c
-  onward : {d e : ℕ} → FromAsked part places runs c d → calls part places d e ≡ true → in_set runs e ≡ false → FromAsked part places runs c e
-
--- the set has these and no other, and so many
-pub record Found (n : ℕ) (part places runs : List ℕ) (c : ℕ) (found : List ℕ) (count : ℕ) : Type 0 where
-  pub four : length found ≡ set_words
-  pub asked : in_set found c ≡ true
-  pub sound : (e : ℕ) → in_set found e ≡ true → FromAsked part places runs c e
-  pub closed : (d e : ℕ) → in_set found d ≡ true → calls part places d e ≡ true → in_set runs e ≡ false → in_set found e ≡ true
-  pub size : count ≡ length (passing (in_set found) n)
-
--- sequence c is written at index k where it is in the set, and r is the index after it
-pub record MemberPut (members : List ℕ) (c : ℕ) (before : List ℕ) (k : ℕ) (after : List ℕ) (r : ℕ) : Type 0 where
-  pub area : after ≡ cond (in_set members c) (set before k c) before
-  pub next : r ≡ k + bool_byte (in_set members c)
+pub record Noted (names : ℕ → Bool) (before after : Reached) : Type 0 where
+  pub runs_same : after.runs.now ≡ before.runs.now
+  pub bound : after.n ≡ before.n
+  pub same : (e : ℕ) → in_set after.set e ≡ (in_set before.set e || (names e && not (in_set before.runs.now e)))
+  pub kept : (j : ℕ) → j < before.count → get_or after.queue j 0 ≡ get_or before.queue j 0
+  pub more : before.count ≤ after.count

@@ -1,0 +1,19 @@
+-- `reach::found::Reached::only` meets its contract.
+-- Assumes nothing.
+use Rattle.std.proofs.Common.{refl}
+use Rattle.reach.proofs.Queue.{queued_one, one_found}
+use Rattle.reach.proofs.found.Reached.only.Goals as goal
+
+pub invariant_of-result : goal.invariant_of-result
+invariant_of-result c =
+    record { four = c.requires.0; queued = rw (c.insert.ensures, c.default-set.ensures) (queued_one c.args.n c.args.c c.requires.1 c.requires.2) }
+
+pub returns : goal.returns
+returns c =
+    record {
+      runs_same = refl;
+      bound = refl;
+      one = refl;
+      first = refl;
+      asked = λ e. rw (c.insert.ensures, c.default-set.ensures) (one_found c.args.n c.args.c c.requires.1 c.requires.2 e);
+    }
