@@ -10,6 +10,7 @@ use mathlib.Core.List.{List, ◌++◌}
 use lib.ListN.{length, drop}
 use lib.Dec.{ltb}
 use borrow.Author.Tests.{lt-ltb, le-ltb, ltb-true, ltb-false}
+use Rattle.std.specs.Prelude.{Result, Ok, Err}
 use Rattle.rules.specs.Checked.{checked}
 use Rattle.library.specs.Library.{Library, library_of}
 use Rattle.image.specs.declared.answer.Head.{Head}
@@ -23,7 +24,6 @@ use Rattle.endings.specs.Endless.{Listed}
 use Rattle.endings.specs.Reached.{endless_list}
 use Rattle.endings.proofs.Listed.{listed_list, listed_is, list_short}
 use Rattle.endless.specs.Answer.{endless_answer, after_check, area_after}
-use Rattle.endless.specs.declared.answer.Explained.{Explained}
 use Rattle.dulimoven.specs.Returned.{Returned, returned, turned_down}
 use Rattle.dulimoven.specs.EndlessCall.{Asked, EndlessRefused, by_image, by_sequence, by_run, by_area, EndlessReturn, refused, listed}
 use Rattle.dulimoven.specs.Demands.{Refuses}
@@ -51,7 +51,7 @@ module _ (image : List ℕ) (c : ℕ) (area : List ℕ) where
   list = endless_list L c
 
   -- what the call gives back for what it finds, after a check, and after the tests of an accepted image
-  abbrev given : Explained → Returned
+  abbrev given : Result ℕ Refusal → Returned
   given x = returned (endless_answer x) (area_after x L c area)
 
   abbrev endless_by : Checked → Returned
@@ -60,8 +60,8 @@ module _ (image : List ℕ) (c : ℕ) (area : List ℕ) where
   abbrev endless_if : Bool → Bool → Bool → Returned
   endless_if low run short =
       given
-      (cond low (cond run (Explained.Refused refusal.HasRun) (cond short (Explained.Refused refusal.ListArea) (Explained.Listed (record { count = length list }))))
-      (Explained.Refused refusal.Sequence))
+      (cond low (cond run (Err refusal.HasRun) (cond short (Err refusal.ListArea) (Ok (length list))))
+      (Err refusal.Sequence))
 
   abbrev short : Bool
   short = ltb (length area) (length list)

@@ -8,7 +8,6 @@ use mathlib.Core.List.{List, ◌++◌}
 use lib.Dec.{ltb}
 use lib.ListN.{length, drop}
 use borrow.Author.Tests.{lt-ltb, le-ltb}
-use Rattle.general.specs.Numbers.{Zeros}
 use Rattle.general.specs.Scan.{passing}
 use Rattle.general.specs.Tests.{All}
 use Rattle.general.proofs.Rising.{passing_same}
@@ -16,6 +15,7 @@ use Rattle.image.specs.declared.answer.Head.{Head}
 use Rattle.image.specs.declared.answer.Refusal.{Refusal}
 use Rattle.image.specs.declared.answer.Refusal.TheVariants.{Sequence, HasRun, ListArea}
 use Rattle.image.specs.declared.answer.Checked.{Checked}
+use Rattle.std.specs.Prelude.{Result, Ok, Err}
 use Rattle.rules.specs.Checked.{Accepts, checked}
 use Rattle.library.specs.Library.{Library, Alternative, library_of, sequences_part}
 use Rattle.library.specs.Accepted.{SequenceWord}
@@ -33,11 +33,10 @@ use Rattle.endings.specs.Reached.{reaches, endless_list}
 use Rattle.endings.proofs.Names.{names_iff, accepted_names}
 use Rattle.endings.proofs.Support.{reached_endless}
 use Rattle.endings.proofs.Reached.{table_reaches}
-use Rattle.reach.specs.Found as found
-use Rattle.reach.specs.Found.{ReachAsked, FromAsked, Found}
+use Rattle.reach.specs.Queue as found
+use Rattle.reach.specs.Queue.{ReachAsked, FromAsked, Found}
 use Rattle.endless.specs.Marked.{Marked}
 use Rattle.endless.specs.Answer.{explained, area_after, after_check, Explains, EndlessCalled}
-use Rattle.endless.specs.declared.answer.Explained.{Explained}
 
 -- ---- an accepted image
 
@@ -52,15 +51,11 @@ module _ {h : Head} {image places runs : List ℕ} (accepted : Accepts image h) 
   placed : places ≡ places_from 0 part ++ rest
   placed = marked.written.placed ∙ ap (λ (x : List ℕ). places_from 0 x ++ rest) (sym sequences)
 
-  pub reach_asked : {found queue : List ℕ} → length found ≡ 4 → Zeros found → h.sequences ≤ length queue
-      → ReachAsked h.sequences part places runs found queue
-  reach_asked four blank room =
+  pub reach_asked : ReachAsked h.sequences part places runs
+  reach_asked =
       record {
         few = few_sequences image h accepted;
         runs_four = marked.four;
-        four = four;
-        blank = blank;
-        room = room;
         placed = marked.room;
         within = λ c l. (place_in image h accepted sequences rest placed c l).within;
         names = λ i l.
@@ -103,32 +98,36 @@ module _ {h : Head} {image places runs : List ℕ} (accepted : Accepts image h) 
         passing_same (in_set set) (reaches L c) h.sequences (λ e l. found_reaches all e)
         ∙ ap (passing (reaches L c)) (sym (counted image h accepted).sequences)
 
+  pub reached_listed : {c : ℕ} → c < h.sequences → has_run L c ≡ false → {set : List ℕ} {count : ℕ} → Found h.sequences part places runs c set count
+      → passing (in_set set) h.sequences ≡ endless_list L c
+  reached_listed {c} low none = found_listed (record { sequence = omega (arith, (counted image h accepted).sequences); none = (no_run_iff L c).0 none })
+
 -- ---- the answer
 
 module _ (L : Library) (c : ℕ) (area : List ℕ) where
-  abbrev told : Bool → Bool → Explained
+  abbrev told : Bool → Bool → Result ℕ Refusal
   told run short =
-      cond run (Explained.Refused HasRun) (cond short (Explained.Refused ListArea) (Explained.Listed (record { count = length (endless_list L c) })))
+      cond run (Err HasRun) (cond short (Err ListArea) (Ok (length (endless_list L c))))
 
   explains_by : (run short : Bool) → has_run L c ≡ run → ltb (length area) (length (endless_list L c)) ≡ short
       → Explains L c area (told run short) (area_after (told run short) L c area)
   explains_by run short e f =
       record { answer = sym (ap₂ told e f); area = sym (ap₂ (λ (x y : Bool). area_after (told x y) L c area) e f) }
 
-  pub explains_run : has_run L c ≡ true → Explains L c area (Explained.Refused HasRun) area
+  pub explains_run : has_run L c ≡ true → Explains L c area (Err HasRun) area
   explains_run e = explains_by true (ltb (length area) (length (endless_list L c))) e refl
 
-  pub explains_short : has_run L c ≡ false → length area < length (endless_list L c) → Explains L c area (Explained.Refused ListArea) area
+  pub explains_short : has_run L c ≡ false → length area < length (endless_list L c) → Explains L c area (Err ListArea) area
   explains_short e short = explains_by false true e (lt-ltb (length area) (length (endless_list L c)) short)
 
   pub explains_list : has_run L c ≡ false → length (endless_list L c) ≤ length area → (xs : List ℕ) → xs ≡ endless_list L c
-      → Explains L c area (Explained.Listed (record { count = length xs })) (xs ++ drop (length xs) area)
+      → Explains L c area (Ok (length xs)) (xs ++ drop (length xs) area)
   explains_list e room xs is =
-      subst (λ (ys : List ℕ). Explains L c area (Explained.Listed (record { count = length ys })) (ys ++ drop (length ys) area)) (sym is)
+      subst (λ (ys : List ℕ). Explains L c area (Ok (length ys)) (ys ++ drop (length ys) area)) (sym is)
       (explains_by false false e (le-ltb (length area) (length (endless_list L c)) room))
 
 module _ (image : List ℕ) (c : ℕ) (area : List ℕ) where
-  called_by : (k : Checked) → checked image ≡ k → (found : Explained) (after : List ℕ) → found ≡ after_check k image c (length area)
+  called_by : (k : Checked) → checked image ≡ k → (found : Result ℕ Refusal) (after : List ℕ) → found ≡ after_check k image c (length area)
       → after ≡ area_after (after_check k image c (length area)) (library_of image) c area → EndlessCalled image c area found after
   called_by k e found after answer words =
       record {
@@ -136,20 +135,20 @@ module _ (image : List ℕ) (c : ℕ) (area : List ℕ) where
         area = words ∙ ap (λ (x : Checked). area_after (after_check x image c (length area)) (library_of image) c area) (sym e);
       }
 
-  pub called_refused : (r : Refusal) → checked image ≡ Checked.Refused r → EndlessCalled image c area (Explained.Refused r) area
-  called_refused r e = called_by (Checked.Refused r) e (Explained.Refused r) area refl refl
+  pub called_refused : (r : Refusal) → checked image ≡ Checked.Refused r → EndlessCalled image c area (Err r) area
+  called_refused r e = called_by (Checked.Refused r) e (Err r) area refl refl
 
   module _ (h : Head) (e : checked image ≡ Checked.Accepted h) where
-    abbrev within : Bool → Explained
-    within b = cond b (explained (library_of image) c (length area)) (Explained.Refused Sequence)
+    abbrev within : Bool → Result ℕ Refusal
+    within b = cond b (explained (library_of image) c (length area)) (Err Sequence)
 
-    called_accepted : (b : Bool) → ltb c h.sequences ≡ b → (found : Explained) (after : List ℕ) → found ≡ within b
+    called_accepted : (b : Bool) → ltb c h.sequences ≡ b → (found : Result ℕ Refusal) (after : List ℕ) → found ≡ within b
         → after ≡ area_after (within b) (library_of image) c area → EndlessCalled image c area found after
     called_accepted b low found after answer words =
         called_by (Checked.Accepted h) e found after (answer ∙ ap within (sym low)) (words ∙ ap (λ (x : Bool). area_after (within x) (library_of image) c area) (sym low))
 
-    pub called_past : h.sequences ≤ c → EndlessCalled image c area (Explained.Refused Sequence) area
-    called_past past = called_accepted false (le-ltb c h.sequences past) (Explained.Refused Sequence) area refl refl
+    pub called_past : h.sequences ≤ c → EndlessCalled image c area (Err Sequence) area
+    called_past past = called_accepted false (le-ltb c h.sequences past) (Err Sequence) area refl refl
 
-    pub called_within : c < h.sequences → (found : Explained) (after : List ℕ) → Explains (library_of image) c area found after → EndlessCalled image c area found after
+    pub called_within : c < h.sequences → (found : Result ℕ Refusal) (after : List ℕ) → Explains (library_of image) c area found after → EndlessCalled image c area found after
     called_within low found after told = called_accepted true (lt-ltb c h.sequences low) found after told.answer told.area

@@ -1,83 +1,71 @@
 // The endless call: refusals 1 to 7, 9, 16 and 17, or the list of the sequences without a run that one reaches.
 ghost use Rattle.std.specs.Prelude.{◌<◌, ◌≡◌, false, length};
-ghost use Rattle.rules.specs.Checked.{Accepts};
 ghost use Rattle.library.specs.Library.{library_of};
 ghost use Rattle.runs.specs.Possible.{has_run};
 ghost use Rattle.endless.specs.Answer.{EndlessCalled, Explains};
 ghost use Rattle.endless.specs.Marked.{Marked};
 
-use crate::answer::{Explained, Members};
 use callers::sets::{SET_WORDS, contains};
-use image::answer::{Checked, Head, Refusal};
-use library::parts::sequences_part;
+use image::answer::{Checked, Refusal};
+use library::checked::Accepted;
 use reach::found::reach;
 use reach::members::write_members;
 use reader::check::check;
 use running::write::write_running;
 use tables::size::MOST_PLACES;
 
-// Lists what sequence `c` reaches, which has no run, where the area has room for it.
+// Lists what sequence `c` reaches, which has no run, where the area has room for it. Answers how many are listed.
 fn list_reached(
-    h: Head,
-    image: &[u32],
+    accepted: &Accepted,
     places: &[u32],
     runs: &[u64],
     c: usize,
     area: &mut [u32],
-) -> Explained
-    requires { Accepts image.now h × Marked h image.now places.now runs.now × (c < h.sequences) × (has_run (library_of image.now) c ≡ false) }
-    ensures { Explains (library_of image.now) c area.old result area.new }
+) -> Result<usize, Refusal>
+    requires { Marked accepted.now.head accepted.now.image.now places.now runs.now × (c < accepted.now.head.sequences)
+        × (has_run (library_of accepted.now.image.now) c ≡ false) }
+    ensures { Explains (library_of accepted.now.image.now) c area.old result area.new }
 {
-    let mut found = [0u64; SET_WORDS];
-    let mut queue = [0usize; MOST_PLACES];
-    let n = h.sequences as usize;
-    let count = reach(
-        sequences_part(image),
-        places,
-        runs,
-        &mut found,
-        &mut queue,
-        n,
-        c,
-    );
-    if area.len() < count {
-        return Explained::Refused(Refusal::ListArea);
+    let n = accepted.head.sequences as usize;
+    let reached = reach(accepted.sequences_part(), places, runs, n, c);
+    if area.len() < reached.count {
+        return Err(Refusal::ListArea);
     }
-    write_members(&found, n, area);
-    Explained::Listed(Members { count: count })
+    write_members(&reached.set, n, area);
+    Ok(reached.count)
 }
 
 // Explains why sequence `c` of an accepted image has no run, if it has none.
-fn explain(h: Head, image: &[u32], c: usize, area: &mut [u32]) -> Explained
-    requires { Accepts image.now h × (c < h.sequences) }
-    ensures { Explains (library_of image.now) c area.old result area.new }
+fn explain(accepted: &Accepted, c: usize, area: &mut [u32]) -> Result<usize, Refusal>
+    requires { c < accepted.now.head.sequences }
+    ensures { Explains (library_of accepted.now.image.now) c area.old result area.new }
 {
     let mut places = [0u32; MOST_PLACES];
     let mut runs = [0u64; SET_WORDS];
-    write_running(h, image, &mut places, &mut runs);
+    write_running(accepted, &mut places, &mut runs);
     if contains(&runs, c) {
-        return Explained::Refused(Refusal::HasRun);
+        return Err(Refusal::HasRun);
     }
-    list_reached(h, image, &places, &runs, c, area)
-}
-
-// The endless call: what it answers, and the words of the area after it, for every image, every number and every area.
-pub fn endless(image: &[u32], sequence: u64, area: &mut [u32]) -> Explained
-    ensures { EndlessCalled image.now sequence area.old result area.new }
-{
-    match check(image) {
-        Checked::Refused(r) => Explained::Refused(r),
-        Checked::Accepted(h) => ask(h, image, sequence, area),
-    }
+    list_reached(accepted, &places, &runs, c, area)
 }
 
 // Asks an accepted image: the sequence is tested first.
-fn ask(h: Head, image: &[u32], sequence: u64, area: &mut [u32]) -> Explained
-    requires { Accepts image.now h }
+fn ask(accepted: &Accepted, sequence: u64, area: &mut [u32]) -> Result<usize, Refusal>
+    ensures { EndlessCalled accepted.now.image.now sequence area.old result area.new }
+{
+    if accepted.head.sequences as u64 <= sequence {
+        return Err(Refusal::Sequence);
+    }
+    explain(accepted, sequence as usize, area)
+}
+
+// The endless call: how many sequences it lists, or the first refusal that applies, and the words of the area after it, for every image, every
+// number and every area.
+pub fn endless(image: &[u32], sequence: u64, area: &mut [u32]) -> Result<usize, Refusal>
     ensures { EndlessCalled image.now sequence area.old result area.new }
 {
-    if h.sequences as u64 <= sequence {
-        return Explained::Refused(Refusal::Sequence);
+    match check(image) {
+        Checked::Refused(r) => Err(r),
+        Checked::Accepted(head) => ask(&Accepted { image, head }, sequence, area),
     }
-    explain(h, image, sequence as usize, area)
 }

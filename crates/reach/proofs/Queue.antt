@@ -1,6 +1,6 @@
 -- What is found, as a set and a queue of its members: one more, and the sequences that a loop over a sequence's words finds.
 -- Assumes nothing.
-use Prim.Native.Nat.{ℕ, ◌+◌, ◌-◌, ◌/◌, ◌≤◌, ◌<◌}
+use Prim.Native.Nat.{ℕ, ◌+◌, ◌/◌, ◌≤◌, ◌<◌}
 use native.Mathlib.Omega.{arith}
 use native.Mathlib.Decide.{ℕ_discrete}
 use mathlib.Core.Path.{◌≡◌, refl, sym, ap, ap₂, ◌∙◌}
@@ -8,8 +8,7 @@ use mathlib.Core.Bool.{Bool, true, false, not, ◌&&◌, ◌||◌, false≢true}
 use mathlib.Core.Logic.{⊎_elim}
 use mathlib.Core.List.{List}
 use lib.Dec.{eqb}
-use lib.ListN.{length, get_or, set, take, drop, length-set}
-use Rattle.std.proofs.lemmas.List.{take_all, length-drop, get_or-drop}
+use lib.ListN.{length, get_or, set, drop, length-set}
 use lib.Seq.{get_or-set_same, get_or-set_other}
 use borrow.Author.Tests.{eqb-true, eqb-false, eq-eqb, ne_eqb}
 use Rattle.general.specs.Numbers.{Zeros}
@@ -18,13 +17,11 @@ use Rattle.std.proofs.Common.{replicate}
 use Rattle.general.proofs.Bools.{or_cases, nor_left, nor_right}
 use Rattle.general.proofs.Scan.{count_passing, count_all, count_none, count_one}
 use Rattle.general.proofs.Rising.{passing_length, passing_short}
-use Rattle.image.specs.Word.{payload, is_kind}
 use Rattle.library.specs.Calls.{calls_of}
 use Rattle.library.specs.Library.{alternatives_from}
-use Rattle.walk.specs.Walk.{entries_end}
+use Rattle.callers.specs.Callees.{calls_left, Called}
 use Rattle.callers.specs.Callers.{in_set, with_member, no_sequences}
 use Rattle.callers.proofs.CallerSets.{member_same, member_other, member_stays, none_member}
-use Rattle.callers.proofs.Calls.{left, left_start, left_call, left_on, left_out, left_past}
 use Rattle.reach.specs.declared.found.Reached.{Reached}
 use Rattle.reach.specs.Queue.{Queued}
 use Rattle.reach.specs.Found.{Noted}
@@ -162,26 +159,22 @@ module _ (before : Reached) (d : ℕ) where
 
 -- ---- the sequences that a sequence's words name
 
--- the words from index `from` on, as a part of their own
-pub word_at : (part : List ℕ) (from k : ℕ) → get_or (take (length part - from) (drop from part)) k 0 ≡ get_or part (from + k) 0
-word_at part from k =
-    ap (λ (ws : List ℕ). get_or ws k 0) (take_all (length part - from) (drop from part) (omega (arith, length-drop from part))) ∙ get_or-drop from part k 0
-
 -- what holds at the head of the loop over its words: what is found so far, with the calls that are left, is all
 pub record Noting (part : List ℕ) (at : ℕ) (before here : Reached) (i : ℕ) : Type 0 where
   pub runs_same : here.runs.now ≡ before.runs.now
   pub bound : here.n ≡ before.n
-  pub same : (e : ℕ) → (in_set here.set e || (left part i e && not (in_set before.runs.now e)))
+  pub same : (e : ℕ) → (in_set here.set e || (calls_left part i e && not (in_set before.runs.now e)))
       ≡ (in_set before.set e || (calls_of (alternatives_from (drop at part)) e && not (in_set before.runs.now e)))
   pub kept : (j : ℕ) → j < before.count → get_or here.queue j 0 ≡ get_or before.queue j 0
   pub more : before.count ≤ here.count
 
-pub noting_start : (part : List ℕ) (at : ℕ) (before : Reached) (i : ℕ) → i ≡ entries_end part at → Noting part at before before i
-noting_start part at before i e =
+pub noting_start : (part : List ℕ) (at : ℕ) (before : Reached) (i : ℕ)
+    → ((d : ℕ) → calls_left part i d ≡ calls_of (alternatives_from (drop at part)) d) → Noting part at before before i
+noting_start part at before i all =
     record {
       runs_same = refl;
       bound = refl;
-      same = λ c. ap (λ (x : Bool). in_set before.set c || (x && not (in_set before.runs.now c))) (left_start part at i c e);
+      same = λ e. ap (λ (x : Bool). in_set before.set e || (x && not (in_set before.runs.now e))) (all e);
       kept = λ j l. refl;
       more = omega arith;
     }
@@ -195,36 +188,24 @@ shift false false r z = refl
 
 module _ {part : List ℕ} {at : ℕ} {before now : Reached} {i : ℕ} (here : Noting part at before now i) where
   -- a call
-  pub noting_call : (after : Reached) → is_kind 9 (get_or part i 0) ≡ true → Noted (λ e. eqb (payload (get_or part i 0)) e) now after
-      → Noting part at before after (i + 1)
-  noting_call after nine noted =
+  pub noting_call : (after : Reached) {next p : ℕ} → Called part i next p → Noted (λ e. eqb p e) now after → Noting part at before after next
+  noting_call after {next} {p} call noted =
       record {
         runs_same = noted.runs_same ∙ here.runs_same;
         bound = noted.bound ∙ here.bound;
         same = λ e.
             let run : in_set now.runs.now e ≡ in_set before.runs.now e = ap (λ (r : List ℕ). in_set r e) here.runs_same in
-            ap (λ (x : Bool). x || (left part (i + 1) e && not (in_set before.runs.now e)))
-            (noted.same e ∙ ap (λ (x : Bool). in_set now.set e || (eqb (payload (get_or part i 0)) e && not x)) run)
-            ∙ shift (in_set now.set e) (eqb (payload (get_or part i 0)) e) (left part (i + 1) e) (not (in_set before.runs.now e))
-            ∙ ap (λ (x : Bool). in_set now.set e || (x && not (in_set before.runs.now e))) (sym (left_call part i e nine))
+            ap (λ (x : Bool). x || (calls_left part next e && not (in_set before.runs.now e)))
+            (noted.same e ∙ ap (λ (x : Bool). in_set now.set e || (eqb p e && not x)) run)
+            ∙ shift (in_set now.set e) (eqb p e) (calls_left part next e) (not (in_set before.runs.now e))
+            ∙ ap (λ (x : Bool). in_set now.set e || (x && not (in_set before.runs.now e))) (sym (call.left e))
             ∙ here.same e;
         kept = λ j l. noted.kept j (omega (arith, here.more)) ∙ here.kept j l;
         more = omega (arith, here.more, noted.more);
       }
 
-  -- the opener of an alternative, or an item
-  pub noting_on : is_kind 7 (get_or part i 0) || is_kind 8 (get_or part i 0) || is_kind 13 (get_or part i 0) ≡ true → Noting part at before now (i + 1)
-  noting_on inside =
-      record {
-        runs_same = here.runs_same;
-        bound = here.bound;
-        same = λ e. ap (λ (x : Bool). in_set now.set e || (x && not (in_set before.runs.now e))) (left_on part i e inside) ∙ here.same e;
-        kept = here.kept;
-        more = here.more;
-      }
-
   -- no call is left
-  noting_done : ((e : ℕ) → left part i e ≡ false) → Noted (calls_of (alternatives_from (drop at part))) before now
+  pub noting_done : ((e : ℕ) → calls_left part i e ≡ false) → Noted (calls_of (alternatives_from (drop at part))) before now
   noting_done none =
       record {
         runs_same = here.runs_same;
@@ -233,10 +214,3 @@ module _ {part : List ℕ} {at : ℕ} {before now : Reached} {i : ℕ} (here : N
         kept = here.kept;
         more = here.more;
       }
-
-  pub noting_out : is_kind 9 (get_or part i 0) ≡ false → is_kind 7 (get_or part i 0) || is_kind 8 (get_or part i 0) || is_kind 13 (get_or part i 0) ≡ false
-      → Noted (calls_of (alternatives_from (drop at part))) before now
-  noting_out nine outside = noting_done (λ e. left_out part i e nine outside)
-
-  pub noting_end : length part ≤ i → Noted (calls_of (alternatives_from (drop at part))) before now
-  noting_end past = noting_done (λ e. left_past part i e past)

@@ -1,6 +1,6 @@
 -- What is found from a sequence on: the loop over the queue, and that what is found is what the sequence reaches.
 -- Assumes nothing.
-use Prim.Native.Nat.{ℕ, ◌+◌, ◌/◌, ◌≤◌, ◌<◌}
+use Prim.Native.Nat.{ℕ, ◌+◌, ◌≤◌, ◌<◌}
 use native.Mathlib.Omega.{arith}
 use native.Mathlib.Decide.{ℕ_discrete}
 use mathlib.Core.Path.{◌≡◌, refl, sym, ap, ap₂, ◌∙◌, subst}
@@ -12,8 +12,7 @@ use borrow.Author.Tests.{not-true, eq-eqb, eqb-true}
 use Rattle.general.proofs.Bools.{and_parts, or_left, or_right, or_cases}
 use Rattle.walk.specs.Walk.{alternatives_at}
 use Rattle.library.specs.Calls.{calls_of}
-use Rattle.callers.specs.Callers.{in_set, with_member, calls}
-use Rattle.callers.proofs.CallerSets.{member_same, member_other, none_member}
+use Rattle.callers.specs.Callers.{in_set, calls}
 use Rattle.general.specs.Scan.{passing}
 use Rattle.reach.specs.declared.found.Reached.{Reached}
 use Rattle.reach.specs.Queue.{FromAsked, itself, onward, Found}

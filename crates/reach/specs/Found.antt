@@ -1,5 +1,5 @@
 -- What is found, as the struct that holds it: the asked one alone, and what is found after it.
-use Rattle.std.specs.Prelude.{ℕ, ◌≤◌, ◌<◌, ◌≡◌, Bool, true, not, ◌&&◌, ◌||◌, List, [], ◌∷◌, eqb, get_or}
+use Rattle.std.specs.Prelude.{ℕ, ◌≤◌, ◌<◌, ◌≡◌, Bool, not, ◌&&◌, ◌||◌, List, eqb, get_or}
 use Rattle.callers.specs.Callers.{in_set}
 use Rattle.reach.specs.declared.found.Reached.{Reached}
 

@@ -7,15 +7,15 @@ ghost use Rattle.library.specs.Library.{alternatives_from};
 ghost use Rattle.callers.specs.Callers.{set_words};
 ghost use Rattle.reach.specs.Queue.{NamesWithin, ReachAsked, Queued, Found};
 
+use callers::callees::Callees;
 use callers::sets::{Set, contains};
-use callers::write::goes_on;
-use image::word::{KIND_SEQUENCE_ENTRY, MOST_SEQUENCES, is_kind, payload_of};
-use walk::sequence::entries_end;
+use image::word::MOST_SEQUENCES;
 
 // The most sequences that are found.
 const MOST_FOUND: usize = MOST_SEQUENCES as usize;
 
 // What is found, of the sequences below `n` that are not among `runs`: a set, and its members in the order in which they were found.
+#[derive(Drop)]
 pub struct Reached<'a> {
     pub runs: &'a [u64],
     pub n: usize,
@@ -63,25 +63,15 @@ impl<'a> Reached<'a> {
         requires { NamesWithin self.old.n part.now × (at ≤ length part.now) }
         ensures { Noted (calls_of (alternatives_from (drop at part.now))) self.old self.new }
     {
-        let from = entries_end(part, at);
-        for w in &part[from..] {
-            if is_kind(KIND_SEQUENCE_ENTRY, *w) {
-                self.note(payload_of(*w) as usize);
-            } else if !goes_on(*w) {
-                break;
-            }
+        let mut callees = Callees::of(part, at);
+        while let Some(d) = callees.next() {
+            self.note(d as usize);
         }
     }
 }
 
 // Finds what sequence `c` reaches, which has no run.
-pub fn reach<'a>(
-    part: &[u32],
-    places: &[u32],
-    runs: &'a [u64],
-    n: usize,
-    c: usize,
-) -> Reached<'a>
+pub fn reach<'a>(part: &[u32], places: &[u32], runs: &'a [u64], n: usize, c: usize) -> Reached<'a>
     requires { ReachAsked n part.now places.now runs.now × (c < n) }
     ensures { Found n part.now places.now runs.now c result.set result.count }
 {

@@ -3,6 +3,7 @@
 use Rattle.std.proofs.Common.{◌≡◌, ℕ, ◌≤◌, List, ◌++◌, length, drop, sym, ap, ◌∙◌, subst, arith}
 use Rattle.general.specs.Tests.{All}
 use Rattle.image.specs.declared.answer.Head.{Head}
+use Rattle.rules.specs.Checked.{Accepts}
 use Rattle.library.specs.Library.{sequences_part, library_of}
 use Rattle.library.specs.Accepted.{SequenceWord}
 use Rattle.library.specs.Tables.{places_from}
@@ -14,10 +15,10 @@ use Rattle.running.specs.Visited.{RunsVisitable, visited}
 use Rattle.running.specs.Written.{RunningAsked, RunningWritten}
 use Rattle.running.proofs.Exact.{Given, settled_exact}
 
-module _ {h : Head} {image places₀ runs₀ : List ℕ} (asked : RunningAsked h image places₀ runs₀) {part : List ℕ} (sequences : part ≡ sequences_part image) {places : List ℕ}
+module _ {h : Head} (image : List ℕ) {places₀ runs₀ : List ℕ} (accepted : Accepts image h) (asked : RunningAsked h places₀ runs₀) {part : List ℕ} (sequences : part ≡ sequences_part image) {places : List ℕ}
     (placed : places ≡ places_from 0 part ++ drop h.sequences places₀) where
   few : h.sequences ≤ 256
-  few = few_sequences image h asked.accepted
+  few = few_sequences image h accepted
 
   pub visits_asked : length places ≡ length places₀ → RunsVisitable h.sequences part places runs₀
   visits_asked long =
@@ -26,20 +27,20 @@ module _ {h : Head} {image places₀ runs₀ : List ℕ} (asked : RunningAsked h
             record {
               four = asked.four;
               words = λ i l.
-                  let w = all_at (SequenceWord h) part (subst (All (SequenceWord h)) (sym sequences) (parts image h asked.accepted).sequences) 0 i l in
+                  let w = all_at (SequenceWord h) part (subst (All (SequenceWord h)) (sym sequences) (parts image h accepted).sequences) 0 i l in
                   record { high = sequence_entry _ w; sequence = λ k. omega (arith, w.sequence k, few) };
             };
         few = few;
         placed = omega (arith, asked.room);
-        within = λ c l. (place_in image h asked.accepted sequences (drop h.sequences places₀) placed c l).within;
+        within = λ c l. (place_in image h accepted sequences (drop h.sequences places₀) placed c l).within;
       }
 
   image_given : Given (library_of image) h.sequences part places
   image_given =
       record {
         few = few;
-        counted = (counted image h asked.accepted).sequences;
-        reads = reads_in image h asked.accepted sequences (drop h.sequences places₀) placed;
+        counted = (counted image h accepted).sequences;
+        reads = reads_in image h accepted sequences (drop h.sequences places₀) placed;
       }
 
   pub running_written : (runs : List ℕ) → Settles (visited part places) h.sequences runs₀ runs → RunningWritten h image places₀ places runs

@@ -2,15 +2,13 @@
 use Rattle.std.specs.Prelude.{◌≡◌, ℕ, ◌≤◌, List, ◌++◌, length, drop}
 use Rattle.general.specs.Numbers.{Zeros}
 use Rattle.image.specs.declared.answer.Head.{Head}
-use Rattle.rules.specs.Checked.{Accepts}
 use Rattle.library.specs.Library.{library_of, sequences_part}
 use Rattle.library.specs.Tables.{places_from}
 use Rattle.runs.specs.Possible.{has_run}
 use Rattle.callers.specs.Callers.{set_words, in_set}
 
--- what is asked: an accepted image, room for a place of each sequence, and a blank set
-pub record RunningAsked (h : Head) (image places runs : List ℕ) : Type 0 where
-  pub accepted : Accepts image h
+-- what is asked: room for a place of each sequence of an accepted image, and a blank set
+pub record RunningAsked (h : Head) (places runs : List ℕ) : Type 0 where
   pub room : h.sequences ≤ length places
   pub four : length runs ≡ set_words
   pub blank : Zeros runs

@@ -1,6 +1,6 @@
 -- `reach::found::reach` meets its contract: what the first sequences of the queue name is found.
 -- Assumes nothing.
-use Rattle.std.proofs.Common.{arith, ◌<◌}
+use Rattle.std.proofs.Common.{arith}
 use Rattle.reach.proofs.Reaching.{reaching_start, reached_few, reached_low, reaching_turn, reaching_end}
 use Rattle.reach.proofs.found.reach.Goals as goal
 

@@ -1,7 +1,6 @@
 -- `reach::found::Reached::note` meets its contract.
 -- Assumes nothing.
-use Rattle.std.proofs.Common.{◌≡◌, ◌<◌, length, false, ◌||◌, sym, ap₂, ◌∙◌, refl, arith}
-use Rattle.callers.specs.Callers.{in_set}
+use Rattle.std.proofs.Common.{◌||◌, sym, ap₂, ◌∙◌, refl, arith}
 use Rattle.reach.proofs.Queue.{noted_before, new_room, new_queued, noted_new}
 use Rattle.reach.proofs.found.Reached.note.Goals as goal
 
