@@ -1,30 +1,26 @@
 -- What an alternative comes to by the tables, and a rank that its alternatives lower, in the form that the loops ask.
 -- Assumes nothing.
-use Prim.Native.Nat.{ℕ, suc, ◌+◌, ◌≤◌, ◌<◌, min, max}
+use Prim.Native.Nat.{ℕ, suc, ◌+◌, min, max}
 use native.Mathlib.Numerals.{one-add}
 use native.Mathlib.Omega.{arith}
-use mathlib.Core.Path.{◌≡◌, refl, sym, ap, ap₂, ◌∙◌, fun_ext}
+use mathlib.Core.Path.{◌≡◌, refl, sym, ap, ap₂, ◌∙◌}
 use mathlib.Core.Logic.{⊎_elim}
 use mathlib.Core.Bool.{Bool, true, false, cond, not, ◌&&◌, ◌||◌, false≢true}
 use mathlib.Core.List.{List, [], ◌∷◌}
-use lib.ListN.{length, get_or, drop}
+use lib.ListN.{get_or, drop}
 use lib.Dec.{leb, ltb}
 use borrow.Author.Tests.{leb-true, ltb-false, not-true}
 use Rattle.std.specs.Prelude.{Result, Ok, Err}
 use Rattle.image.specs.Word.{is_kind, is_entry}
-use Rattle.library.specs.Library.{Entry, entry_of, Alternative, entries_from, alternatives_from}
+use Rattle.library.specs.Library.{Entry, Alternative, alternatives_from}
 use Rattle.general.specs.Scan.{every}
-use Rattle.walk.specs.Walk.{walk_end}
-use Rattle.walk.proofs.Walking.{folding_inside, folding_out, Leaving, leaving_start, leaving_turn, leaving_dead, leaving_rest, leaving_out, Walking, walking_out}
+use Rattle.walk.proofs.Walking.{Walking, walking_out}
 use Rattle.general.proofs.Bools.{nor_left, nor_right, or_left, or_right, or_cases}
 use Rattle.rank.specs.Walk.{lowered_from, depth_from, fewest_from}
 use Rattle.slot.specs.Slots.{rank_in, pass_in}
-use Rattle.rank.specs.Tables.{depth_in, every_in, fewest_after, fewest_in, look_in, lacks_in, lost_in, AlternativeRanked}
+use Rattle.rank.specs.Tables.{fewest_after, lacks_in, lost_in}
 use Rattle.rank.proofs.Walk.{cond_same, lowered_least}
-use Rattle.question.specs.declared.asked.Asked.{Asked}
-use Rattle.slot.specs.declared.entry.Traits.{Traits}
 use Rattle.rank.specs.declared.read.Positions.{Positions}
-use Rattle.rank.specs.declared.read.Read.{Read}
 
 -- an entry that has a rank is not dead
 pub passing_alive : (none : ℕ) (ranks : List ℕ) (e : Entry) → pass_in none ranks e ≡ true → lacks_in none ranks e ≡ false

@@ -1,13 +1,12 @@
 -- What tables of ranks say of the alternatives of a sequence, for the question that is asked: which entries are dead, what an alternative
 -- comes to, and the ranks after a visit. What they say of an entry stands in crate `slot`. Crate `chain` (proofs/Describes) shows that the
 -- tables of an accepted image say what `Ranks` says of its library.
-use Rattle.std.specs.Prelude.{ℕ, ◌≤◌, ◌<◌, ◌≡◌, Bool, true, cond, not, ◌||◌, List, length, get_or, set, drop, ltb}
-use Rattle.image.specs.Word.{is_entry}
-use Rattle.library.specs.Library.{Alternative, Entry, entry_of, entries_from}
+use Rattle.std.specs.Prelude.{ℕ, ◌≤◌, ◌<◌, ◌≡◌, Bool, cond, not, ◌||◌, List, length, get_or, set, drop, ltb}
+use Rattle.library.specs.Library.{Alternative, Entry, entries_from}
 use Rattle.walk.specs.Walk.{walk_end, alternatives_at}
 use Rattle.settling.specs.Settling.{Settles}
 use Rattle.general.specs.Scan.{every}
-use Rattle.slot.specs.Slots.{rank_in, pass_in, traits_in, RankWithin, ItemsRanked}
+use Rattle.slot.specs.Slots.{rank_in, pass_in, RankWithin, ItemsRanked}
 use Rattle.rank.specs.Walk.{lowered_from, depth_from, fewest_from}
 use Rattle.question.specs.Asked.{by_mark}
 use Rattle.question.specs.declared.asked.Asked.{Asked}

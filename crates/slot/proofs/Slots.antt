@@ -1,24 +1,18 @@
 -- The word of an entry in a table of ranks.
 -- Assumes nothing.
-use Prim.Native.Nat.{ℕ, ◌+◌, ◌*◌, ◌≤◌, ◌<◌}
-use native.Mathlib.Decide.{ℕ_discrete}
+use Prim.Native.Nat.{ℕ, ◌+◌, ◌<◌}
 use native.Mathlib.Omega.{arith}
-use mathlib.Core.Path.{◌≡◌, refl, sym, ap, ap₂, ◌∙◌}
-use mathlib.Core.Logic.{◌≢◌, ⊎_elim}
-use mathlib.Core.Bool.{Bool, true, false, cond, ◌&&◌}
+use mathlib.Core.Path.{◌≡◌, refl, sym, ap, ◌∙◌}
+use mathlib.Core.Logic.{⊎_elim}
+use mathlib.Core.Bool.{Bool, true, false, cond}
 use mathlib.Core.List.{List}
-use lib.ListN.{length, get_or, set, drop, length-set}
-use lib.Seq.{get_or-take, get_or-drop, get_or-set_same, get_or-set_other}
-use borrow.Author.Tests.{eq-eqb, ne_eqb}
+use lib.ListN.{length, get_or, drop}
+use lib.Seq.{get_or-take, get_or-drop}
 use Rattle.image.specs.Word.{most_facts, kind, payload, is_kind, is_entry}
 use Rattle.library.specs.Library.{step, check, Entry, item, call, entry_of}
 use Rattle.library.proofs.Decode.{step_entry, check_entry, call_entry}
 use Rattle.image.proofs.Words.{entry_cases}
-use Rattle.slot.specs.Slots.{entry_number, first_step, slot_of, rank_in, RankWithin, mark_of, step_mark, mark_rank, check_rank, step_rank, Written, ItemsRanked}
-use Rattle.question.specs.Asked.{fact_bit}
-use Rattle.question.specs.declared.asked.Asked.{Asked}
-use Rattle.question.specs.declared.asked.Mark.{Mark}
-use Rattle.question.specs.declared.asked.Mark.TheVariants.{Present, Untouched}
+use Rattle.slot.specs.Slots.{entry_number, slot_of, rank_in, RankWithin}
 use Rattle.general.proofs.Scan.{get_d_inside}
 
 -- ---- the word of an entry

@@ -1,6 +1,6 @@
 -- `slot::entry::write_step_ranks` meets its contract: the ranks of the steps so far are written.
 -- Assumes nothing.
-use Rattle.std.proofs.Common.{◌≡◌, ℕ, ◌<◌, length, slice_index_or}
+use Rattle.std.proofs.Common.{◌≡◌, ℕ, ◌<◌, slice_index_or}
 use Rattle.slot.specs.Slots.{step_rank}
 use Rattle.slot.proofs.entry.write_step_ranks.Given as goal
 

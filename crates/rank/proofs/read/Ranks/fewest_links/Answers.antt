@@ -1,7 +1,7 @@
 -- `rank::read::Ranks::fewest_links` meets its contract: by the walk up to an entry that the one table has no rank for, and the other walk from there.
 -- Assumes nothing.
 use native.Mathlib.Omega.{arith}
-use Rattle.std.proofs.Common.{rules, refl, sym, ◌∙◌, ◌<◌, length}
+use Rattle.std.proofs.Common.{rules, sym, ◌∙◌, ◌<◌, length}
 use Rattle.walk.proofs.Walking.{entry_inside}
 use Rattle.rank.specs.Tables.{fewest_after, lost_in}
 use Rattle.rank.proofs.Walked.{Ended, walk_read}

@@ -1,6 +1,6 @@
 -- `rank::read::Ranks::links_from` meets its contract: an entry that no table has a rank for leaves the walk.
 -- Assumes nothing.
-use Rattle.std.proofs.Common.{rules, refl, sym, subst}
+use Rattle.std.proofs.Common.{rules, refl, sym}
 use Rattle.rank.specs.Tables.{fewest_after, lost_in, AlternativeRanked}
 use Rattle.rank.proofs.Walked.{walk_ranked}
 use Rattle.rank.proofs.Looks.{found, with_entry, found_alive, links_goes, links_dies, links_out, best_or}
