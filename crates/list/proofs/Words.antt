@@ -1,9 +1,11 @@
 -- The fold on whole words of a block, bit by bit: each bit of the row that comes out is what the rules say of the members' bits.
 -- Assumes nothing.
-use Prim.Native.Nat.{ℕ, zero, suc, ◌+◌, ◌*◌, ◌/◌, ◌%◌, ◌≤◌, ◌<◌}
+use Prim.Native.Nat.{ℕ, zero, suc, ◌+◌, ◌-◌, ◌*◌, ◌/◌, ◌%◌, ◌≤◌, ◌<◌}
 use native.Mathlib.Omega.{arith}
 use mathlib.Core.Path.{◌≡◌, refl, sym, ap, ap₂, ◌∙◌, fun_ext, subst}
+use mathlib.Core.Logic.{⊎_elim}
 use mathlib.Core.Bool.{Bool}
+use Rattle.std.proofs.lemmas.Bool.{cases_lt}
 use mathlib.Core.List.{List, [], ◌∷◌}
 use lib.Dec.{eqb}
 use mir.Val.{bool_byte}
@@ -28,20 +30,9 @@ same_rows : (X Y : rows.Row) → ((j : ℕ) → j < row_words → X j ≡ Y j)
     → ((j : ℕ)
     → X (suc (suc (suc (suc (suc (suc (suc (suc (suc (suc j)))))))))) ≡ Y (suc (suc (suc (suc (suc (suc (suc (suc (suc (suc j)))))))))))
     → X ≡ Y
-same_rows X Y low high = fun_ext go
-  where
-    go : (j : ℕ) → X j ≡ Y j
-    go zero = low 0 (omega arith)
-    go (suc zero) = low 1 (omega arith)
-    go (suc (suc zero)) = low 2 (omega arith)
-    go (suc (suc (suc zero))) = low 3 (omega arith)
-    go (suc (suc (suc (suc zero)))) = low 4 (omega arith)
-    go (suc (suc (suc (suc (suc zero))))) = low 5 (omega arith)
-    go (suc (suc (suc (suc (suc (suc zero)))))) = low 6 (omega arith)
-    go (suc (suc (suc (suc (suc (suc (suc zero))))))) = low 7 (omega arith)
-    go (suc (suc (suc (suc (suc (suc (suc (suc zero)))))))) = low 8 (omega arith)
-    go (suc (suc (suc (suc (suc (suc (suc (suc (suc zero))))))))) = low 9 (omega arith)
-    go (suc (suc (suc (suc (suc (suc (suc (suc (suc (suc j)))))))))) = high j
+same_rows X Y low high =
+    fun_ext
+    (λ j. ⊎_elim (low j) (λ past. subst (λ (k : ℕ). X k ≡ Y k) (omega arith) (high (j - row_words))) (cases_lt j row_words))
 
 -- no entry
 start_row_lem : (f : ℕ) → f < 64 → bit_row (start_row all_bits) f ≡ rows.start_row

@@ -3,7 +3,7 @@
 -- It has: `Written`, that the blocks below k are written, with `written_none`, `written_laid`; `block_written`, `all_written`.
 -- Assumes nothing.
 use Rattle.std.proofs.Common.{◌≡◌, ℕ, suc, ◌+◌, ◌*◌, ◌/◌, ◌^◌, ◌<◌, ◌≤◌, min, Bool, ◌||◌, List, [], ◌∷◌, ◌++◌, map, length, set, replicate, sym, refl, ap, ◌∙◌, append_assoc, arith, length-append}
-use lib.Seq.{set-append_left}
+use Rattle.std.proofs.lemmas.List.{set-append_left, set-append_right}
 use Rattle.column.specs.Column.{column}
 use Rattle.column.specs.Sets.{count_below}
 use Rattle.column.specs.Words.{words, block, facts_in}
@@ -48,12 +48,6 @@ changes_of says f = says may_set f || says may_clear f
 
 -- ---- the words of the columns
 
-set_after : (xs ys : List ℕ) (k y : ℕ) → set (xs ++ ys) (length xs + k) y ≡ xs ++ set ys k y
-set_after [] ys k y = ap (λ (i : ℕ). set ys i y) (omega arith)
-set_after (x ∷ xs) ys k y =
-    let more : suc (length xs) + k ≡ suc (length xs + k) = omega arith in
-    ap (λ (i : ℕ). set (x ∷ xs ++ ys) i y) more ∙ ap (λ (r : List ℕ). x ∷ r) (set_after xs ys k y)
-
 module _ (n k : ℕ) (low : k < column_words) where
   -- block k written into columns that stand after other words
   columns_written : (before : List ℕ) (at : ℕ) → at ≡ length before + k → (ps : List Test)
@@ -67,8 +61,8 @@ module _ (n k : ℕ) (low : k < column_words) where
       let word = column (facts_in n k) (block k p) in
       let rest = columns_laid (columns_below (min n (64 * k)) ps) in
       let here : set (before ++ (old ++ rest)) at word ≡ before ++ new ++ rest =
-      ap (λ (i : ℕ). set (before ++ (old ++ rest)) i word) e
-      ∙ set_after before (old ++ rest) k word
+      set-append_right before (old ++ rest) (length before) at word refl (omega arith)
+      ∙ ap (λ (i : ℕ). before ++ set (old ++ rest) i word) (omega arith)
       ∙ ap (λ (r : List ℕ). before ++ r)
       (set-append_left old rest k word (omega (arith, words_length column_words (column (min n (64 * k)) p)))
       ∙ ap (λ (r : List ℕ). r ++ rest) (set_block column_words n k p low))

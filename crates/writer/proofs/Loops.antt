@@ -1,10 +1,7 @@
 -- The stores of a row's numbers, and the loops of the card writer: over the columns of a card, over the cards of an area, over its words.
 -- Assumes nothing.
-use Rattle.std.proofs.Common.{◌≡◌, ℕ, zero, suc, ◌+◌, ◌*◌, ◌<◌, ◌≤◌, List, [], ◌∷◌, ◌++◌, length, get_or, take, drop, set, replicate, sym, refl, ap, ◌∙◌, ap₂, append_assoc, append-nil, add-zero, add-suc, suc-add, zero-add, add-one, arith, length-append, length-drop, length-set, drop_of_length-le, length-take-le, drop-cons, drop-drop, take_at, drop_at}
-use lib.ListN.{length-replicate}
-use lib.Seq.{set_at, sets-eq}
-use Rattle.cards.specs.Layout.{card_numbers, column_words, card_words}
-use Rattle.row.specs.Words.{row_words}
+use Rattle.std.proofs.Common.{◌≡◌, ℕ, zero, suc, ◌+◌, ◌*◌, ◌<◌, ◌≤◌, List, [], ◌∷◌, ◌++◌, length, get_or, take, drop, set, sym, refl, ap, ◌∙◌, ap₂, append_assoc, append-nil, add-zero, add-suc, suc-add, zero-add, add-one, arith, length-append, length-drop, length-set, drop_of_length-le, length-take-le, drop-cons, drop-drop, take_at, drop_at}
+use Rattle.cards.specs.Layout.{column_words, card_words}
 use Rattle.writer.specs.Card.{row_numbers}
 use Rattle.writer.specs.Block.{columnwise, with_block, row_at, part_at, cards_with}
 

@@ -3,7 +3,6 @@
 use Rattle.std.proofs.Common.{ℕ, ◌+◌, ◌-◌, ◌*◌, List, take, drop, ap, ◌∙◌, arith}
 use Rattle.cards.specs.Layout.{card_words}
 use Rattle.row.specs.Words.{words_of}
-use Rattle.row.specs.declared.words.Row.{Row}
 use Rattle.rows.proofs.Places.{row_read}
 use Rattle.writer.specs.Card.{row_numbers}
 use Rattle.writer.specs.Block.{with_block}
