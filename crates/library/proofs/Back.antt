@@ -1,8 +1,8 @@
 -- A list that is gone through from its end: `left` are the words that are left, the first ones, and in a turn the last of them goes.
 -- Assumes nothing.
-use Rattle.std.proofs.Common.{◌≡◌, ℕ, suc, ◌+◌, ◌<◌, List, [], ◌∷◌, ◌++◌, length, get_or, take, refl, sym, ap, ◌∙◌, arith}
+use Rattle.std.proofs.Common.{◌≡◌, ℕ, suc, ◌<◌, List, [], ◌∷◌, ◌++◌, length, get_or, take, refl, sym, ap, ◌∙◌, arith}
 use Rattle.std.proofs.lemmas.List.{length_push, get_or_push, get_or-take, length-take, length-take-le}
-use lib.Seq.{take-length, take-suc, take-append_seam}
+use lib.Seq.{take-suc, take-append_seam}
 
 module _ (part left next : List ℕ) (w : ℕ) (is : left ≡ take (length left) part) (step : left ≡ next ++ w ∷ []) where
   pub last_length : length left ≡ suc (length next)

@@ -1,5 +1,5 @@
 -- The seam of the two parts of an image in the form that a loop follows: which words were passed without an opener of a sequence.
-use Rattle.std.specs.Prelude.{ℕ, ◌+◌, ◌≤◌, ◌≡◌, false, List, length, get_or, drop}
+use Rattle.std.specs.Prelude.{ℕ, ◌+◌, ◌≤◌, ◌≡◌, false, List, length, drop}
 use Rattle.image.specs.Word.{is_kind}
 use Rattle.image.specs.Fours.{AllFour}
 use Rattle.library.specs.Library.{before_sequences}
