@@ -2,26 +2,26 @@
 ghost use Rattle.std.specs.Prelude.{◌≡◌, ◌≤◌, true, length, drop};
 ghost use Rattle.image.specs.Word.{is_entry};
 ghost use Rattle.library.specs.Library.{entry_of, alternatives_from};
-ghost use Rattle.callers.specs.Callers.{set_words, in_set};
+ghost use Rattle.callers.specs.Callers.{in_set};
 ghost use Rattle.running.specs.Runs.{is_dead, runs_by, RunWithin, RunsReadable, AlternativeWalked};
 
-use callers::sets::contains;
-use image::word::{KIND_ALTERNATIVE, KIND_SEQUENCE_ENTRY, is_kind, payload_of};
+use callers::sets::Set;
+use image::word::{Kind, payload_of};
 use walk::sequence::{part_entry, rest_end, word_at};
 
 // Whether an entry names a sequence that is not found to have a run.
-fn is_dead(runs: &[u64], w: u32) -> bool
-    requires { (length runs.now ≡ set_words) × RunWithin w × (is_entry w ≡ true) }
+fn is_dead(runs: &Set, w: u32) -> bool
+    requires { RunWithin w × (is_entry w ≡ true) }
     ensures { result ≡ is_dead runs.now (entry_of w) }
 {
-    if is_kind(KIND_SEQUENCE_ENTRY, w) {
-        return !contains(runs, payload_of(w) as usize);
+    if Kind::SequenceEntry.is_of(w) {
+        return !runs.contains(payload_of(w) as usize);
     }
     false
 }
 
 // Walks the entries that stand from index `at` on. Answers the index of the first dead one, or of the word after them.
-fn live_end(runs: &[u64], part: &[u32], at: usize) -> usize
+fn live_end(runs: &Set, part: &[u32], at: usize) -> usize
     requires { RunsReadable runs.now part.now × (at ≤ length part.now) }
     ensures { AlternativeWalked runs.now part.now at result }
 {
@@ -39,7 +39,7 @@ fn live_end(runs: &[u64], part: &[u32], at: usize) -> usize
 }
 
 // Whether one of the alternatives that stand from index `at` on gives a run: the walk over its entries meets no dead one.
-pub fn gives_run(runs: &[u64], part: &[u32], at: usize) -> bool
+pub fn gives_run(runs: &Set, part: &[u32], at: usize) -> bool
     requires { RunsReadable runs.now part.now × (at ≤ length part.now) }
     ensures { result ≡ runs_by (in_set runs.now) (alternatives_from (drop at part.now)) }
 {
@@ -49,7 +49,7 @@ pub fn gives_run(runs: &[u64], part: &[u32], at: usize) -> bool
         i += 1;
         if part_entry(w) {
             i = rest_end(part, i);
-        } else if !is_kind(KIND_ALTERNATIVE, w) {
+        } else if !Kind::Alternative.is_of(w) {
             return false;
         } else {
             i = live_end(runs, part, i);

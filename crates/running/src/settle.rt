@@ -1,11 +1,11 @@
 // The set of the sequences that have a run, settled: sequences are visited until no visit finds another one. Passes over all of them are enough for
 // most images, and need no table; where a pass finds too few, a sequence is visited again only after one that it calls was found.
-ghost use Rattle.std.specs.Prelude.{◌<◌, ◌≤◌};
+ghost use Rattle.std.specs.Prelude.{ℕ, ◌<◌, ◌≤◌, [], get_or};
 ghost use Rattle.settling.specs.Settling.{Scheduled, Visit, Pass, Settles};
 ghost use Rattle.running.specs.Visited.{lacking, RunsVisitable, visited};
 
 use crate::read::gives_run;
-use callers::sets::{contains, insert};
+use callers::sets::Set;
 use callers::write::write_callers;
 use order::finishing::visiting_order;
 use settling::settle::{Schedule, Visits};
@@ -23,10 +23,11 @@ pub struct RunVisits<'a> {
     pub n: usize,
 }
 
+// A set is settled as a table of one word, the set.
 impl Visits for RunVisits<'_> {
-    type Word = u64;
+    type Word = Set;
 
-    ghost value = { λ t. t };
+    ghost value = { λ t. get_or t 0 [] };
 
     ghost part = { λ v. v.part.now };
 
@@ -38,36 +39,43 @@ impl Visits for RunVisits<'_> {
 
     ghost weight = { lacking };
 
-    // Puts sequence `c` into the set where one of its alternatives gives a run. Answers whether that is new.
-    fn visit(&self, runs: &mut [u64], c: usize) -> bool {
-        if contains(runs, c) {
-            return false;
-        }
-        let at = self.places[c] as usize + 1;
-        if gives_run(runs, self.part, at) {
-            insert(runs, c);
-            return true;
-        }
-        false
+    fn visit(&self, table: &mut [Set], c: usize) -> bool {
+        self.find(&mut table[0], c)
     }
 }
 
 impl RunVisits<'_> {
+    // Puts sequence `c` into the set where one of its alternatives gives a run. Answers whether that is new.
+    fn find(&self, runs: &mut Set, c: usize) -> bool
+        requires { (n : ℕ) × RunsVisitable n self.now.part.now self.now.places.now runs.old × (c < n) }
+        ensures { Visit (visited self.now.part.now self.now.places.now) lacking runs.old c runs.new result }
+    {
+        if runs.contains(c) {
+            return false;
+        }
+        let at = self.places[c] as usize + 1;
+        let new = gives_run(runs, self.part, at);
+        if new {
+            runs.insert(c);
+        }
+        new
+    }
+
     // Visits so many sequences, each once, from the first on or from the last. Answers how many were found.
-    fn pass(&self, runs: &mut [u64], forward: bool, turns: usize) -> usize
+    fn pass(&self, runs: &mut Set, forward: bool, turns: usize) -> usize
         requires { RunsVisitable self.now.n self.now.part.now self.now.places.now runs.old × (turns ≤ self.now.n) }
         ensures { Pass (visited self.now.part.now self.now.places.now) lacking self.now.n turns runs.old runs.new result }
     {
         let mut count = 0;
         for i in 0..turns {
-            let new = self.visit(runs, place_of(forward, self.n, i));
+            let new = self.find(runs, place_of(forward, self.n, i));
             count += new as usize;
         }
         count
     }
 
     // Settles the set by way of the callers of each sequence and an order of visits.
-    fn settle_by_callers(&self, runs: &mut [u64])
+    fn settle_by_callers(&self, runs: &mut Set)
         requires { RunsVisitable self.now.n self.now.part.now self.now.places.now runs.old }
         ensures { Settles (visited self.now.part.now self.now.places.now) self.now.n runs.old runs.new }
     {
@@ -80,12 +88,14 @@ impl RunVisits<'_> {
             callers: &callers,
             order: &order[..self.n],
         };
-        schedule.settle(self, runs);
+        let mut table = [*runs];
+        schedule.settle(self, &mut table);
+        *runs = table[0];
     }
 
     // Settles the set, in which so many are left to be found: by passes, as long as each finds as many as it leaves, so that what is left halves and
     // there are few of them; otherwise by way of the callers.
-    fn settle_from(&self, runs: &mut [u64], forward: bool, unfound: usize)
+    fn settle_from(&self, runs: &mut Set, forward: bool, unfound: usize)
         requires { RunsVisitable self.now.n self.now.part.now self.now.places.now runs.old }
         ensures { Settles (visited self.now.part.now self.now.places.now) self.now.n runs.old runs.new }
     {
@@ -104,7 +114,7 @@ impl RunVisits<'_> {
 
     // Settles the set. Some sequences are visited from the last on, and as many from the first on: where more are found, there sequences mostly come
     // after those that they call, and passes go that way.
-    pub fn settle(&self, runs: &mut [u64])
+    pub fn settle(&self, runs: &mut Set)
         requires { RunsVisitable self.now.n self.now.part.now self.now.places.now runs.old }
         ensures { Settles (visited self.now.part.now self.now.places.now) self.now.n runs.old runs.new }
     {

@@ -2,11 +2,12 @@
 ghost use Rattle.running.specs.Written.{RunningAsked, RunningWritten};
 
 use crate::settle::RunVisits;
+use callers::sets::Set;
 use library::checked::Accepted;
 use library::tables::write_places;
 
 // Writes where each sequence of an accepted image stands, and the set of those that have a run, which is lent blank.
-pub fn write_running(accepted: &Accepted, places: &mut [u32], runs: &mut [u64])
+pub fn write_running(accepted: &Accepted, places: &mut [u32], runs: &mut Set)
     requires { RunningAsked accepted.now.head places.old runs.old }
     ensures { RunningWritten accepted.now.head accepted.now.image.now places.old places.new runs.new }
 {

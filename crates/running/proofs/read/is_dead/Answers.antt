@@ -10,17 +10,17 @@ pub contains-requires : goal.contains-requires
 contains-requires c =
     let test = c in
     let start = test in
-    let nine = kind_is 9 start.args.w (sym test.is_kind.ensures ∙ c.if-is_kind.true) in
-    (start.requires.0, omega (arith, c.payload_of.ensures, start.requires.1.sequence nine))
+    let nine = kind_is 9 start.args.w (sym test.is_of.ensures ∙ c.if-is_of.true) in
+    omega (arith, c.payload_of.ensures, start.requires.0.sequence nine)
 
-pub returns-then-is_kind : goal.returns-then-is_kind
-returns-then-is_kind c =
+pub returns-then-is_of : goal.returns-then-is_of
+returns-then-is_of c =
     let test = c in
     let a = test.args in
     ap not (c.contains.ensures ∙ ap (in_set a.runs.now) c.payload_of.ensures)
-    ∙ sym (call_dead a.runs.now a.w (sym test.is_kind.ensures ∙ c.if-is_kind.true))
+    ∙ sym (call_dead a.runs.now a.w (sym test.is_of.ensures ∙ c.if-is_of.true))
 
 pub returns : goal.returns
 returns c =
     let start = c in
-    sym (item_alive start.args.runs.now start.args.w start.requires.2 (sym c.is_kind.ensures ∙ c.if-is_kind.false))
+    sym (item_alive start.args.runs.now start.args.w start.requires.1 (sym c.is_of.ensures ∙ c.if-is_of.false))

@@ -33,7 +33,7 @@ is_dead-requires c =
     let inside : c.loop-at.i < length c.args.part.now = folding_inside c.loop-at.invariant.folding (entry) in
     let word = c in
     let start = word in
-    rw word.word_at-w.ensures (start.requires.0.four, start.requires.0.words word.loop-at.i (inside), entry)
+    rw word.word_at-w.ensures (start.requires.0.words word.loop-at.i (inside), entry)
 
 pub returns-then-is_dead : goal.returns-then-is_dead
 returns-then-is_dead c =

@@ -1,23 +1,25 @@
 -- `running::settle::RunVisits::settle` meets its contract.
 -- Assumes nothing.
 use Rattle.std.proofs.Common.{arith}
-use Rattle.settling.proofs.Visits.{reached_then}
-use Rattle.running.proofs.Visited.{visitable_at}
+use Rattle.settling.proofs.Visits.{reached_length, reached_then}
+use Rattle.running.proofs.Laws.{run_laws}
 use Rattle.running.proofs.settle.RunVisits.settle.Goals as goal
 
 pub pass-back-requires : goal.pass-back-requires
 pass-back-requires c = (c.requires, omega arith)
 
 pub pass-forth-requires : goal.pass-forth-requires
-pass-forth-requires c = let back = c in (visitable_at back.pass-back.new.runs (omega (arith, back.pass-back.auto)) c.requires, omega arith)
+pass-forth-requires c =
+    let laws = run_laws _ _ _ _ c.requires in
+    (laws.kept c.pass-back.new.runs (reached_length laws.lowers c.pass-back.ensures.reached), omega arith)
 
 pub overflow_add-left : goal.overflow_add-left
 overflow_add-left c = let start = c in omega (arith, c.pass-back.ensures.few, c.pass-forth.ensures.few, start.requires.few)
 
 pub settle_from-requires : goal.settle_from-requires
 settle_from-requires c =
-    let forth = c in
-    visitable_at forth.pass-forth.new.runs (omega (arith, forth.pass-forth.auto, c.pass-back.auto)) c.requires
+    let laws = run_laws _ _ _ _ c.requires in
+    laws.kept c.pass-forth.new.runs (reached_length laws.lowers (reached_then c.pass-back.ensures.reached c.pass-forth.ensures.reached))
 
 pub returns : goal.returns
 returns c =

@@ -21,7 +21,7 @@ returns-then-count-eq0 c =
 pub settle_by_callers-requires : goal.settle_by_callers-requires
 settle_by_callers-requires c =
     let laws = run_laws _ _ _ _ c.requires in
-    laws.kept c.pass-count.new.runs (omega (arith, c.pass-count.auto, reached_length laws.lowers c.passes.invariant))
+    laws.kept c.pass-count.new.runs (reached_length laws.lowers (reached_then c.passes.invariant c.pass-count.ensures.reached))
 
 pub returns-then-count-left : goal.returns-then-count-left
 returns-then-count-left c =

@@ -1,27 +1,18 @@
--- `running::settle::RunVisits` visits as it says.
+-- `running::settle::RunVisits` visits as it says, a table of one set.
 -- Assumes nothing.
-use Rattle.std.proofs.Common.{Bool, true, false, not, ◌&&◌, sym, ap, ◌∙◌, ap₂, arith}
-use Rattle.running.proofs.Visited.{gives, visit_made}
+use Rattle.std.proofs.Common.{[], get_or-set_same}
+use Rattle.running.proofs.Laws.{table_some, table_set}
 use Rattle.running.proofs.settle.RunVisitsVisits.visit.Goals as goal
 
-pub returns-then-contains : goal.returns-then-contains
-returns-then-contains c =
-    let v = c.args.self.now in
-    visit_made v.part.now v.places.now c.args.runs.now c.args.c (omega (arith, c.requires.1.readable.four, c.requires.1.few, c.requires.2))
-    (omega (arith, c.requires.1.few, c.requires.2)) false
-    (ap (λ (b : Bool). not b && gives v.part.now v.places.now c.args.runs.now c.args.c) (sym c.contains.ensures ∙ c.if-contains.true))
+pub bounds-table-0 : goal.bounds-table-0
+bounds-table-0 c = table_some c.args.table.now c.requires.1.readable.four
 
-pub returns-then-gives_run : goal.returns-then-gives_run
-returns-then-gives_run c =
-    let v = c.args.self.now in
-    rw c.insert.ensures
-    (visit_made v.part.now v.places.now c.args.runs.now c.args.c (omega (arith, c.requires.1.readable.four, c.requires.1.few, c.requires.2))
-    (omega (arith, c.requires.1.few, c.requires.2)) true
-    (ap₂ (λ (x y : Bool). not x && y) (sym c.contains.ensures ∙ c.if-contains.false) (sym c.gives_run.ensures ∙ c.if-gives_run.true)))
+pub find-requires : goal.find-requires
+find-requires c =
+    let some = table_some c.args.table.now c.requires.1.readable.four in
+    rw (table_set c.args.table.now c.index-table-0.result some) c.requires
 
 pub returns : goal.returns
 returns c =
-    let v = c.args.self.now in
-    visit_made v.part.now v.places.now c.args.runs.now c.args.c (omega (arith, c.requires.1.readable.four, c.requires.1.few, c.requires.2))
-    (omega (arith, c.requires.1.few, c.requires.2)) false
-    (ap₂ (λ (x y : Bool). not x && y) (sym c.contains.ensures ∙ c.if-contains.false) (sym c.gives_run.ensures ∙ c.if-gives_run.false))
+    let some = table_some c.args.table.now c.requires.1.readable.four in
+    rw (get_or-set_same c.args.table.now 0 c.find.new.runs [] some, ← table_set c.args.table.now c.index-table-0.result some) c.find.ensures
