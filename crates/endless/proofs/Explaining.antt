@@ -55,7 +55,6 @@ module _ {h : Head} {image places runs : List ℕ} (accepted : Accepts image h) 
   reach_asked =
       record {
         few = few_sequences image h accepted;
-        runs_four = marked.four;
         placed = marked.room;
         within = λ c l. (place_in image h accepted sequences rest placed c l).within;
         names = λ i l.

@@ -1,7 +1,6 @@
 -- What the endless call knows of an accepted image before it looks for a list.
-use Rattle.std.specs.Prelude.{ℕ, ◌≤◌, ◌≡◌, List, length}
+use Rattle.std.specs.Prelude.{ℕ, ◌≤◌, List, length}
 use Rattle.image.specs.declared.answer.Head.{Head}
-use Rattle.callers.specs.Callers.{set_words}
 use Rattle.running.specs.Written.{RunningWritten}
 
 -- the places of an accepted image's sequences, and which of them have a run, in areas with room
@@ -9,4 +8,3 @@ pub record Marked (h : Head) (image places runs : List ℕ) : Type 0 where
   pub before : List ℕ
   pub written : RunningWritten h image before places runs
   pub room : h.sequences ≤ length places
-  pub four : length runs ≡ set_words

@@ -5,7 +5,7 @@ ghost use Rattle.runs.specs.Possible.{has_run};
 ghost use Rattle.endless.specs.Answer.{EndlessCalled, Explains};
 ghost use Rattle.endless.specs.Marked.{Marked};
 
-use callers::sets::{SET_WORDS, contains};
+use callers::sets::Set;
 use image::answer::{Checked, Refusal};
 use library::checked::Accepted;
 use reach::found::reach;
@@ -18,7 +18,7 @@ use tables::size::MOST_PLACES;
 fn list_reached(
     accepted: &Accepted,
     places: &[u32],
-    runs: &[u64],
+    runs: &Set,
     c: usize,
     area: &mut [u32],
 ) -> Result<usize, Refusal>
@@ -41,9 +41,9 @@ fn explain(accepted: &Accepted, c: usize, area: &mut [u32]) -> Result<usize, Ref
     ensures { Explains (library_of accepted.now.image.now) c area.old result area.new }
 {
     let mut places = [0u32; MOST_PLACES];
-    let mut runs = [0u64; SET_WORDS];
+    let mut runs = Set::default();
     write_running(accepted, &mut places, &mut runs);
-    if contains(&runs, c) {
+    if runs.contains(c) {
         return Err(Refusal::HasRun);
     }
     list_reached(accepted, &places, &runs, c, area)

@@ -23,7 +23,6 @@ pub record Queued (n : ℕ) (found queue : List ℕ) (count : ℕ) : Type 0 wher
 -- what reaching asks of the sequences below n: their places, and the words that name them
 pub record ReachAsked (n : ℕ) (part places runs : List ℕ) : Type 0 where
   pub few : n ≤ most_sequences
-  pub runs_four : length runs ≡ set_words
   pub placed : n ≤ length places
   pub within : (c : ℕ) → c < n → get_or places c 0 < length part
   pub names : NamesWithin n part

@@ -4,11 +4,10 @@ ghost use Rattle.std.specs.Prelude.{◌≤◌, ◌<◌, ◌≡◌, length, drop,
 ghost use Rattle.image.specs.Word.{most_sequences};
 ghost use Rattle.library.specs.Calls.{calls_of};
 ghost use Rattle.library.specs.Library.{alternatives_from};
-ghost use Rattle.callers.specs.Callers.{set_words};
 ghost use Rattle.reach.specs.Queue.{NamesWithin, ReachAsked, Queued, Found};
 
 use callers::callees::Callees;
-use callers::sets::{Set, contains};
+use callers::sets::Set;
 use image::word::MOST_SEQUENCES;
 
 // The most sequences that are found.
@@ -17,12 +16,11 @@ const MOST_FOUND: usize = MOST_SEQUENCES as usize;
 // What is found, of the sequences below `n` that are not among `runs`: a set, and its members in the order in which they were found.
 #[derive(Drop)]
 pub struct Reached<'a> {
-    pub runs: &'a [u64],
+    pub runs: &'a Set,
     pub n: usize,
     pub set: Set,
     pub queue: [usize; MOST_FOUND],
     pub count: usize,
-    ghost four: { length runs.now ≡ set_words },
     ghost queued: { Queued n set queue count },
 }
 
@@ -30,8 +28,8 @@ impl<'a> Reached<'a> {
     ghost use Rattle.reach.specs.Found.{Alone, Noted};
 
     // Sequence `c` alone is found.
-    fn only(runs: &'a [u64], n: usize, c: usize) -> Reached<'a>
-        requires { (length runs.now ≡ set_words) × (n ≤ most_sequences) × (c < n) }
+    fn only(runs: &'a Set, n: usize, c: usize) -> Reached<'a>
+        requires { (n ≤ most_sequences) × (c < n) }
         ensures { Alone runs.now n c result }
     {
         let mut set = Set::default();
@@ -50,7 +48,7 @@ impl<'a> Reached<'a> {
         requires { d < self.old.n }
         ensures { Noted (λ e. eqb d e) self.old self.new }
     {
-        if contains(self.runs, d) | self.set.contains(d) {
+        if self.runs.contains(d) | self.set.contains(d) {
             return;
         }
         self.set.insert(d);
@@ -71,7 +69,7 @@ impl<'a> Reached<'a> {
 }
 
 // Finds what sequence `c` reaches, which has no run.
-pub fn reach<'a>(part: &[u32], places: &[u32], runs: &'a [u64], n: usize, c: usize) -> Reached<'a>
+pub fn reach<'a>(part: &[u32], places: &[u32], runs: &'a Set, n: usize, c: usize) -> Reached<'a>
     requires { ReachAsked n part.now places.now runs.now × (c < n) }
     ensures { Found n part.now places.now runs.now c result.set result.count }
 {

@@ -9,12 +9,12 @@ use Rattle.endless.proofs.call.explain.Goals as goal
 pub write_running-requires : goal.write_running-requires
 write_running-requires c =
     let a = c.args.accepted.now in
-    record { room = few_sequences a.image.now a.head a.accepted; four = refl; blank = zeros 4 }
+    rw c.default-runs.ensures (record { room = few_sequences a.image.now a.head a.accepted; four = refl; blank = zeros 4 })
 
 pub contains-requires : goal.contains-requires
 contains-requires c =
     let a = c.args.accepted.now in
-    (omega (arith, c.write_running.auto), omega (arith, few_sequences a.image.now a.head a.accepted))
+    omega (arith, few_sequences a.image.now a.head a.accepted)
 
 pub returns-then-contains : goal.returns-then-contains
 returns-then-contains c =
@@ -27,7 +27,6 @@ list_reached-requires c =
         before = _;
         written = c.write_running.ensures;
         room = omega (arith, c.write_running.auto, few_sequences a.image.now a.head a.accepted);
-        four = omega (arith, c.write_running.auto);
       },
       c.requires,
       sym (c.write_running.ensures.exact c.args.c) ∙ sym c.contains.ensures ∙ c.if-contains.false,

@@ -1,7 +1,6 @@
 -- `endless::call::list_reached` meets its contract.
 -- Assumes nothing.
-use Rattle.std.proofs.Common.{arith, length, ap, ◌≡◌, ◌∙◌}
-use Rattle.endings.specs.Reached.{endless_list}
+use Rattle.std.proofs.Common.{arith, length, ap}
 use Rattle.library.specs.Library.{library_of}
 use Rattle.tables.proofs.Tables.{few_sequences}
 use Rattle.endless.proofs.Explaining.{reach_asked, reached_listed, explains_short, explains_list}

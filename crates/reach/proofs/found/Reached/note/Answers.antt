@@ -26,7 +26,7 @@ overflow_add-self c =
 pub invariant_of-self : goal.invariant_of-self
 invariant_of-self c =
     let new = sym (ap₂ ◌||◌ c.contains.ensures c.contains-2.ensures) ∙ c.if-contains.false in
-    record { four = c.args.self.now.four; queued = rw c.insert.ensures (new_queued c.args.self.now c.args.d c.requires new) }
+    record { queued = rw c.insert.ensures (new_queued c.args.self.now c.args.d c.requires new) }
 
 pub returns : goal.returns
 returns c =
