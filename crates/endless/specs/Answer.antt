@@ -1,14 +1,14 @@
 -- The endless call's answer for every image, number and area, the words of the area after it, and the number that the C side gets (document 02,
 -- request 7).
-use Rattle.std.specs.Prelude.{ℕ, ◌≡◌, cond, List, ◌++◌, length, drop, ltb}
+use Rattle.std.specs.Prelude.{ℕ, ◌≡◌, cond, List, ◌++◌, length, drop, ltb, Ok, Err}
 use Rattle.image.specs.Answer.{refusal_answer}
 use Rattle.image.specs.declared.answer.Refusal.TheVariants.{Sequence, HasRun, ListArea}
-use Rattle.image.specs.declared.answer.Checked.{Checked}
 use Rattle.rules.specs.Checked.{checked}
 use Rattle.library.specs.Library.{Library, library_of}
 use Rattle.runs.specs.Possible.{has_run}
 use Rattle.endings.specs.Reached.{endless_list}
 use Rattle.endless.specs.declared.answer.Explained.{Explained}
+use Rattle.image.specs.Answer.{Checked}
 
 -- "Otherwise the answer is the list's length"; "N × 2^32 + P for refusal N at position P"
 abbrev pub endless_answer : Explained → ℕ
@@ -23,8 +23,8 @@ explained L c room =
 
 -- 9: "The sequence asked about is not below C."
 abbrev pub after_check : Checked → List ℕ → ℕ → ℕ → Explained
-after_check (Checked.Refused r) image c room = Explained.Refused r
-after_check (Checked.Accepted h) image c room = cond (ltb c h.sequences) (explained (library_of image) c room) (Explained.Refused Sequence)
+after_check (Err r) image c room = Explained.Refused r
+after_check (Ok h) image c room = cond (ltb c h.sequences) (explained (library_of image) c room) (Explained.Refused Sequence)
 
 -- "Like every later call over an image, this one meets 1 to 7 first."
 abbrev pub endless_for : List ℕ → ℕ → ℕ → Explained

@@ -8,7 +8,7 @@ ghost use Rattle.endless.specs.Marked.{Marked};
 
 use crate::answer::{Explained, Members};
 use callers::sets::{SET_WORDS, contains};
-use image::answer::{Checked, Head, Refusal};
+use image::answer::{Head, Refusal};
 use library::parts::sequences_part;
 use reach::found::reach;
 use reach::members::write_members;
@@ -66,8 +66,8 @@ pub fn endless(image: &[u32], sequence: u64, area: &mut [u32]) -> Explained
     ensures { EndlessCalled image.now sequence area.old result area.new }
 {
     match check(image) {
-        Checked::Refused(r) => Explained::Refused(r),
-        Checked::Accepted(h) => ask(h, image, sequence, area),
+        Err(r) => Explained::Refused(r),
+        Ok(h) => ask(h, image, sequence, area),
     }
 }
 

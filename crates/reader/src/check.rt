@@ -14,7 +14,7 @@ use image::word::{
     head_of, head_right, is_kind,
 };
 use rules::rules::{
-    Earlier, Fault, body_right, first_fault, inside_right, past, sequence_right, step_right,
+    Earlier, body_right, first_fault, inside_right, past, sequence_right, step_right,
 };
 use sum::payload::sum_right;
 
@@ -26,9 +26,9 @@ fn ended_at(h: Head, e: Earlier, p: u32) -> Checked
     ensures { result ≡ ended h (seen e 0) p }
 {
     if (e.steps < h.steps) | (e.sequences < h.sequences) {
-        return Checked::Refused(Refusal::Missing(p));
+        return Err(Refusal::Missing(p));
     }
-    Checked::Accepted(h)
+    Ok(h)
 }
 
 // What is carried of the words before, where words that open neither a step nor a sequence follow them.
@@ -206,8 +206,8 @@ fn read_words(h: Head, before: Earlier, at: usize, part: &[u32], from: usize) ->
     let mut i = from;
     while i < part.len() {
         let w = part[i];
-        if let Fault::Found(r) = first_fault(h, e, at, part, i) {
-            return Checked::Refused(r);
+        if let Some(r) = first_fault(h, e, at, part, i) {
+            return Err(r);
         }
         e = past(e, w);
         i += 1;
@@ -279,18 +279,18 @@ pub fn check(image: &[u32]) -> Checked
 {
     let n = image.len();
     if n < FEWEST_WORDS {
-        return Checked::Refused(Refusal::Length);
+        return Err(Refusal::Length);
     }
     if MOST_WORDS < n {
-        return Checked::Refused(Refusal::Length);
+        return Err(Refusal::Length);
     }
     let last = n - 1;
     if !sum_right(&image[..last], image[last]) {
-        return Checked::Refused(Refusal::SumWord(last as u32));
+        return Err(Refusal::SumWord(last as u32));
     }
     let first = image[0];
     if !head_right(first) {
-        return Checked::Refused(Refusal::HeadWord);
+        return Err(Refusal::HeadWord);
     }
     read(first, &image[1..last])
 }

@@ -27,13 +27,6 @@ pub struct Earlier {
     pub last: u32,
 }
 
-// What is wrong with a word: refusal 4, 5, 6 or 13 with its position, or nothing.
-#[derive(Clone, Copy)]
-pub enum Fault {
-    Found(Refusal),
-    Nothing,
-}
-
 // Refusal 4: whether a word of this kind may stand here.
 fn may_stand(h: Head, e: Earlier, w: u32) -> bool
     ensures { result ≡ may_stand h (seen e 0) w }
@@ -168,25 +161,25 @@ pub fn inside_right(h: Head, w: u32) -> bool
 }
 
 // The first refusal of 4, 5, 6 and 13 that the word at index `i` meets, by each rule, in a part that begins at position `at`.
-pub fn first_fault(h: Head, e: Earlier, at: usize, part: &[u32], i: usize) -> Fault
+pub fn first_fault(h: Head, e: Earlier, at: usize, part: &[u32], i: usize) -> Option<Refusal>
     requires { (i < length part.now) × (at + length part.now ≤ most_words) }
     ensures { result ≡ fault_at h (up_to part.now e i) (at + i) (slice_index part.now i) }
 {
     let w = part[i];
     let p = (at + i) as u32;
     if !may_stand(h, e, w) {
-        return Fault::Found(Refusal::Kind(p));
+        return Some(Refusal::Kind(p));
     }
     if !payload_right(h, e, w) {
-        return Fault::Found(Refusal::Payload(p));
+        return Some(Refusal::Payload(p));
     }
     if !in_order(e, w) {
-        return Fault::Found(Refusal::FactOrder(p));
+        return Some(Refusal::FactOrder(p));
     }
     if !clears_unset(part, i) {
-        return Fault::Found(Refusal::SetAndCleared(p));
+        return Some(Refusal::SetAndCleared(p));
     }
-    Fault::Nothing
+    None
 }
 
 // What is carried of the words up to and with `w`.

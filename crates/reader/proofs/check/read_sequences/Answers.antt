@@ -6,10 +6,10 @@ use mathlib.Core.Path.{refl, sym, ◌∙◌}
 use lib.ListN.{get_or, take}
 use Rattle.rules.specs.Rules.{sets_of}
 use Rattle.rules.specs.Quick.{passed}
-use Rattle.rules.specs.declared.rules.Fault.TheVariants.{Nothing}
 use Rattle.rules.proofs.Right.{sequence_faultless}
 use Rattle.reader.proofs.Walk.{whole_answer, reading_start, read_answer, read_end, reading_turn, reading_on}
 use Rattle.reader.proofs.check.read_sequences.Goals as goal
+use Rattle.std.specs.Prelude.{None}
 
 pub loop-i-init : goal.loop-i-init
 loop-i-init c =
@@ -60,7 +60,7 @@ loop-i-preserved c =
     let body = read.read_body-body.result in
     rw (c.further_on-e.ensures, opened.past-e.ensures)
     (reading_on a.at a.h ws a.before 0 (passed e w) (i + 1)
-    (reading_turn a.at a.h ws a.before 0 e i at-loop.loop-i.invariant Nothing turn.loop-i-test.true refl
+    (reading_turn a.at a.h ws a.before 0 e i at-loop.loop-i.invariant None turn.loop-i-test.true refl
     (sequence_faultless a.h e (sets_of 0 (take i ws)) (a.at + i) w (sym told.sequence_right.ensures ∙ told.if-not-sequence_right.false)))
     body.last body.next (rw opened.past-e.ensures at read.read_body-body.ensures))
 

@@ -8,11 +8,11 @@ use lib.ListN.{get_or, take, length-drop}
 use Rattle.general.proofs.Numbers.{whole_rest}
 use Rattle.rules.specs.Rules.{sets_of}
 use Rattle.rules.specs.Quick.{step_right, passed, with_last}
-use Rattle.rules.specs.declared.rules.Fault.TheVariants.{Nothing}
 use Rattle.rules.proofs.Right.{step_opens, step_faultless}
 use Rattle.reader.specs.Readers.{Read}
 use Rattle.reader.proofs.Walk.{begun, whole_answer, middle_answer, reading_start, read_answer, read_end, reading_turn, reading_on}
 use Rattle.reader.proofs.check.read_steps.Goals as goal
+use Rattle.std.specs.Prelude.{None}
 
 pub loop-i-init : goal.loop-i-init
 loop-i-init c =
@@ -106,7 +106,7 @@ loop-i-preserved c =
     let next = read.read_facts-next.result in
     rw (c.further_on-e.ensures, opened.past-e.ensures)
     (reading_on 1 a.h ws (begun a.first) 0 (passed e w) (i + 1)
-    (reading_turn 1 a.h ws (begun a.first) 0 e i at-loop.loop-i.invariant Nothing turn.loop-i-test.true refl
+    (reading_turn 1 a.h ws (begun a.first) 0 e i at-loop.loop-i.invariant None turn.loop-i-test.true refl
     (step_faultless a.h e (sets_of 0 (take i ws)) (1 + i) w (right))) (get_or ws (next - 1) 0) next (facts))
 
 pub returns : goal.returns

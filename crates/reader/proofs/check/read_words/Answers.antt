@@ -11,10 +11,10 @@ loop-i-init c =
     let a = start.args in
     reading_start a.at a.h a.part.now a.before a.from start.requires.1 start.requires.2 start.requires.3
 
-pub returns-in-Found : goal.returns-in-Found
-returns-in-Found c =
+pub returns-in-Some : goal.returns-in-Some
+returns-in-Some c =
     let a = c.args in
-    read_refused a.h a.part.now a.before a.from c.loop-i.e c.loop-i.i c.loop-i.invariant.read a.at c.in-Found.r _ (omega arith) c.in-Found.is c.first_fault.ensures
+    read_refused a.h a.part.now a.before a.from c.loop-i.e c.loop-i.i c.loop-i.invariant.read a.at c.in-Some.r _ (omega arith) c.in-Some.is c.first_fault.ensures
 
 pub past-e-requires : goal.past-e-requires
 past-e-requires c =
