@@ -187,7 +187,5 @@ pub fn head_right(w: u32) -> bool
 {
     let p = w % PAYLOADS;
     let f = p % FACTS_BELOW;
-    Kind::Head.is_of(w)
-        & ((1 <= f) & (f <= MOST_FACTS))
-        & (p / SEQUENCES_FROM <= MOST_SEQUENCES)
+    Kind::Head.is_of(w) & ((1 <= f) & (f <= MOST_FACTS)) & (p / SEQUENCES_FROM <= MOST_SEQUENCES)
 }

@@ -81,9 +81,11 @@ module _ (h : Head) (part : List ℕ) (e : Earlier) (at : ℕ) where
     read_refused p x fault l found judged =
         sym (here.same p ∙ walk_word h part now p i l ∙ ap (λ (f : Option Refusal). at_word f (rest p)) (sym judged ∙ found))
 
-    pub read_end : (p : ℕ) → i ≡ length part → ended h (up_to part now i) (p + i) ≡ walk h (up_to part e at) (p + at) (drop at part)
+    pub read_end : (p : ℕ) → i ≡ length part → ended h (seen now 0) (p + length part) ≡ walk h (up_to part e at) (p + at) (drop at part)
     unfolding walk
-    read_end p l = sym (here.same p ∙ ap (walk h (up_to part now i) (p + i)) (ap (λ (n : ℕ). drop n part) l ∙ drop-length part))
+    read_end p l =
+        ap (λ (n : ℕ). ended h (seen now 0) (p + n)) (sym l)
+        ∙ sym (here.same p ∙ ap (walk h (up_to part now i) (p + i)) (ap (λ (n : ℕ). drop n part) l ∙ drop-length part))
 
 -- what is carried of the head alone
 abbrev pub begun : ℕ → Earlier
