@@ -15,7 +15,6 @@ use Rattle.column.specs.Words.{number}
 use Rattle.rules.specs.Checked.{checked}
 use Rattle.library.specs.Library.{Library, library_of}
 use Rattle.image.specs.declared.answer.Head.{Head}
-use Rattle.image.specs.declared.answer.Checked.{Checked}
 use Rattle.library.proofs.Accepted.{counted}
 use Rattle.runs.specs.Touch.{question_of}
 use Rattle.cards.specs.Area.{part_number, AllCards}
@@ -38,6 +37,7 @@ use Rattle.dulimoven.specs.Demands.{Engine, count, Ready, Demand2, Asks, Proves,
 use Rattle.dulimoven.specs.Engine.{engine}
 use Rattle.dulimoven.proofs.Demands.{columns}
 use Rattle.agreement.specs.Wrong.{Gets}
+use Rattle.std.specs.Prelude.{Ok}
 
 -- ---- demand 2
 
@@ -131,7 +131,7 @@ links_told before r ls ms one two =
 pub some_area : List ℕ → List ℕ
 some_area image = replicate (card_words * count (library_of image)) 0
 
-pub ready_for : (image : List ℕ) (h : Head) → checked image ≡ Checked.Accepted h → Ready image (some_area image)
+pub ready_for : (image : List ℕ) (h : Head) → checked image ≡ Ok h → Ready image (some_area image)
 unfolding some_area
 ready_for image h accepted =
     record { head = h; accepted = accepted; room = omega (arith, length-replicate {A = ℕ} (card_words * count (library_of image)) 0) }

@@ -23,7 +23,6 @@ use Rattle.library.specs.Library.{Library, has, library_of}
 use Rattle.rules.specs.Rules.{opened, last_of, sets_of}
 use Rattle.general.specs.Numbers.{total}
 use Rattle.image.specs.Word.{payload, running_sums}
-use Rattle.image.specs.declared.answer.Checked.{Checked}
 use Rattle.library.proofs.Accepted.{counted}
 use Rattle.runs.specs.Possible.{possible, has_run}
 use Rattle.runs.proofs.Columns.{no_run_iff}
@@ -62,6 +61,7 @@ use Rattle.dulimoven.proofs.Demands.{only_engine, columns, runs}
 use Rattle.dulimoven.proofs.Added.{lists_met, list_numbers_lem}
 use Rattle.dulimoven.proofs.Swapped.{engines_notice}
 use Rattle.agreement.proofs.Fixed.{cards_fixed, area_fixed, links_told, gets_chain, chain_shown}
+use Rattle.std.specs.Prelude.{Ok}
 
 -- ---- the samples, by computation
 
@@ -78,23 +78,23 @@ detour =
 abbrev one_set : List ℕ
 one_set = 0x10080201 ∷ 0x50000000 ∷ 0x30000000 ∷ 0x60000000 ∷ 0x70000000 ∷ 0x80000000 ∷ 0xf0315806 ∷ []
 
-accepted_l : checked L ≡ Checked.Accepted (record { facts = 3; steps = 3; sequences = 3 })
+accepted_l : checked L ≡ Ok (record { facts = 3; steps = 3; sequences = 3 })
 unfolding checked scan total running_sums opened last_of sets_of in_column bit
 accepted_l = refl
 
-accepted_ten : checked ten_sequences ≡ Checked.Accepted (record { facts = 1; steps = 1; sequences = 10 })
+accepted_ten : checked ten_sequences ≡ Ok (record { facts = 1; steps = 1; sequences = 10 })
 unfolding checked scan total running_sums opened last_of sets_of in_column bit
 accepted_ten = refl
 
-accepted_self_call : checked self_call ≡ Checked.Accepted (record { facts = 1; steps = 0; sequences = 1 })
+accepted_self_call : checked self_call ≡ Ok (record { facts = 1; steps = 0; sequences = 1 })
 unfolding checked scan total running_sums opened last_of sets_of in_column bit
 accepted_self_call = refl
 
-accepted_clear_then_need : checked clear_then_need ≡ Checked.Accepted (record { facts = 1; steps = 2; sequences = 1 })
+accepted_clear_then_need : checked clear_then_need ≡ Ok (record { facts = 1; steps = 2; sequences = 1 })
 unfolding checked scan total running_sums opened last_of sets_of in_column bit
 accepted_clear_then_need = refl
 
-accepted_one_set : checked one_set ≡ Checked.Accepted (record { facts = 1; steps = 1; sequences = 1 })
+accepted_one_set : checked one_set ≡ Ok (record { facts = 1; steps = 1; sequences = 1 })
 unfolding checked scan total running_sums opened last_of sets_of in_column bit
 accepted_one_set = refl
 

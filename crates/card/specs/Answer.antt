@@ -6,15 +6,15 @@ use Rattle.image.specs.Answer.{refusal_answer}
 use Rattle.rules.specs.Checked.{checked}
 use Rattle.library.specs.Library.{library_of}
 use Rattle.image.specs.declared.answer.Refusal.TheVariants.{CardArea}
-use Rattle.image.specs.declared.answer.Checked.{Checked}
 use Rattle.cards.specs.Layout.{card_words}
 use Rattle.cards.specs.Card.{cards}
+use Rattle.image.specs.Answer.{Checked}
 
 -- 8: "The card area has fewer than 7 × C words of 64 bits."; "8 asks 49 × C" (document 02, request 8). It comes after 1 to 7;
 -- "Otherwise .. the cards [answer] C"
 abbrev pub cards_given : Checked → ℕ → Result ℕ Refusal
-cards_given (Checked.Refused r) room = Err r
-cards_given (Checked.Accepted h) room =
+cards_given (Err r) room = Err r
+cards_given (Ok h) room =
     cond (ltb room (card_words * h.sequences)) (Err CardArea) (Ok h.sequences)
 
 -- what the card call answers

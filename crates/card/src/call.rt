@@ -7,7 +7,7 @@ ghost use Rattle.card.specs.Answer.{CardsCalled};
 ghost use Rattle.card.specs.Fill.{FillAsked, BlockAsked, BlockRoom, Room, block_filled};
 
 use column::BLOCK_FACTS;
-use image::answer::{Checked, Refusal};
+use image::answer::Refusal;
 use library::checked::Accepted;
 use outcome::table::{MOST_ROWS, MOST_STEP_ROWS, SMALL_ROWS, SMALL_STEP_ROWS, Tables};
 use reader::check::check;
@@ -83,7 +83,7 @@ pub fn cards(image: &[u32], area: &mut [u64]) -> Result<u32, Refusal>
     ensures { CardsCalled image.now area.old result area.new }
 {
     match check(image) {
-        Checked::Refused(r) => Err(r),
-        Checked::Accepted(head) => fill(&Accepted { image, head }, area),
+        Err(r) => Err(r),
+        Ok(head) => fill(&Accepted { image, head }, area),
     }
 }

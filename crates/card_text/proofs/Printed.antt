@@ -17,7 +17,6 @@ use Rattle.library.specs.Library.{Library, library_of}
 use Rattle.library.specs.Accepted.{Counted}
 use Rattle.image.specs.declared.answer.Head.{Head}
 use Rattle.image.specs.declared.answer.Refusal.TheVariants.{CardArea}
-use Rattle.image.specs.declared.answer.Checked.{Checked}
 use Rattle.library.proofs.Accepted.{faultless, counted}
 use Rattle.image.specs.declared.answer.Refusal.{Refusal}
 use Rattle.cards.specs.Layout.{card_numbers, column_width, card_words}
@@ -32,6 +31,8 @@ use Rattle.text.proofs.Words.{length_words}
 use Rattle.card_text.specs.Line.{card_line, lines_from, card_lines, refusal_line}
 use Rattle.card_text.specs.Print.{answer_text, program_words, image_text, printed}
 use Rattle.card_text.specs.Writers.{numbers_of, text_bytes, AnswerAsked}
+use Rattle.std.specs.Prelude.{Ok}
+use Rattle.image.specs.Answer.{Checked}
 
 -- the part of the words that was written
 pub words_part : (bytes rest words : List ℕ) (n : ℕ) → n ≡ length bytes / 4 → words ≡ words_of bytes ++ rest → take n words ≡ words_of bytes
@@ -85,7 +86,7 @@ module _ (image area : List ℕ) (room : length area ≡ program_words) where
         ∙ ap (λ (n : ℕ). answer_text (cards_given (checked image) n) (card (library_of image))) room
 
 -- "so more than 160 sequences print `refused 8 at 0`", and no others that are accepted
-module _ (image : List ℕ) (h : Head) (accepted : checked image ≡ Checked.Accepted h) where
+module _ (image : List ℕ) (h : Head) (accepted : checked image ≡ Ok h) where
   with_room : (b : Bool) → ltb program_words (card_words * h.sequences) ≡ b
       → image_text image ≡ answer_text (cond b (Err CardArea) (Ok h.sequences)) (card (library_of image))
   with_room b e =

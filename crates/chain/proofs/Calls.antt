@@ -14,8 +14,6 @@ use Rattle.library.specs.Library.{library_of}
 use Rattle.image.specs.declared.answer.Head.{Head}
 use Rattle.image.specs.declared.answer.Refusal.{Refusal}
 use Rattle.image.specs.declared.answer.Refusal.TheVariants.{Sequence, Question, Fact}
-use Rattle.image.specs.declared.answer.Checked.{Checked}
-use Rattle.image.specs.declared.answer.Checked.TheVariants.{Accepted, Refused}
 use Rattle.runs.specs.Touch.{question_of}
 use Rattle.runs.specs.Touch as touch
 use Rattle.general.proofs.Bools.{and_parts}
@@ -29,9 +27,11 @@ use Rattle.question.specs.Reply.{Answered, ChainCalled, chained_as}
 use Rattle.question.specs.declared.answer.Chained.{Chained}
 use Rattle.chains.specs.Call.{Reply, refused, in_area, after_check, chained, area_after}
 use Rattle.chains.proofs.Call.{call_asked}
+use Rattle.std.specs.Prelude.{Ok, Err}
+use Rattle.image.specs.Answer.{Checked}
 
 -- 1 to 7
-pub call_refused : (image : List ℕ) (r : Refusal) (c q f : ℕ) (area : List ℕ) → checked image ≡ Refused r → ChainCalled image c q f area (Chained.Refused r) area
+pub call_refused : (image : List ℕ) (r : Refusal) (c q f : ℕ) (area : List ℕ) → checked image ≡ Err r → ChainCalled image c q f area (Chained.Refused r) area
 unfolding chained
 call_refused image r c q f area e = record { answer = rw e; area = rw e }
 
@@ -79,7 +79,7 @@ by_tests true false d reply e = refl
 by_tests true true false reply e = refl
 by_tests true true true reply e = absurd (true≢false e)
 
-module _ (image : List ℕ) (h : Head) (c q f : ℕ) (area : List ℕ) (accepted : checked image ≡ Accepted h) where
+module _ (image : List ℕ) (h : Head) (c q f : ℕ) (area : List ℕ) (accepted : checked image ≡ Ok h) where
   -- 9, 10 and 11, in this order
   pub call_out : (r : Refusal) → Err r ≡ range_told h c q f → ChainCalled image c q f area (Chained.Refused r) area
   unfolding chained

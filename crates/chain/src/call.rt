@@ -6,7 +6,6 @@ ghost use Rattle.rank.specs.Tables.{RanksVisitable, Ranked};
 ghost use Rattle.chain.specs.Described.{FindAsked, AreasAsked, AnswerFound, Findable, EntriesMarked, Found};
 ghost use Rattle.question.specs.Reply.{ChainCalled};
 
-use image::answer::Checked;
 use image::word::{MOST_FACTS, MOST_SEQUENCES, MOST_STEPS};
 use library::checked::Accepted;
 use link::write::Chooser;
@@ -184,7 +183,7 @@ pub fn chain(image: &[u32], sequence: u64, question: u64, fact: u64, area: &mut 
     ensures { ChainCalled image.now sequence question fact area.old result area.new }
 {
     match check(image) {
-        Checked::Refused(r) => Chained::Refused(r),
-        Checked::Accepted(head) => ask(&Accepted { image, head }, sequence, question, fact, area),
+        Err(r) => Chained::Refused(r),
+        Ok(head) => ask(&Accepted { image, head }, sequence, question, fact, area),
     }
 }

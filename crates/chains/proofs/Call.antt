@@ -13,8 +13,6 @@ use Rattle.library.specs.Library.{library_of, Item}
 use Rattle.image.specs.declared.answer.Head.{Head}
 use Rattle.image.specs.declared.answer.Refusal.{Refusal}
 use Rattle.image.specs.declared.answer.Refusal.TheVariants.{Sequence, Question, Fact, ChainArea}
-use Rattle.image.specs.declared.answer.Checked.{Checked}
-use Rattle.image.specs.declared.answer.Checked.TheVariants.{Accepted, Refused}
 use Rattle.library.proofs.Accepted.{counted}
 use Rattle.runs.specs.Run.{Run}
 use Rattle.runs.specs.Touch.{question_of, HasOutcome}
@@ -24,16 +22,18 @@ use Rattle.chains.specs.Shows.{Shows}
 use Rattle.chains.specs.Call.{Reply, refused, answered, in_area, after_check, chained, area_after}
 use Rattle.chains.proofs.Words.{words_length}
 use Rattle.chains.proofs.Answers.{answer_shows, answer_none}
+use Rattle.std.specs.Prelude.{Ok, Err}
+use Rattle.image.specs.Answer.{Checked}
 
 -- what the call comes to where the image is accepted and the numbers are in range
-pub call_asked : (image : List ℕ) (h : Head) (c q f room : ℕ) → checked image ≡ Accepted h → c < h.sequences → q ≤ 5 → f < h.facts
+pub call_asked : (image : List ℕ) (h : Head) (c q f room : ℕ) → checked image ≡ Ok h → c < h.sequences → q ≤ 5 → f < h.facts
     → chained image c q f room ≡ in_area room (answer (library_of image) (question_of q) c f)
 unfolding chained
 call_asked image h c q f room accepted sequence question fact =
     rw (accepted, lt-ltb c h.sequences sequence, le-leb q 5 question, lt-ltb f h.facts fact)
 
 -- "an area of at least two words for each sequence" is never too small
-pub room_suffices : (image : List ℕ) (h : Head) (c q f room : ℕ) → checked image ≡ Accepted h → 2 * h.sequences ≤ room
+pub room_suffices : (image : List ℕ) (h : Head) (c q f room : ℕ) → checked image ≡ Ok h → 2 * h.sequences ≤ room
     → in_area room (answer (library_of image) (question_of q) c f) ≡ answered (answer (library_of image) (question_of q) c f)
 room_suffices image h c q f room accepted enough = go (answer (library_of image) (question_of q) c f) refl
   where
@@ -46,7 +46,7 @@ room_suffices image h c q f room accepted enough = go (answer (library_of image)
         rw (le-leb (length (chain_words ls)) room (omega arith))
 
 -- a question whose outcome some run has gets a chain that keeps every promise
-pub call_shows : (image : List ℕ) (h : Head) (c q f room : ℕ) → checked image ≡ Accepted h → c < h.sequences → q ≤ 5 → f < h.facts
+pub call_shows : (image : List ℕ) (h : Head) (c q f room : ℕ) → checked image ≡ Ok h → c < h.sequences → q ≤ 5 → f < h.facts
     → 2 * h.sequences ≤ room → (w : List Item) → Run (library_of image) c w → HasOutcome (library_of image) (question_of q) f w
     → (ls : Chain) × (chained image c q f room ≡ answered (shown ls)) × Shows (library_of image) (question_of q) c f ls
 call_shows image h c q f room accepted sequence question fact enough w run outcome =
@@ -79,8 +79,8 @@ unfolding chained
 call_room image c q f room = go (checked image)
   where
     go : (k : Checked) → InRoom room (after_check k image c q f room)
-    go (Refused r) = tt
-    go (Accepted h) =
+    go (Err r) = tt
+    go (Ok h) =
         let a = in_area room (answer (library_of image) (question_of q) c f) in
         cond_room room (ltb c h.sequences) (cond (leb q 5) (cond (ltb f h.facts) a (refused Fact)) (refused Question)) (refused Sequence)
         (λ e. cond_room room (leb q 5) (cond (ltb f h.facts) a (refused Fact)) (refused Question)
@@ -99,7 +99,7 @@ area_length image c q f area = go (chained image c q f (length area)) (call_room
 -- where the call answers, the image is accepted, the numbers are in range, and it is the answer to the question
 pub record Answers (image : List ℕ) (c q f : ℕ) (a : Answer) : Type 0 where
   pub head : Head
-  pub accepted : checked image ≡ Accepted head
+  pub accepted : checked image ≡ Ok head
   pub sequence : c < head.sequences
   pub question : q ≤ 5
   pub fact : f < head.facts
@@ -120,8 +120,8 @@ unfolding chained
 call_answered image c q f room a e = go (checked image) refl e
   where
     go : (k : Checked) → checked image ≡ k → after_check k image c q f room ≡ answered a → Answers image c q f a
-    go (Refused r) known told = let no : ◌≡◌ {A = ℕ} 0 1 = cc in absurd (omega arith)
-    go (Accepted h) known told =
+    go (Err r) known told = let no : ◌≡◌ {A = ℕ} 0 1 = cc in absurd (omega arith)
+    go (Ok h) known told =
         let reply = in_area room (answer (library_of image) (question_of q) c f) in
         let fact = cond (ltb f h.facts) reply (refused Fact) in
         let question = cond (leb q 5) fact (refused Question) in

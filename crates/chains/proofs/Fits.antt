@@ -9,12 +9,12 @@ use Rattle.library.specs.Accepted.{Small}
 use Rattle.rules.specs.Checked.{checked}
 use Rattle.library.specs.Library.{Library, Sequence, Entry, item, call, library_of, Item, entry_at}
 use Rattle.image.specs.declared.answer.Head.{Head}
-use Rattle.image.specs.declared.answer.Checked.TheVariants.{Accepted}
 use Rattle.library.proofs.Sizes.{small}
 use Rattle.runs.specs.Run.{alternatives_of, alternative_of}
 use Rattle.runs.specs.Touch.{Question}
 use Rattle.chains.specs.Link.{touch_link, untouched_link, Chain, Fits}
 use Rattle.chains.specs.Stands.{EntryTouches, StandsFor}
+use Rattle.std.specs.Prelude.{Ok}
 
 -- only a sequence of the library has an alternative
 in_library : (S : List Sequence) (c i : ℕ) → i < length (alternatives_of S c) → c < length S
@@ -45,6 +45,6 @@ module _ (L : Library) (q : Question) (f : ℕ) (size : Small L) where
   )
 
 -- a chain for an accepted image
-pub accepted_fits : (image : List ℕ) (h : Head) (q : Question) (f : ℕ) (ls : Chain) (w : List Item) → checked image ≡ Accepted h
+pub accepted_fits : (image : List ℕ) (h : Head) (q : Question) (f : ℕ) (ls : Chain) (w : List Item) → checked image ≡ Ok h
     → StandsFor (library_of image) q f ls w → All Fits ls
 accepted_fits image h q f ls w accepted stands = stands_fits (library_of image) q f (small image h accepted) ls w stands

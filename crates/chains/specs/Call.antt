@@ -1,16 +1,15 @@
 -- The chain call over every input: its answer, and the words in the area after it (document 01, "Turned down, in checking order",
 -- "Chains").
-use Rattle.std.specs.Prelude.{ℕ, cond, List, ◌++◌, length, drop, leb, ltb}
+use Rattle.std.specs.Prelude.{ℕ, cond, List, ◌++◌, length, drop, leb, ltb, Ok, Err}
 use Rattle.rules.specs.Checked.{checked}
 use Rattle.library.specs.Library.{Library, library_of}
 use Rattle.image.specs.declared.answer.Head.{Head}
 use Rattle.image.specs.declared.answer.Refusal.{Refusal}
 use Rattle.image.specs.declared.answer.Refusal.TheVariants.{Sequence, Question, Fact, ChainArea}
-use Rattle.image.specs.declared.answer.Checked.{Checked}
-use Rattle.image.specs.declared.answer.Checked.TheVariants.{Accepted, Refused}
 use Rattle.runs.specs.Touch.{question_of}
 use Rattle.chains.specs.Link.{chain_words}
 use Rattle.chains.specs.Answer.{Answer, none, shown, answer}
+use Rattle.image.specs.Answer.{Checked}
 
 -- what the chain call comes to: a refusal, or the answer to the question
 pub data Reply : Type 0 where
@@ -30,8 +29,8 @@ asked_of h L c q f room =
 
 -- "The check meets 1 to 7, .. the chain 1 to 7 and 9 to 12."
 abbrev pub after_check : Checked → List ℕ → ℕ → ℕ → ℕ → ℕ → Reply
-after_check (Refused r) image c q f room = refused r
-after_check (Accepted h) image c q f room = asked_of h (library_of image) c q f room
+after_check (Err r) image c q f room = refused r
+after_check (Ok h) image c q f room = asked_of h (library_of image) c q f room
 
 -- the chain call on an image, a sequence, a question, a fact and an area of so many words
 unfoldable pub chained : List ℕ → ℕ → ℕ → ℕ → ℕ → Reply

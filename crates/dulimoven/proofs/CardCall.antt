@@ -16,7 +16,6 @@ use Rattle.library.specs.Library.{library_of}
 use Rattle.image.specs.declared.answer.Head.{Head}
 use Rattle.image.specs.declared.answer.Refusal.{Refusal}
 use Rattle.image.specs.declared.answer.Refusal.TheVariants.{CardArea}
-use Rattle.image.specs.declared.answer.Checked.{Checked}
 use Rattle.library.proofs.Accepted.{faultless, counted}
 use Rattle.card.specs.Answer.{cards_given, area_with, cards_answer}
 use Rattle.cards.specs.Layout.{column_width, card_words}
@@ -27,9 +26,11 @@ use Rattle.dulimoven.specs.CardCall.{CardsRefused, by_image, by_area, CardsRetur
 use Rattle.dulimoven.specs.Demands.{Refuses}
 use Rattle.dulimoven.specs.Engine.{engine}
 use Rattle.dulimoven.proofs.Refusals.{refusal_high}
+use Rattle.std.specs.Prelude.{Ok, Err}
+use Rattle.image.specs.Answer.{Checked}
 
 -- an accepted library has no more facts than a column has room for
-pub few_facts : (image : List ℕ) (h : Head) → checked image ≡ Checked.Accepted h → (library_of image).facts ≤ column_width
+pub few_facts : (image : List ℕ) (h : Head) → checked image ≡ Ok h → (library_of image).facts ≤ column_width
 few_facts image h e = omega (arith, (counted image h e).facts, (faultless image h e).facts_high)
 
 module _ (image area : List ℕ) where
@@ -45,15 +46,15 @@ module _ (image area : List ℕ) where
   pub cards_return : CardsReturn image area (engine.cards image area)
   cards_return = go (checked image) refl
     where
-      room : (h : Head) → checked image ≡ Checked.Accepted h → (b : Bool) → ltb (length area) (card_words * h.sequences) ≡ b → CardsReturn image area (cards_if h b)
+      room : (h : Head) → checked image ≡ Ok h → (b : Bool) → ltb (length area) (card_words * h.sequences) ≡ b → CardsReturn image area (cards_if h b)
       room h e true t = refused CardArea (by_area h e (ltb-true (length area) (card_words * h.sequences) t)) refl
       room h e false t =
           filled h e (ltb-false (length area) (card_words * h.sequences) t) (cards (library_of image))
           (all_cards (library_of image) (few_facts image h e)) refl
 
       go : (k : Checked) → checked image ≡ k → CardsReturn image area (cards_by k)
-      go (Checked.Refused why) e = refused why (by_image e) refl
-      go (Checked.Accepted h) e = room h e (ltb (length area) (card_words * h.sequences)) refl
+      go (Err why) e = refused why (by_image e) refl
+      go (Ok h) e = room h e (ltb (length area) (card_words * h.sequences)) refl
 
   pub cards_only : (r : Returned) → CardsReturn image area r → r ≡ engine.cards image area
   cards_only r (refused why k is) = is ∙ go why k

@@ -15,7 +15,6 @@ use Rattle.library.specs.Library.{library_of}
 use Rattle.image.specs.declared.answer.Head.{Head}
 use Rattle.image.specs.declared.answer.Refusal.{Refusal}
 use Rattle.image.specs.declared.answer.Refusal.TheVariants.{Sequence, Question, Fact, ChainArea}
-use Rattle.image.specs.declared.answer.Checked.{Checked}
 use Rattle.library.proofs.Accepted.{faultless, counted}
 use Rattle.runs.specs.Touch.{question_of}
 use Rattle.chains.specs.Link.{Chain, chain_words}
@@ -34,6 +33,8 @@ use Rattle.dulimoven.specs.ChainCall as cases
 use Rattle.dulimoven.specs.Demands.{Refuses}
 use Rattle.dulimoven.specs.Engine.{engine, replied}
 use Rattle.dulimoven.proofs.Refusals.{refusal_high}
+use Rattle.std.specs.Prelude.{Ok, Err}
+use Rattle.image.specs.Answer.{Checked}
 
 -- a chain that answers has a link, and no more than 256
 few_links : (image : List ℕ) (c q f : ℕ) → Asked image c q f → (ls : Chain) → Answers image c q f ls → (1 ≤ length ls) × (length ls ≤ 256)
@@ -51,7 +52,7 @@ module _ (image : List ℕ) (c q f : ℕ) (area : List ℕ) where
   abbrev tested : Reply → Bool → Bool → Bool → Reply
   tested reply s t u = cond s (cond t (cond u reply (call.refused Fact)) (call.refused Question)) (call.refused Sequence)
 
-  module _ (h : Head) (e : checked image ≡ Checked.Accepted h) where
+  module _ (h : Head) (e : checked image ≡ Ok h) where
     room_return : Asked image c q f → (ls : Chain) → answer (library_of image) (question_of q) c f ≡ rank.shown ls → (b : Bool)
         → leb (length (chain_words ls)) (length area) ≡ b → ChainReturn image c q f area (replied (cond b (answered (rank.shown ls)) (call.refused ChainArea)) area)
     room_return asked ls known true t =
@@ -91,8 +92,8 @@ module _ (image : List ℕ) (c q f : ℕ) (area : List ℕ) where
   chain_return = go (checked image) refl
     where
       go : (k : Checked) → checked image ≡ k → ChainReturn image c q f area (replied (after_check k image c q f (length area)) area)
-      go (Checked.Refused why) e = cases.refused why (cases.by_image e) refl
-      go (Checked.Accepted h) e = tests_return h e (ltb c h.sequences) (leb q 5) (ltb f h.facts) refl refl refl
+      go (Err why) e = cases.refused why (cases.by_image e) refl
+      go (Ok h) e = tests_return h e (ltb c h.sequences) (leb q 5) (ltb f h.facts) refl refl refl
 
   -- what the call comes to, in each case
   asked_reply : Asked image c q f → (a : Answer) → answer (library_of image) (question_of q) c f ≡ a → chained image c q f (length area) ≡ in_area (length area) a

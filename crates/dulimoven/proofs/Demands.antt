@@ -13,7 +13,6 @@ use Rattle.rules.specs.Checked.{checked}
 use Rattle.library.specs.Library.{Library, library_of, Item}
 use Rattle.image.specs.declared.answer.Head.{Head}
 use Rattle.image.specs.declared.answer.Refusal.{Refusal}
-use Rattle.image.specs.declared.answer.Checked.{Checked}
 use Rattle.library.proofs.Accepted.{faultless, counted}
 use Rattle.library.proofs.Rows.{all_at}
 use Rattle.runs.specs.Run.{Run}
@@ -41,15 +40,17 @@ use Rattle.dulimoven.proofs.CardCall.{few_facts, cards_return, cards_only, cards
 use Rattle.dulimoven.proofs.ChainCall.{chain_return, chain_only, chain_told, chain_kept, none_kept}
 use Rattle.dulimoven.proofs.ListCall.{list_return, list_only, list_told, list_kept}
 use Rattle.dulimoven.proofs.EndlessCall.{endless_return, endless_only, endless_told, endless_kept}
+use Rattle.std.specs.Prelude.{Ok, Err}
+use Rattle.image.specs.Answer.{Checked}
 
 -- ---- demand 1
 
-check_told : (image : List ℕ) → Refuses (checked_answer (checked image)) ↔ ((r : Refusal) × (checked image ≡ Checked.Refused r))
+check_told : (image : List ℕ) → Refuses (checked_answer (checked image)) ↔ ((r : Refusal) × (checked image ≡ Err r))
 check_told image = go (checked image) refl
   where
-    go : (k : Checked) → checked image ≡ k → Refuses (checked_answer k) ↔ ((r : Refusal) × (k ≡ Checked.Refused r))
-    go (Checked.Refused r) e = ((λ high. (r, refl)), λ told. refusal_high r)
-    go (Checked.Accepted h) e =
+    go : (k : Checked) → checked image ≡ k → Refuses (checked_answer k) ↔ ((r : Refusal) × (k ≡ Err r))
+    go (Err r) e = ((λ high. (r, refl)), λ told. refusal_high r)
+    go (Ok h) e =
         let good = faultless image h e in (
           (λ high. absurd (omega (arith, good.facts_high, good.steps_high, good.sequences_high))),
           λ (r, told). let no : ◌≡◌ {A = ℕ} 0 1 = cc in absurd (omega arith),
@@ -187,7 +188,7 @@ asked_low set q asks = ⊎_elim (λ e. omega arith) (λ e. omega arith) asks
 asked_low cleared q asks = ⊎_elim (λ e. omega arith) (λ e. omega arith) asks
 
 -- what the chain call leaves where some run has the outcome of a question about a broken rule
-gets : (image : List ℕ) (h : Head) → checked image ≡ Checked.Accepted h → (c : ℕ) → c < count (library_of image) → (a : Always)
+gets : (image : List ℕ) (h : Head) → checked image ≡ Ok h → (c : ℕ) → c < count (library_of image) → (a : Always)
     (f : Fact (library_of image)) (w : List Item) → Run (library_of image) c w → (q : ℕ) → Asks a q
     → HasOutcome (library_of image) (question_of q) f.0 w → (area : List ℕ) → 2 * count (library_of image) ≤ length area
     → (links : Chain) × Links area (engine.chain image c q f.0 area) links × Proves (library_of image) c a f.0 q links

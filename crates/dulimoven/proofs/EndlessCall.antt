@@ -16,7 +16,6 @@ use Rattle.library.specs.Library.{Library, library_of}
 use Rattle.image.specs.declared.answer.Head.{Head}
 use Rattle.image.specs.declared.answer.Refusal.{Refusal}
 use Rattle.image.specs.declared.answer.Refusal.TheVariants as refusal
-use Rattle.image.specs.declared.answer.Checked.{Checked}
 use Rattle.library.proofs.Accepted.{faultless, counted}
 use Rattle.runs.specs.Possible.{has_run}
 use Rattle.runs.proofs.Columns.{has_run_iff, no_run_iff}
@@ -29,6 +28,8 @@ use Rattle.dulimoven.specs.EndlessCall.{Asked, EndlessRefused, by_image, by_sequ
 use Rattle.dulimoven.specs.Demands.{Refuses}
 use Rattle.dulimoven.specs.Engine.{engine}
 use Rattle.dulimoven.proofs.Refusals.{refusal_high}
+use Rattle.std.specs.Prelude.{Ok, Err}
+use Rattle.image.specs.Answer.{Checked}
 
 -- a list of an accepted image has no more members than the image can have sequences
 pub few_listed : (image : List ℕ) (c : ℕ) → Asked image c → (xs : List ℕ) → Listed (library_of image) c xs → length xs ≤ 256
@@ -77,16 +78,16 @@ module _ (image : List ℕ) (c : ℕ) (area : List ℕ) where
       run asked true has = refused refusal.HasRun (by_run asked ((has_run_iff L c).0 has)) refl
       run asked false none = room asked none short refl
 
-      low : (h : Head) → checked image ≡ Checked.Accepted h → (b : Bool) → ltb c h.sequences ≡ b → EndlessReturn image c area (endless_if b (has_run L c) short)
+      low : (h : Head) → checked image ≡ Ok h → (b : Bool) → ltb c h.sequences ≡ b → EndlessReturn image c area (endless_if b (has_run L c) short)
       low h e true t = run (record { head = h; accepted = e; sequence = ltb-true c h.sequences t }) (has_run L c) refl
       low h e false t = refused refusal.Sequence (by_sequence h e (ltb-false c h.sequences t)) refl
 
       go : (k : Checked) → checked image ≡ k → EndlessReturn image c area (endless_by k)
-      go (Checked.Refused why) e = refused why (by_image e) refl
-      go (Checked.Accepted h) e = low h e (ltb c h.sequences) refl
+      go (Err why) e = refused why (by_image e) refl
+      go (Ok h) e = low h e (ltb c h.sequences) refl
 
   -- what an accepted image gives, by the tests
-  accepted_gives : (h : Head) → checked image ≡ Checked.Accepted h → {low run long : Bool} → ltb c h.sequences ≡ low → has_run L c ≡ run → short ≡ long
+  accepted_gives : (h : Head) → checked image ≡ Ok h → {low run long : Bool} → ltb c h.sequences ≡ low → has_run L c ≡ run → short ≡ long
       → endless_if low run long ≡ engine.endless image c area
   accepted_gives h e l r s =
       (λ i. endless_if (sym l i) (sym r i) (sym s i)) ∙ ap endless_by (sym e)

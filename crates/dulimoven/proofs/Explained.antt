@@ -12,7 +12,6 @@ use Rattle.rules.specs.Checked.{checked}
 use Rattle.library.specs.Library.{Library, library_of}
 use Rattle.image.specs.declared.answer.Head.{Head}
 use Rattle.image.specs.declared.answer.Refusal.{Refusal}
-use Rattle.image.specs.declared.answer.Checked.{Checked}
 use Rattle.library.proofs.Accepted.{counted}
 use Rattle.runs.specs.Run.{HasRun, NoRun}
 use Rattle.endings.specs.Endless.{Endless, Listed, itself}
@@ -27,9 +26,10 @@ use Rattle.dulimoven.specs.Engine.{engine}
 use Rattle.dulimoven.proofs.Refusals.{refusal_high}
 use Rattle.dulimoven.proofs.EndlessCall.{few_listed}
 use Rattle.dulimoven.proofs.Demands.{total, columns}
+use Rattle.std.specs.Prelude.{Ok, Err}
 
 -- an image is not both refused and accepted
-apart : (image : List ℕ) (h : Head) (why : Refusal) → checked image ≡ Checked.Accepted h → checked image ≡ Checked.Refused why → ⊥
+apart : (image : List ℕ) (h : Head) (why : Refusal) → checked image ≡ Ok h → checked image ≡ Err why → ⊥
 apart image h why a r = let no : ◌≡◌ {A = ℕ} 0 1 = cc in omega arith
 
 -- the list of an accepted image
@@ -55,9 +55,9 @@ module _ (image : List ℕ) (c : ℕ) (area : List ℕ) (r : Returned) where
   return_reason (listed asked none xs all room same) low =
       subst (Reason L c) (sym (take-append_seam xs (drop (length xs) area)) ∙ ap found (sym same)) (list_reason image c asked none xs all)
 
-  module _ (h : Head) (accepted : checked image ≡ Checked.Accepted h) where
+  module _ (h : Head) (accepted : checked image ≡ Ok h) where
     -- the heads of one image are one
-    same_count : (k : Head) → checked image ≡ Checked.Accepted k → k.sequences ≡ count L
+    same_count : (k : Head) → checked image ≡ Ok k → k.sequences ≡ count L
     same_count k e = sym (counted image k e).sequences
 
     return_enough : Endless L c → count L ≤ length area → EndlessReturn image c area r → ¬ Refuses r.number

@@ -12,8 +12,7 @@ use Rattle.image.specs.Word.{most_words}
 use Rattle.image.specs.declared.answer.Refusal.{Refusal}
 use Rattle.image.specs.declared.answer.Refusal.TheVariants.{Length}
 use Rattle.rules.specs.Checked.{all_but_last, last_word}
-use Rattle.seal.specs.Answer.{seal_answer, sum_word, with_sum, image_after}
-use Rattle.seal.specs.declared.answer.Sealing.{Sealing}
+use Rattle.seal.specs.Answer.{Sealing, seal_answer, sum_word, with_sum, image_after}
 use Rattle.seal.proofs.Called.{sealing_short, sealing_long, sealing_sealed}
 use Rattle.seal.proofs.Right.{earlier_snoc, image_split, sum_word_is}
 use Rattle.dulimoven.specs.Returned.{Returned, returned, turned_down}

@@ -12,7 +12,6 @@ use Rattle.image.specs.Answer.{checked_answer}
 use Rattle.image.specs.Word.{most_words}
 use Rattle.image.specs.declared.answer.Head.{Head}
 use Rattle.image.specs.declared.answer.Refusal.TheVariants.{Length}
-use Rattle.image.specs.declared.answer.Checked.{Checked}
 use Rattle.rules.specs.Checked.{checked}
 use Rattle.rules.proofs.Checked.{refused_short, refused_long}
 use Rattle.library.proofs.Accepted.{checks, faultless}
@@ -25,19 +24,21 @@ use Rattle.dulimoven.specs.Sealed.{Sealer, SealDemand, Seals}
 use Rattle.dulimoven.specs.Engine.{engine, sealer}
 use Rattle.dulimoven.proofs.SealCall.{seal_only, seal_writes, sealer_met}
 use Rattle.dulimoven.proofs.Demands.{total}
+use Rattle.std.specs.Prelude.{Ok, Err}
+use Rattle.image.specs.Answer.{Checked}
 
 -- an answer that is not 2, as a number
 not_two : (image : List ℕ) → NotTwo (checked image) → checked_answer (checked image) / 2 ^ 32 ≢ 2
 not_two image other = go (checked image) refl other
   where
     go : (k : Checked) → checked image ≡ k → NotTwo k → checked_answer k / 2 ^ 32 ≢ 2
-    go (Checked.Refused r) e not = not
-    go (Checked.Accepted h) e not =
+    go (Err r) e not = not
+    go (Ok h) e not =
         let good = faultless image h e in λ two. omega (arith, good.facts_high, good.steps_high, good.sequences_high)
 
 module _ (image : List ℕ) where
   -- an image that is refused 1 by both calls, or one that is sealed
-  sized : ((sealer image ≡ turned_down Length image) × (checked image ≡ Checked.Refused Length)) ⊎ ((2 ≤ length image) × (length image ≤ most_words))
+  sized : ((sealer image ≡ turned_down Length image) × (checked image ≡ Err Length)) ⊎ ((2 ≤ length image) × (length image ≤ most_words))
   sized =
       by_cases (dec_lt (length image) 2)
       (λ l. inl (sym (seal_only image _ (refused Length (too_short l) refl)), sym (refused_short image l)))
@@ -64,7 +65,7 @@ module _ (image : List ℕ) where
       ∙ sym (seal_writes image low high))
       sized
 
-seal_keeps : (image : List ℕ) (h : Head) → checked image ≡ Checked.Accepted h → sealer image ≡ returned 0 image
+seal_keeps : (image : List ℕ) (h : Head) → checked image ≡ Ok h → sealer image ≡ returned 0 image
 seal_keeps image h e =
     let c = checks image h e in
     let low = c.low in

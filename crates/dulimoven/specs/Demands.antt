@@ -1,13 +1,12 @@
 -- The three demands, as one statement over what a caller of the calls sees: the numbers that they answer, and the words in the areas
 -- that were lent to them. The sentences are quoted from the demands and from document 01.
-use Rattle.std.specs.Prelude.{ℕ, ◌*◌, ◌^◌, ◌≤◌, ◌<◌, ◌≡◌, ◌↔◌, ◌⊎◌, List, length, get_or}
+use Rattle.std.specs.Prelude.{ℕ, ◌*◌, ◌^◌, ◌≤◌, ◌<◌, ◌≡◌, ◌↔◌, ◌⊎◌, List, length, get_or, Ok, Err}
 use Rattle.image.specs.Word.{payload}
 use Rattle.image.specs.Answer.{checked_answer}
 use Rattle.rules.specs.Checked.{checked, first_word}
 use Rattle.library.specs.Library.{Library, library_of, Item}
 use Rattle.image.specs.declared.answer.Head.{Head}
 use Rattle.image.specs.declared.answer.Refusal.{Refusal}
-use Rattle.image.specs.declared.answer.Checked.{Checked}
 use Rattle.runs.specs.Run.{Run}
 use Rattle.runs.specs.Execution.{Fact, State, Executes}
 use Rattle.runs.specs.Touch.{question_of, HasOutcome}
@@ -46,7 +45,7 @@ pub record Demand1 (e : Engine) : Type 0 where
   -- 14 and 15 of the list call, 16 and 17 of the endless call
   pub check : (image : List ℕ) → e.check image ≡ checked_answer (checked image)
   -- "otherwise the head's payload from the check"
-  pub head : (image : List ℕ) (h : Head) → checked image ≡ Checked.Accepted h → e.check image ≡ payload (first_word image)
+  pub head : (image : List ℕ) (h : Head) → checked image ≡ Ok h → e.check image ≡ payload (first_word image)
   -- ".. cards, .."
   pub cards : (image area : List ℕ) → CardsReturn image area (e.cards image area)
   -- ".. a chain, "none", .."
@@ -66,7 +65,7 @@ pub record Demand1 (e : Engine) : Type 0 where
   -- ""none" writes nothing", "0 there for "none""
   pub none_kept : (image : List ℕ) (c q f : ℕ) (area : List ℕ) → (e.chain image c q f area).number ≡ 0 → (e.chain image c q f area).area ≡ area
   -- the caller can tell a refusal by the number
-  pub check_told : (image : List ℕ) → Refuses (e.check image) ↔ ((r : Refusal) × (checked image ≡ Checked.Refused r))
+  pub check_told : (image : List ℕ) → Refuses (e.check image) ↔ ((r : Refusal) × (checked image ≡ Err r))
   pub cards_told : (image area : List ℕ) → Refuses (e.cards image area).number ↔ ((r : Refusal) × CardsRefused image (length area) r)
   pub chain_told : (image : List ℕ) (c q f : ℕ) (area : List ℕ)
       → Refuses (e.chain image c q f area).number ↔ ((r : Refusal) × ChainRefused image c q f (length area) r)
@@ -84,7 +83,7 @@ count L = length L.sequences
 -- "For every accepted library", with a card area that has room: 49 × C words (document 02, request 8)
 pub record Ready (image area : List ℕ) : Type 0 where
   pub head : Head
-  pub accepted : checked image ≡ Checked.Accepted head
+  pub accepted : checked image ≡ Ok head
   pub room : card_words * count (library_of image) ≤ length area
 
 pub record Demand2 (e : Engine) : Type 0 where

@@ -1,9 +1,8 @@
 -- Why a sequence has no run, as a caller of the calls sees it (document 02, request 7): what the list in the area says of the library's runs.
-use Rattle.std.specs.Prelude.{ℕ, ◌*◌, ◌^◌, ◌≤◌, ◌<◌, ◌≡◌, ◌↔◌, length, take}
+use Rattle.std.specs.Prelude.{ℕ, ◌*◌, ◌^◌, ◌≤◌, ◌<◌, ◌≡◌, ◌↔◌, length, take, Ok}
 use mathlib.Core.List.{List, Memᴰ}
 use Rattle.column.specs.Column.{bit}
 use Rattle.image.specs.declared.answer.Head.{Head}
-use Rattle.image.specs.declared.answer.Checked.{Checked}
 use Rattle.rules.specs.Checked.{checked}
 use Rattle.library.specs.Library.{Library, library_of}
 use Rattle.cards.specs.Area.{part_word}
@@ -32,7 +31,7 @@ pub record Explains (e : Engine) : Type 0 where
   pub reason : (image : List ℕ) (c : ℕ) (area : List ℕ) → ¬ Refuses (e.endless image c area).number
       → Reason (library_of image) c (found (e.endless image c area))
   -- an area with a word for each sequence is enough, for every sequence without a run
-  pub enough : (image area : List ℕ) (h : Head) → checked image ≡ Checked.Accepted h → (c : ℕ) → Endless (library_of image) c
+  pub enough : (image area : List ℕ) (h : Head) → checked image ≡ Ok h → (c : ℕ) → Endless (library_of image) c
       → count (library_of image) ≤ length area → ¬ Refuses (e.endless image c area).number
   -- "16 where the sequence has a run": where its card has bit 0, "a run exists", and only there
   pub told : (image area cards : List ℕ) → Ready image cards → (c : ℕ) → c < count (library_of image)

@@ -1,9 +1,8 @@
 -- The seal call, for authors, beside the calls of an engine: what its caller sees, what demand 1's sentences ask of it, and what the check and a second
 -- sealing make of a sealed image.
-use Rattle.std.specs.Prelude.{ℕ, ◌/◌, ◌^◌, ◌≡◌, ◌≢◌, ◌↔◌, List}
+use Rattle.std.specs.Prelude.{ℕ, ◌/◌, ◌^◌, ◌≡◌, ◌≢◌, ◌↔◌, List, Ok}
 use Rattle.image.specs.declared.answer.Head.{Head}
 use Rattle.image.specs.declared.answer.Refusal.{Refusal}
-use Rattle.image.specs.declared.answer.Checked.{Checked}
 use Rattle.rules.specs.Checked.{checked}
 use Rattle.dulimoven.specs.Returned.{Returned, returned}
 use Rattle.dulimoven.specs.SealCall.{SealRefused, SealReturn}
@@ -28,6 +27,6 @@ pub record Seals (check : List ℕ → ℕ) (seal : Sealer) : Type 0 where
   -- position P"
   pub right : (image : List ℕ) → check (seal image).area / 2 ^ 32 ≢ 2
   -- an accepted image stays as it is
-  pub kept : (image : List ℕ) (h : Head) → checked image ≡ Checked.Accepted h → seal image ≡ returned 0 image
+  pub kept : (image : List ℕ) (h : Head) → checked image ≡ Ok h → seal image ≡ returned 0 image
   -- to seal twice is to seal once
   pub twice : (image : List ℕ) → seal (seal image).area ≡ seal image

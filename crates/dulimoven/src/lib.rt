@@ -12,7 +12,7 @@ use writer::block::CARD_WORDS;
 pub fn dulimoven_check(image: &[u32]) -> u64
     ensures { result ≡ engine.check image.now }
 {
-    image::answer::checked_answer(reader::check::check(image))
+    image::answer::answer_number(reader::check::check(image))
 }
 
 // The cards: C with the cards of all sequences written, 49 words a sequence, or N × 2^32 + P for refusal N at position P with the area as
@@ -63,5 +63,5 @@ pub fn dulimoven_endless(image: &[u32], sequence: u64, area: &mut [u32]) -> u64
 pub fn dulimoven_seal(image: &mut [u32]) -> u64
     ensures { returned result image.new ≡ sealer image.old }
 {
-    seal::answer::seal_answer(seal::call::seal(image))
+    image::answer::answer_number(seal::call::seal(image))
 }

@@ -12,7 +12,6 @@ use borrow.Author.Tests.{eq-eqb, eqb-true}
 use Rattle.general.specs.Tests.{All, some}
 use Rattle.general.proofs.Tests.{some_found, some_intro, some_place, some_at, all_default, all_in_lem}
 use Rattle.image.specs.declared.answer.Head.{Head}
-use Rattle.image.specs.declared.answer.Checked.{Checked}
 use Rattle.rules.specs.Checked.{checked}
 use Rattle.library.specs.Library.{Library, Alternative, Sequence, Entry, item, call, library_of}
 use Rattle.library.specs.Calls.{is_call_of, calls_of}
@@ -20,6 +19,7 @@ use Rattle.library.specs.Accepted.{Named}
 use Rattle.library.proofs.Accepted.{counted}
 use Rattle.runs.specs.Run.{alternatives_of}
 use Rattle.endings.specs.Endless.{Names}
+use Rattle.std.specs.Prelude.{Ok}
 
 -- an entry, an alternative, a sequence
 pub is_call_iff : (d : ℕ) (e : Entry) → (is_call_of d e ≡ true) ↔ (call d ≡ e)
@@ -46,7 +46,7 @@ names_iff L c d = (
     alternatives = alternatives_of L.sequences c
 
 -- each entry of an accepted image that names a sequence names one of its library
-pub accepted_names : (image : List ℕ) (h : Head) → checked image ≡ Checked.Accepted h → (d e : ℕ) → Names (library_of image) d e
+pub accepted_names : (image : List ℕ) (h : Head) → checked image ≡ Ok h → (d e : ℕ) → Names (library_of image) d e
     → e < length (library_of image).sequences
 accepted_names image h accepted d e names =
     let known = counted image h accepted in

@@ -14,7 +14,7 @@ use Rattle.general.proofs.Rising.{passing_same}
 use Rattle.image.specs.declared.answer.Head.{Head}
 use Rattle.image.specs.declared.answer.Refusal.{Refusal}
 use Rattle.image.specs.declared.answer.Refusal.TheVariants.{Sequence, HasRun, ListArea}
-use Rattle.image.specs.declared.answer.Checked.{Checked}
+use Rattle.image.specs.Answer.{Checked}
 use Rattle.std.specs.Prelude.{Result, Ok, Err}
 use Rattle.rules.specs.Checked.{Accepts, checked}
 use Rattle.library.specs.Library.{Library, Alternative, library_of, sequences_part}
@@ -134,17 +134,17 @@ module _ (image : List ℕ) (c : ℕ) (area : List ℕ) where
         area = words ∙ ap (λ (x : Checked). area_after (after_check x image c (length area)) (library_of image) c area) (sym e);
       }
 
-  pub called_refused : (r : Refusal) → checked image ≡ Checked.Refused r → EndlessCalled image c area (Err r) area
-  called_refused r e = called_by (Checked.Refused r) e (Err r) area refl refl
+  pub called_refused : (r : Refusal) → checked image ≡ Err r → EndlessCalled image c area (Err r) area
+  called_refused r e = called_by (Err r) e (Err r) area refl refl
 
-  module _ (h : Head) (e : checked image ≡ Checked.Accepted h) where
+  module _ (h : Head) (e : checked image ≡ Ok h) where
     abbrev within : Bool → Result ℕ Refusal
     within b = cond b (explained (library_of image) c (length area)) (Err Sequence)
 
     called_accepted : (b : Bool) → ltb c h.sequences ≡ b → (found : Result ℕ Refusal) (after : List ℕ) → found ≡ within b
         → after ≡ area_after (within b) (library_of image) c area → EndlessCalled image c area found after
     called_accepted b low found after answer words =
-        called_by (Checked.Accepted h) e found after (answer ∙ ap within (sym low)) (words ∙ ap (λ (x : Bool). area_after (within x) (library_of image) c area) (sym low))
+        called_by (Ok h) e found after (answer ∙ ap within (sym low)) (words ∙ ap (λ (x : Bool). area_after (within x) (library_of image) c area) (sym low))
 
     pub called_past : h.sequences ≤ c → EndlessCalled image c area (Err Sequence) area
     called_past past = called_accepted false (le-ltb c h.sequences past) (Err Sequence) area refl refl

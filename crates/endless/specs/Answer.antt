@@ -4,7 +4,7 @@ use Rattle.std.specs.Prelude.{ℕ, ◌≡◌, cond, List, ◌++◌, length, drop
 use Rattle.image.specs.Answer.{refusal_answer}
 use Rattle.image.specs.declared.answer.Refusal.{Refusal}
 use Rattle.image.specs.declared.answer.Refusal.TheVariants.{Sequence, HasRun, ListArea}
-use Rattle.image.specs.declared.answer.Checked.{Checked}
+use Rattle.image.specs.Answer.{Checked}
 use Rattle.rules.specs.Checked.{checked}
 use Rattle.library.specs.Library.{Library, library_of}
 use Rattle.runs.specs.Possible.{has_run}
@@ -23,8 +23,8 @@ explained L c room =
 
 -- 9: "The sequence asked about is not below C."
 abbrev pub after_check : Checked → List ℕ → ℕ → ℕ → Result ℕ Refusal
-after_check (Checked.Refused r) image c room = Err r
-after_check (Checked.Accepted h) image c room = cond (ltb c h.sequences) (explained (library_of image) c room) (Err Sequence)
+after_check (Err r) image c room = Err r
+after_check (Ok h) image c room = cond (ltb c h.sequences) (explained (library_of image) c room) (Err Sequence)
 
 -- "Like every later call over an image, this one meets 1 to 7 first."
 abbrev pub endless_for : List ℕ → ℕ → ℕ → Result ℕ Refusal

@@ -6,7 +6,7 @@ ghost use Rattle.endless.specs.Answer.{EndlessCalled, Explains};
 ghost use Rattle.endless.specs.Marked.{Marked};
 
 use callers::sets::Set;
-use image::answer::{Checked, Refusal};
+use image::answer::Refusal;
 use library::checked::Accepted;
 use reach::found::reach;
 use reach::members::write_members;
@@ -64,8 +64,6 @@ fn ask(accepted: &Accepted, sequence: u64, area: &mut [u32]) -> Result<usize, Re
 pub fn endless(image: &[u32], sequence: u64, area: &mut [u32]) -> Result<usize, Refusal>
     ensures { EndlessCalled image.now sequence area.old result area.new }
 {
-    match check(image) {
-        Checked::Refused(r) => Err(r),
-        Checked::Accepted(head) => ask(&Accepted { image, head }, sequence, area),
-    }
+    let head = check(image)?;
+    ask(&Accepted { image, head }, sequence, area)
 }

@@ -3,11 +3,13 @@
 use Prim.Native.Nat.{ℕ, zero, suc, ◌/◌, ◌%◌, ◌^◌, ◌≤◌, ◌<◌}
 use lib.Dec.{eqb, leb}
 use native.Mathlib.Omega.{arith}
-use mathlib.Core.Path.{◌≡◌, refl}
+use mathlib.Core.Path.{◌≡◌, refl, sym}
 use mathlib.Core.Bool.{Bool, true, false, ◌||◌}
 use mathlib.Core.Logic.{◌⊎◌, inl, inr, ⊎_elim}
-use borrow.Author.Tests.{eqb-true, eqb-false}
+use borrow.Author.Tests.{eqb-true, eqb-false, ne_eqb}
 use Rattle.image.specs.Word.{kind, is_kind, is_fact, is_entry}
+use Rattle.image.specs.Kinds.{kind_number}
+use Rattle.image.specs.declared.word.Kind.{Kind}
 use Rattle.general.proofs.Bools.{or_cases}
 
 -- a fact word is of kind 2, 3 or 4
@@ -70,3 +72,7 @@ kind_bit (suc (suc (suc (suc (suc (suc (suc (suc (suc (suc (suc (suc (suc (suc (
 
 pub entry_bit : (w : ℕ) → w < 2 ^ 32 → eqb (0x2300 / 2 ^ kind w % 2) 1 ≡ is_entry w
 entry_bit w l = kind_bit (kind w) (omega arith)
+
+-- a word whose kind no kind has is of none
+pub no_kind : (w : ℕ) → ((k : Kind) → kind_number k ≡ kind w → ⊥) → (k : Kind) → is_kind (kind_number k) w ≡ false
+no_kind w none k = ne_eqb (kind w) (kind_number k) (λ e. none k (sym e))

@@ -1,12 +1,10 @@
 -- The numbers of the answers, as documents 01 and 02 give them: "For each case of an enum answer, a definition gives this paper's
 -- number and values."
-use Rattle.std.specs.Prelude.{ℕ, ◌+◌, ◌*◌, ◌^◌}
+use Rattle.std.specs.Prelude.{ℕ, ◌+◌, ◌*◌, ◌^◌, Result, Ok, Err}
 use Rattle.image.specs.declared.answer.Head.{Head}
 use Rattle.image.specs.declared.answer.Refusal.{Refusal}
 use Rattle.image.specs.declared.answer.Refusal.TheVariants.{Length, SumWord, HeadWord, Kind, Payload, FactOrder, Missing, CardArea, Sequence, Question, Fact, ChainArea, SetAndCleared}
 use Rattle.image.specs.declared.answer.Refusal.TheVariants.{ListLength, Member, HasRun, ListArea}
-use Rattle.image.specs.declared.answer.Checked.{Checked}
-use Rattle.image.specs.declared.answer.Checked.TheVariants.{Accepted, Refused}
 
 -- "Turned down, in checking order"; document 02: "Demand 1 and document 01's list take in the answers that requests add". 13 comes
 -- after 6 in that order; 14 and 15 are of a list, 16 and 17 of a sequence without a run
@@ -58,7 +56,15 @@ refusal_answer r = refusal_number r * 2 ^ 32 + refusal_position r
 abbrev pub head_payload : Head → ℕ
 head_payload h = h.facts + h.steps * 2 ^ 9 + h.sequences * 2 ^ 19
 
--- "It gets one 64-bit number: N × 2^32 + P for refusal N at position P, otherwise the head's payload from the check"
+-- what the check comes to: the head of a library, or the first refusal that applies
+abbrev pub Checked : Type 0
+Checked = Result Head Refusal
+
+-- "It gets one 64-bit number: N × 2^32 + P for refusal N at position P", otherwise the number of what the call finds
+abbrev pub answer_number : {T : Type 0} → (T → ℕ) → Result T Refusal → ℕ
+answer_number number (Ok found) = number found
+answer_number number (Err r) = refusal_answer r
+
+-- "otherwise the head's payload from the check"
 abbrev pub checked_answer : Checked → ℕ
-checked_answer (Accepted h) = head_payload h
-checked_answer (Refused r) = refusal_answer r
+checked_answer = answer_number head_payload

@@ -1,6 +1,6 @@
 // What the calls answer with: the head, the refusals of document 01, and the 64-bit numbers that the C side gets.
-ghost use Rattle.std.specs.Prelude.{◌≡◌, ◌^◌, ◌<◌};
-ghost use Rattle.image.specs.Answer.{refusal_number, refusal_position, refusal_answer, head_payload, checked_answer};
+ghost use Rattle.std.specs.Prelude.{ℕ, ◌≡◌, ◌^◌, ◌<◌};
+ghost use Rattle.image.specs.Answer.{refusal_number, refusal_position, refusal_answer, head_payload, answer_number};
 
 use crate::word::{SEQUENCES_FROM, STEPS_FROM};
 
@@ -54,83 +54,130 @@ pub enum Refusal {
     ListArea,
 }
 
-// What the check finds: the head of a library, or the first refusal that applies.
-#[derive(Clone, Copy)]
-pub enum Checked {
-    Accepted(Head),
-    Refused(Refusal),
-}
-
-// The number of a refusal, as the documents give it.
-pub fn number(refusal: Refusal) -> u64
-    ensures { (result ≡ refusal_number refusal) × (result < 2 ^ 32) }
-{
-    match refusal {
-        Refusal::Length => 1,
-        Refusal::SumWord(_) => 2,
-        Refusal::HeadWord => 3,
-        Refusal::Kind(_) => 4,
-        Refusal::Payload(_) => 5,
-        Refusal::FactOrder(_) => 6,
-        Refusal::Missing(_) => 7,
-        Refusal::CardArea => 8,
-        Refusal::Sequence => 9,
-        Refusal::Question => 10,
-        Refusal::Fact => 11,
-        Refusal::ChainArea => 12,
-        Refusal::SetAndCleared(_) => 13,
-        Refusal::ListLength => 14,
-        Refusal::Member => 15,
-        Refusal::HasRun => 16,
-        Refusal::ListArea => 17,
+impl Refusal {
+    // The number of a refusal, as the documents give it.
+    pub fn number(self) -> u64
+        ensures { (result ≡ refusal_number self) × (result < 2 ^ 32) }
+    {
+        match self {
+            Refusal::Length => 1,
+            Refusal::SumWord(_) => 2,
+            Refusal::HeadWord => 3,
+            Refusal::Kind(_) => 4,
+            Refusal::Payload(_) => 5,
+            Refusal::FactOrder(_) => 6,
+            Refusal::Missing(_) => 7,
+            Refusal::CardArea => 8,
+            Refusal::Sequence => 9,
+            Refusal::Question => 10,
+            Refusal::Fact => 11,
+            Refusal::ChainArea => 12,
+            Refusal::SetAndCleared(_) => 13,
+            Refusal::ListLength => 14,
+            Refusal::Member => 15,
+            Refusal::HasRun => 16,
+            Refusal::ListArea => 17,
+        }
     }
-}
 
-// The word position of a refusal.
-pub fn position(refusal: Refusal) -> u32
-    ensures { result ≡ refusal_position refusal }
-{
-    match refusal {
-        Refusal::Length => 0,
-        Refusal::SumWord(p) => p,
-        Refusal::HeadWord => 0,
-        Refusal::Kind(p) => p,
-        Refusal::Payload(p) => p,
-        Refusal::FactOrder(p) => p,
-        Refusal::Missing(p) => p,
-        Refusal::CardArea => 0,
-        Refusal::Sequence => 0,
-        Refusal::Question => 0,
-        Refusal::Fact => 0,
-        Refusal::ChainArea => 0,
-        Refusal::SetAndCleared(p) => p,
-        Refusal::ListLength => 0,
-        Refusal::Member => 0,
-        Refusal::HasRun => 0,
-        Refusal::ListArea => 0,
+    // The word position of a refusal.
+    pub fn position(self) -> u32
+        ensures { result ≡ refusal_position self }
+    {
+        match self {
+            Refusal::SumWord(p)
+            | Refusal::Kind(p)
+            | Refusal::Payload(p)
+            | Refusal::FactOrder(p)
+            | Refusal::Missing(p)
+            | Refusal::SetAndCleared(p) => p,
+            _ => 0,
+        }
     }
 }
 
 // The 64-bit answer that stands for a refusal on the C side.
-pub fn refusal_answer(refusal: Refusal) -> u64
-    ensures { result ≡ refusal_answer refusal }
-{
-    number(refusal) * POSITIONS + position(refusal) as u64
+impl From<Refusal> for u64 {
+    ghost from_gives = { λ refusal n. n ≡ refusal_answer refusal };
+
+    fn from(refusal: Refusal) -> u64 {
+        refusal.number() * POSITIONS + refusal.position() as u64
+    }
+}
+
+// What the check finds: the head of a library, or the first refusal that applies.
+pub type Checked = Result<Head, Refusal>;
+
+// What a call finds where it refuses nothing: the number that stands for it on the C side.
+pub trait Found {
+    ghost number: { Self → ℕ };
+
+    fn number(self) -> u64
+        ensures { result ≡ number self };
+}
+
+// Nothing but that the work is done.
+impl Found for () {
+    ghost number = { λ _. 0 };
+
+    fn number(self) -> u64 {
+        0
+    }
+}
+
+// How many there are.
+impl Found for u32 {
+    ghost number = { λ count. count };
+
+    fn number(self) -> u64 {
+        self as u64
+    }
+}
+
+impl Found for usize {
+    ghost number = { λ count. count };
+
+    fn number(self) -> u64 {
+        self as u64
+    }
 }
 
 // The payload of a head.
-fn head_payload(h: Head) -> u64
-    ensures { result ≡ head_payload h }
-{
-    h.facts as u64 + h.steps as u64 * STEPS_FROM as u64 + h.sequences as u64 * SEQUENCES_FROM as u64
+impl Found for Head {
+    ghost number = { head_payload };
+
+    fn number(self) -> u64 {
+        self.facts as u64
+            + self.steps as u64 * STEPS_FROM as u64
+            + self.sequences as u64 * SEQUENCES_FROM as u64
+    }
 }
 
-// The 64-bit answer that stands for what the check finds: the head's payload, or the refusal.
-pub fn checked_answer(found: Checked) -> u64
-    ensures { result ≡ checked_answer found }
+// The 64-bit answer that stands for what a call comes to: the number of what it finds, or the refusal.
+pub fn answer_number<T: Found>(answer: Result<T, Refusal>) -> u64
+    ensures { result ≡ answer_number T.number answer }
 {
-    match found {
-        Checked::Accepted(h) => head_payload(h),
-        Checked::Refused(r) => refusal_answer(r),
+    match answer {
+        Ok(found) => found.number(),
+        Err(refusal) => u64::from(refusal),
     }
+}
+
+// These three say the same as `number`, `position` and `u64::from`, for the crates that do not use those yet.
+pub fn number(refusal: Refusal) -> u64
+    ensures { (result ≡ refusal_number refusal) × (result < 2 ^ 32) }
+{
+    refusal.number()
+}
+
+pub fn position(refusal: Refusal) -> u32
+    ensures { result ≡ refusal_position refusal }
+{
+    refusal.position()
+}
+
+pub fn refusal_answer(refusal: Refusal) -> u64
+    ensures { result ≡ refusal_answer refusal }
+{
+    u64::from(refusal)
 }

@@ -1,6 +1,5 @@
 // Words: kind and payload, and the head.
-ghost use Rattle.std.specs.Prelude.{◌≡◌};
-ghost use Rattle.std.specs.Prelude.{◌<◌, ◌≢◌, MatchOption};
+ghost use Rattle.std.specs.Prelude.{◌+◌, ◌*◌, ◌^◌, ◌<◌, ◌≡◌, ◌≢◌, MatchOption};
 ghost use Rattle.image.specs.Kinds.{kind_number};
 ghost use Rattle.image.specs.Word.{kind, payload, is_fact, is_entry, is_kind, head_of, head_right};
 ghost use Rattle.image.specs.declared.word.Kind.{Kind};
@@ -58,6 +57,14 @@ impl Kind {
             15 => Some(Kind::Sum),
             _ => None,
         }
+    }
+
+    // The word of this kind with a payload.
+    pub fn word(self, payload: u32) -> u32
+        requires { payload < 2 ^ 28 }
+        ensures { result ≡ kind_number self * 2 ^ 28 + payload }
+    {
+        self.number() * PAYLOADS + payload
     }
 
     // Whether a word is of this kind.
@@ -149,8 +156,7 @@ pub fn is_kind(k: u32, w: u32) -> bool
 pub fn is_fact(w: u32) -> bool
     ensures { result ≡ is_fact w }
 {
-    let k = w / PAYLOADS;
-    (k == KIND_NEEDS) | (k == KIND_SETS) | (k == KIND_CLEARS)
+    Kind::Needs.is_of(w) | Kind::Sets.is_of(w) | Kind::Clears.is_of(w)
 }
 
 // The kinds of entries, a bit a kind: 8, 9 and 13.
@@ -181,7 +187,5 @@ pub fn head_right(w: u32) -> bool
 {
     let p = w % PAYLOADS;
     let f = p % FACTS_BELOW;
-    (w / PAYLOADS == KIND_HEAD)
-        & ((1 <= f) & (f <= MOST_FACTS))
-        & (p / SEQUENCES_FROM <= MOST_SEQUENCES)
+    Kind::Head.is_of(w) & ((1 <= f) & (f <= MOST_FACTS)) & (p / SEQUENCES_FROM <= MOST_SEQUENCES)
 }

@@ -27,8 +27,6 @@ use Rattle.general.specs.Tests.{All}
 use Rattle.library.specs.Accepted.{Faultless, StepWord, SequenceWord, Parts, Named, Below, Counted, HighEntry}
 use Rattle.image.specs.declared.answer.Head.{Head}
 use Rattle.image.specs.declared.answer.Refusal.TheVariants.{Length, SumWord, HeadWord}
-use Rattle.image.specs.declared.answer.Checked.TheVariants.{Accepted}
-use Rattle.rules.specs.declared.rules.Fault.TheVariants.{Nothing}
 use Rattle.general.proofs.Bools.{and_left, and_right, or_cases, or_five}
 use Rattle.image.proofs.Head.{HeadRule, head_rule}
 use Rattle.image.proofs.Words.{fact_kind, entry_kinds, entry_high}
@@ -38,6 +36,7 @@ use Rattle.rules.proofs.Faultless.{Fine, fine, payloads}
 use Rattle.library.proofs.Passed.{passed, passed_word, walk_cons, walk_nil}
 use Rattle.library.proofs.Apart.{steps_apart}
 use Rattle.library.proofs.Seam.{length_between}
+use Rattle.std.specs.Prelude.{None, Ok}
 
 -- ---- where a word may stand
 
@@ -112,7 +111,7 @@ sequence_high w word = ⊎_elim (λ k. omega arith) (λ k. ⊎_elim (λ l. omega
 opens : (k w : ℕ) → (kind w ≡ k → ⊥) → bool_byte (is_kind k w) ≡ 0
 opens k w d = ap bool_byte (is_not k w d)
 
-steps_words : (h : Head) (e : Before) (p : ℕ) (ws : List ℕ) (g : Head) → walk h e p ws ≡ Accepted g → e.sequences ≡ 0 → kind e.last ≤ 5
+steps_words : (h : Head) (e : Before) (p : ℕ) (ws : List ℕ) (g : Head) → walk h e p ws ≡ Ok g → e.sequences ≡ 0 → kind e.last ≤ 5
     → All (StepWord h) (before_sequences ws)
 unfolding before_sequences
 steps_words h e p [] g a none last = tt
@@ -128,7 +127,7 @@ steps_words h e p (w ∷ ws) g a none last =
         let word = step_word h e w f none last (eqb-false (kind w) 6 q) in
         (word, rest (omega (arith, ap bool_byte q)) word.high)
 
-later_words : (h : Head) (e : Before) (p : ℕ) (ws : List ℕ) (g : Head) → walk h e p ws ≡ Accepted g → 0 < e.sequences → 6 ≤ kind e.last
+later_words : (h : Head) (e : Before) (p : ℕ) (ws : List ℕ) (g : Head) → walk h e p ws ≡ Ok g → 0 < e.sequences → 6 ≤ kind e.last
     → All (SequenceWord h) ws
 later_words h e p [] g a some last = tt
 later_words h e p (w ∷ ws) g a some last =
@@ -136,14 +135,14 @@ later_words h e p (w ∷ ws) g a some last =
     let word = sequence_word h e w (fine h e p w c.0) (inr (some, last)) in
     (word, later_words h (after e w) (suc p) ws g c.1 (omega arith) (sequence_high w word))
 
-sequences_words : (h : Head) (e : Before) (p : ℕ) (ws : List ℕ) (g : Head) → walk h e p ws ≡ Accepted g → All (SequenceWord h) (from_sequences ws)
+sequences_words : (h : Head) (e : Before) (p : ℕ) (ws : List ℕ) (g : Head) → walk h e p ws ≡ Ok g → All (SequenceWord h) (from_sequences ws)
 unfolding from_sequences
 sequences_words h e p [] g a = tt
 sequences_words h e p (w ∷ ws) g a =
     let c = walk_cons h e p w ws g a in
     go (is_kind 6 w) refl (fine h e p w c.0) c.1 (sequences_words h (after e w) (suc p) ws g c.1)
   where
-    go : (b : Bool) → is_kind 6 w ≡ b → Fine h e w → walk h (after e w) (suc p) ws ≡ Accepted g → All (SequenceWord h) (from_sequences ws)
+    go : (b : Bool) → is_kind 6 w ≡ b → Fine h e w → walk h (after e w) (suc p) ws ≡ Ok g → All (SequenceWord h) (from_sequences ws)
         → All (SequenceWord h) (cond b (w ∷ ws) (from_sequences ws))
     go true q f r rest =
         (sequence_word h e w f (inl (kind_is 6 w q)), later_words h (after e w) (suc p) ws g r (omega (arith, ap bool_byte q)) (omega (arith, kind_is 6 w q)))
@@ -151,7 +150,7 @@ sequences_words h e p (w ∷ ws) g a =
 
 -- ---- the numbers of openers, and how many there are
 
-numbers : (h : Head) (e : Before) (p : ℕ) (ws : List ℕ) (g : Head) → walk h e p ws ≡ Accepted g → (i : ℕ) → i < length ws
+numbers : (h : Head) (e : Before) (p : ℕ) (ws : List ℕ) (g : Head) → walk h e p ws ≡ Ok g → (i : ℕ) → i < length ws
     → (kind (get_or ws i 0) ≡ 5 → payload (get_or ws i 0) ≡ e.steps + opened 5 (take i ws))
     × (kind (get_or ws i 0) ≡ 6 → payload (get_or ws i 0) ≡ e.sequences + opened 6 (take i ws))
 unfolding opened
@@ -163,7 +162,7 @@ numbers h e p (w ∷ ws) g a (suc i) l =
     let ih = numbers h (after e w) (suc p) ws g (walk_cons h e p w ws g a).1 i (le_of_suc-le-suc l) in
     ((λ k. omega (arith, ih.0 k)), (λ k. omega (arith, ih.1 k)))
 
-counts : (h : Head) (e : Before) (p : ℕ) (ws : List ℕ) (g : Head) → walk h e p ws ≡ Accepted g → e.steps ≤ h.steps → e.sequences ≤ h.sequences
+counts : (h : Head) (e : Before) (p : ℕ) (ws : List ℕ) (g : Head) → walk h e p ws ≡ Ok g → e.steps ≤ h.steps → e.sequences ≤ h.sequences
     → (e.steps + opened 5 ws ≡ h.steps) × (e.sequences + opened 6 ws ≡ h.sequences)
 unfolding opened
 counts h e p [] g a s q = omega (arith, walk_nil h e p g a)
@@ -182,13 +181,13 @@ counts h e p (w ∷ ws) g a s q =
         go true q = omega (arith, more (kind_is k w q))
         go false q = omega arith
 
-walk_head : (h : Head) (e : Before) (p : ℕ) (ws : List ℕ) (g : Head) → walk h e p ws ≡ Accepted g → h ≡ g
+walk_head : (h : Head) (e : Before) (p : ℕ) (ws : List ℕ) (g : Head) → walk h e p ws ≡ Ok g → h ≡ g
 walk_head h e p [] g a = (walk_nil h e p g a).0
 walk_head h e p (w ∷ ws) g a = walk_head h (after e w) (suc p) ws g (walk_cons h e p w ws g a).1
 
 -- ---- the two parts of the words between
 
-steps_numbers : (h : Head) (e : Before) (p : ℕ) (ws : List ℕ) (g : Head) → walk h e p ws ≡ Accepted g → (i : ℕ) → i < length (before_sequences ws)
+steps_numbers : (h : Head) (e : Before) (p : ℕ) (ws : List ℕ) (g : Head) → walk h e p ws ≡ Ok g → (i : ℕ) → i < length (before_sequences ws)
     → kind (get_or (before_sequences ws) i 0) ≡ 5 → payload (get_or (before_sequences ws) i 0) ≡ e.steps + opened 5 (take i (before_sequences ws))
 steps_numbers h e p ws g a i l k =
     let b = before_sequences ws in
@@ -199,7 +198,7 @@ steps_numbers h e p ws g a i l k =
     let below : i < length ws = omega (arith, ap length j, length-append b f) in
     ap payload (sym at) ∙ (numbers h e p ws g a i below).0 (ap kind at ∙ k) ∙ ap (λ (x : List ℕ). e.steps + opened 5 x) cut
 
-sequences_numbers : (h : Head) (e : Before) (p : ℕ) (ws : List ℕ) (g : Head) → walk h e p ws ≡ Accepted g → (i : ℕ) → i < length (from_sequences ws)
+sequences_numbers : (h : Head) (e : Before) (p : ℕ) (ws : List ℕ) (g : Head) → walk h e p ws ≡ Ok g → (i : ℕ) → i < length (from_sequences ws)
     → kind (get_or (from_sequences ws) i 0) ≡ 6 → payload (get_or (from_sequences ws) i 0) ≡ e.sequences + opened 6 (take i (from_sequences ws))
 unfolding from_sequences
 sequences_numbers h e p [] g a i = λ l k. absurd (omega arith)
@@ -270,8 +269,8 @@ sequences_named h (w ∷ ws) a = go (is_kind 6 w) (sequences_named h ws a.1)
 -- ---- an accepted image
 
 -- no word that was looked at has a fault
-scanned : (h : Head) (before ws : List ℕ) (g : Head) → scan h before ws ≡ Accepted g → (i : ℕ) → i < length ws
-    → fault_at h (earlier (before ++ take i ws)) (length before + i) (get_or ws i 0) ≡ Nothing
+scanned : (h : Head) (before ws : List ℕ) (g : Head) → scan h before ws ≡ Ok g → (i : ℕ) → i < length ws
+    → fault_at h (earlier (before ++ take i ws)) (length before + i) (get_or ws i 0) ≡ None
 unfolding scan
 scanned h before [] g a i l = absurd (omega arith)
 scanned h before (w ∷ ws) g a zero l = rw (append-nil before, add-zero (length before)) (passed_word (fault_at h (earlier before) (length before) w) _ g a).0
@@ -285,9 +284,9 @@ pub record Checks (image : List ℕ) (h : Head) : Type 0 where
   pub high : length image ≤ 8192
   pub sum : sum_right (all_but_last image) (last_word image) ≡ true
   pub head : head_right (first_word image) ≡ true
-  pub scans : scan (head_of (first_word image)) (take 1 image) (between image) ≡ Accepted h
+  pub scans : scan (head_of (first_word image)) (take 1 image) (between image) ≡ Ok h
 
-pub checks : (image : List ℕ) (h : Head) → checked image ≡ Accepted h → Checks image h
+pub checks : (image : List ℕ) (h : Head) → checked image ≡ Ok h → Checks image h
 unfolding checked
 checks image h a =
     let l = passed (leb 2 (length image) && leb (length image) 8192) _ Length h a in
@@ -301,8 +300,8 @@ checks image h a =
       scans = k.1;
     }
 
-walked : (image : List ℕ) (h : Head) → checked image ≡ Accepted h
-    → walk (head_of (first_word image)) (opening (first_word image)) 1 (between image) ≡ Accepted h
+walked : (image : List ℕ) (h : Head) → checked image ≡ Ok h
+    → walk (head_of (first_word image)) (opening (first_word image)) 1 (between image) ≡ Ok h
 walked image h a = let c = checks image h a in checked_walk image c.low c.high c.sum c.head ∙ a
 
 -- the words up to a word between, and that word, as the scan has them
@@ -314,21 +313,21 @@ word_between : (image : List ℕ) (i : ℕ) → i < length image - 2 → get_or 
 word_between [] i l = absurd (omega arith)
 word_between (w ∷ ws) i l = get_or-take (length (w ∷ ws) - 2) ws i 0 l
 
-module _ (image : List ℕ) (h : Head) (a : checked image ≡ Accepted h) where
+module _ (image : List ℕ) (h : Head) (a : checked image ≡ Ok h) where
   head_is : h ≡ head_of (first_word image)
   head_is = sym (walk_head (head_of (first_word image)) _ _ (between image) h (walked image h a))
 
   -- the walk and the scan, at the head that was accepted
-  walks : walk h (opening (first_word image)) 1 (between image) ≡ Accepted h
+  walks : walk h (opening (first_word image)) 1 (between image) ≡ Ok h
   walks = ap (λ (g : Head). walk g (opening (first_word image)) 1 (between image)) head_is ∙ walked image h a
 
-  scans : scan h (take 1 image) (between image) ≡ Accepted h
+  scans : scan h (take 1 image) (between image) ≡ Ok h
   scans = ap (λ (g : Head). scan g (take 1 image) (between image)) head_is ∙ (checks image h a).scans
 
   rule : HeadRule (first_word image)
   rule = head_rule (first_word image) (checks image h a).head
 
-  no_fault : (p : ℕ) → 1 ≤ p → p + 1 < length image → fault_at h (earlier (take p image)) p (get_or image p 0) ≡ Nothing
+  no_fault : (p : ℕ) → 1 ≤ p → p + 1 < length image → fault_at h (earlier (take p image)) p (get_or image p 0) ≡ None
   no_fault zero l u = absurd (omega arith)
   no_fault (suc i) l u =
       let one : length (take 1 image) + i ≡ suc i = omega (arith, length-take 1 image) in

@@ -14,7 +14,6 @@ use Rattle.rules.specs.Rules.{sets_after, Before}
 use Rattle.rules.specs.Quick.{after}
 use Rattle.rules.specs.Walk.{walk}
 use Rattle.image.specs.declared.answer.Head.{Head}
-use Rattle.image.specs.declared.answer.Checked.TheVariants.{Accepted}
 use Rattle.general.specs.Tests.{All}
 use Rattle.rules.proofs.Faultless.{Fine, fine, where_kind_lem}
 use Rattle.rules.proofs.Sets.{set_word, set_stays}
@@ -23,9 +22,10 @@ use Rattle.library.specs.Accepted.{Apart}
 use Rattle.image.proofs.Words.{fact_of, fact_kind}
 use Rattle.library.proofs.Decode.{is_not, kind_is}
 use Rattle.library.proofs.Passed.{walk_cons}
+use Rattle.std.specs.Prelude.{Ok}
 
 -- a later word of the step does not clear what it sets already
-clears_none : (h : Head) (e : Before) (p : ℕ) (ws : List ℕ) (g : Head) → walk h e p ws ≡ Accepted g → (f : ℕ) → in_column e.sets f ≡ true
+clears_none : (h : Head) (e : Before) (p : ℕ) (ws : List ℕ) (g : Head) → walk h e p ws ≡ Ok g → (f : ℕ) → in_column e.sets f ≡ true
     → has f (facts_from 4 ws) ≡ false
 unfolding facts_from has
 clears_none h e p [] g a f set = refl
@@ -45,7 +45,7 @@ clears_none h e p (w ∷ ws) g a f set =
         ∙ where_kind_lem (is_kind 4 w) (not (in_column e.sets (payload w))) fn.unset four))
 
 -- after a clear word the step sets nothing
-sets_none : (h : Head) (e : Before) (p : ℕ) (ws : List ℕ) (g : Head) → walk h e p ws ≡ Accepted g → kind e.last ≡ 4 → facts_from 3 ws ≡ []
+sets_none : (h : Head) (e : Before) (p : ℕ) (ws : List ℕ) (g : Head) → walk h e p ws ≡ Ok g → kind e.last ≡ 4 → facts_from 3 ws ≡ []
 unfolding facts_from
 sets_none h e p [] g a last = refl
 sets_none h e p (w ∷ ws) g a last =
@@ -62,7 +62,7 @@ sets_none h e p (w ∷ ws) g a last =
         rw (is_not 3 w (λ three. omega arith)) (rest four)
 
 -- the facts of one step
-facts_apart : (h : Head) (e : Before) (p : ℕ) (ws : List ℕ) (g : Head) → walk h e p ws ≡ Accepted g → (f : ℕ)
+facts_apart : (h : Head) (e : Before) (p : ℕ) (ws : List ℕ) (g : Head) → walk h e p ws ≡ Ok g → (f : ℕ)
     → has f (facts_from 3 ws) && has f (facts_from 4 ws) ≡ false
 unfolding facts_from has
 facts_apart h e p [] g a f = refl
@@ -105,7 +105,7 @@ facts_before k (w ∷ ws) = go (is_kind 6 w) (is_fact w) refl refl (facts_before
     go true false six fact rest = refl
     go false c six fact rest = rw (fact, rest)
 
-pub steps_apart : (h : Head) (e : Before) (p : ℕ) (ws : List ℕ) (g : Head) → walk h e p ws ≡ Accepted g → All Apart (steps_from (before_sequences ws))
+pub steps_apart : (h : Head) (e : Before) (p : ℕ) (ws : List ℕ) (g : Head) → walk h e p ws ≡ Ok g → All Apart (steps_from (before_sequences ws))
 unfolding before_sequences steps_from
 steps_apart h e p [] g a = tt
 steps_apart h e p (w ∷ ws) g a =

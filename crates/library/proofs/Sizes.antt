@@ -11,9 +11,9 @@ use Rattle.library.specs.Library.{entries_from, alternatives_from, sequences_fro
 use Rattle.rules.specs.Checked.{checked}
 use Rattle.library.specs.Accepted.{Small}
 use Rattle.image.specs.declared.answer.Head.{Head}
-use Rattle.image.specs.declared.answer.Checked.TheVariants.{Accepted}
 use Rattle.library.proofs.Decode.{entries_short, alternatives_short}
 use Rattle.library.proofs.Accepted.{faultless, parts, counted}
+use Rattle.std.specs.Prelude.{Ok}
 
 -- each alternative of a sequence
 entries_in : (ws : List ℕ) (i : ℕ) → length (get_or (alternatives_from ws) i []) ≤ length ws
@@ -51,7 +51,7 @@ entries_within (w ∷ ws) c i = go (is_kind 6 w) c (λ k. entries_within ws k i)
     go true (suc d) l = omega (arith, l d)
     go false d l = omega (arith, l d)
 
-pub small : (image : List ℕ) (h : Head) → checked image ≡ Accepted h → Small (library_of image)
+pub small : (image : List ℕ) (h : Head) → checked image ≡ Ok h → Small (library_of image)
 unfolding library_of
 small image h accepted =
     let short = (parts image h accepted).sequences_short in

@@ -1,6 +1,6 @@
 -- What acceptance says: of the image, of the words of its two parts, and of the library that it holds. The crates above build on
 -- these records, and `proofs/Accepted` proves each of an accepted image.
-use Rattle.std.specs.Prelude.{ℕ, ◌+◌, ◌≤◌, ◌<◌, ◌≡◌, true, false, ◌&&◌, ◌⊎◌, List, [], length, get_or, take}
+use Rattle.std.specs.Prelude.{ℕ, ◌+◌, ◌≤◌, ◌<◌, ◌≡◌, true, false, ◌&&◌, ◌⊎◌, List, [], length, get_or, take, None}
 use Rattle.general.specs.Tests.{All}
 use Rattle.image.specs.Word.{most_facts, most_steps, kind, payload, is_entry, head_of}
 use Rattle.image.specs.Answer.{head_payload}
@@ -8,7 +8,6 @@ use Rattle.rules.specs.Rules.{opened, earlier, fault_at}
 use Rattle.rules.specs.Checked.{first_word}
 use Rattle.library.specs.Library.{Step, has, Entry, step, check, item, call, Library, steps_part, sequences_part}
 use Rattle.image.specs.declared.answer.Head.{Head}
-use Rattle.rules.specs.declared.rules.Fault.TheVariants.{Nothing}
 
 -- the image is no longer and no shorter than allowed, its head keeps the rule, and no word between head and sum word has a fault
 pub record Faultless (image : List ℕ) (h : Head) : Type 0 where
@@ -20,7 +19,7 @@ pub record Faultless (image : List ℕ) (h : Head) : Type 0 where
   pub steps_high : h.steps ≤ most_steps
   pub sequences_high : h.sequences ≤ 256
   pub payload : head_payload h ≡ payload (first_word image)
-  pub between : (p : ℕ) → 1 ≤ p → p + 1 < length image → fault_at h (earlier (take p image)) p (get_or image p 0) ≡ Nothing
+  pub between : (p : ℕ) → 1 ≤ p → p + 1 < length image → fault_at h (earlier (take p image)) p (get_or image p 0) ≡ None
 
 -- a word of the steps' part: an opener or a fact word, whose fact is below F
 pub record StepWord (h : Head) (w : ℕ) : Type 0 where

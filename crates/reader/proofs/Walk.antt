@@ -18,17 +18,15 @@ use Rattle.reader.specs.Readers.{Read, FourRight, FoursRead}
 use Rattle.reader.specs.declared.check.Body.{Body}
 use Rattle.image.specs.declared.answer.Head.{Head}
 use Rattle.image.specs.declared.answer.Refusal.{Refusal}
-use Rattle.image.specs.declared.answer.Checked.{Checked}
-use Rattle.image.specs.declared.answer.Checked.TheVariants.{Refused}
 use Rattle.rules.specs.declared.rules.Earlier.{Earlier}
-use Rattle.rules.specs.declared.rules.Fault.{Fault}
-use Rattle.rules.specs.declared.rules.Fault.TheVariants.{Found, Nothing}
 use Rattle.general.proofs.Bools.{byte_le}
 use Rattle.general.proofs.Numbers.{whole_rest}
 use Rattle.rules.proofs.Right.{Passing, body_passing, body_follows, inside_body}
 use Rattle.rules.proofs.Sets.{sets_next}
 use Rattle.rules.proofs.Faultless.{fine, none_found}
 use Rattle.rules.proofs.Middle.{from_middle}
+use Rattle.std.specs.Prelude.{Option, Some, None, Err}
+use Rattle.image.specs.Answer.{Checked}
 
 walk_drop : (h : Head) (b : Before) (p i : ℕ) (ws : List ℕ) → i < length ws
     → walk h b p (drop i ws) ≡ at_word (fault_at h b p (get_or ws i 0)) (walk h (after b (get_or ws i 0)) (p + 1) (drop (i + 1) ws))
@@ -58,13 +56,13 @@ module _ (h : Head) (part : List ℕ) (e : Earlier) (at : ℕ) where
     rest p = walk h (up_to part (passed now (get_or part i 0)) (i + 1)) (p + (i + 1)) (drop (i + 1) part)
 
     -- a word without a fault
-    pub read_turn : i < length part → ((p : ℕ) → Nothing ≡ fault_at h (up_to part now i) p (get_or part i 0))
+    pub read_turn : i < length part → ((p : ℕ) → None ≡ fault_at h (up_to part now i) p (get_or part i 0))
         → Read h part e at (passed now (get_or part i 0)) (i + 1)
     read_turn l fine =
         record {
           low = omega (arith, here.low);
           within = omega arith;
-          same = λ p. here.same p ∙ walk_word h part now p i l ∙ ap (λ (f : Fault). at_word f (rest p)) (sym (fine (p + i)));
+          same = λ p. here.same p ∙ walk_word h part now p i l ∙ ap (λ (f : Option Refusal). at_word f (rest p)) (sym (fine (p + i)));
         }
 
     pub read_pass : (then : Earlier) → i < length part → Passing h now (sets_of 0 (take i part)) (get_or part i 0) then → Read h part e at then (i + 1)
@@ -78,14 +76,16 @@ module _ (h : Head) (part : List ℕ) (e : Earlier) (at : ℕ) where
     pub read_answer : (p : ℕ) (r : Checked) → r ≡ walk h (up_to part now i) (p + i) (drop i part) → r ≡ walk h (up_to part e at) (p + at) (drop at part)
     read_answer p r rest = rest ∙ sym (here.same p)
 
-    pub read_refused : (p : ℕ) (x : Refusal) (fault : Fault) → i < length part → fault ≡ Found x
-        → fault ≡ fault_at h (up_to part now i) (p + i) (get_or part i 0) → Refused x ≡ walk h (up_to part e at) (p + at) (drop at part)
+    pub read_refused : (p : ℕ) (x : Refusal) (fault : Option Refusal) → i < length part → fault ≡ Some x
+        → fault ≡ fault_at h (up_to part now i) (p + i) (get_or part i 0) → Err x ≡ walk h (up_to part e at) (p + at) (drop at part)
     read_refused p x fault l found judged =
-        sym (here.same p ∙ walk_word h part now p i l ∙ ap (λ (f : Fault). at_word f (rest p)) (sym judged ∙ found))
+        sym (here.same p ∙ walk_word h part now p i l ∙ ap (λ (f : Option Refusal). at_word f (rest p)) (sym judged ∙ found))
 
-    pub read_end : (p : ℕ) → i ≡ length part → ended h (up_to part now i) (p + i) ≡ walk h (up_to part e at) (p + at) (drop at part)
+    pub read_end : (p : ℕ) → i ≡ length part → ended h (seen now 0) (p + length part) ≡ walk h (up_to part e at) (p + at) (drop at part)
     unfolding walk
-    read_end p l = sym (here.same p ∙ ap (walk h (up_to part now i) (p + i)) (ap (λ (n : ℕ). drop n part) l ∙ drop-length part))
+    read_end p l =
+        ap (λ (n : ℕ). ended h (seen now 0) (p + n)) (sym l)
+        ∙ sym (here.same p ∙ ap (walk h (up_to part now i) (p + i)) (ap (λ (n : ℕ). drop n part) l ∙ drop-length part))
 
 -- what is carried of the head alone
 abbrev pub begun : ℕ → Earlier
@@ -119,7 +119,7 @@ pub reading_start : (p : ℕ) (h : Head) (part : List ℕ) (e : Earlier) (at : �
 reading_start p h part e at l steps sequences = record { read = read_start h part e at l; steps = steps; sequences = sequences }
 
 module _ (p : ℕ) (h : Head) (part : List ℕ) (e₀ : Earlier) (at : ℕ) (e : Earlier) (i : ℕ) (here : Reading p h part e₀ at e i) where
-  pub reading_turn : (fault : Fault) → i < length part → fault ≡ Nothing → fault ≡ fault_at h (up_to part e i) (p + i) (get_or part i 0)
+  pub reading_turn : (fault : Option Refusal) → i < length part → fault ≡ None → fault ≡ fault_at h (up_to part e i) (p + i) (get_or part i 0)
       → Reading p h part e₀ at (passed e (get_or part i 0)) (i + 1)
   reading_turn fault l none judged =
       let w = get_or part i 0 in

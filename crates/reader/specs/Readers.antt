@@ -1,6 +1,7 @@
 -- What the functions of the check promise: where each stopped, and that the answer from there on is the answer from where it began.
 use Rattle.std.specs.Prelude.{ℕ, ◌+◌, ◌-◌, ◌%◌, ◌≤◌, ◌<◌, ◌≡◌, length, get_or, drop, true, ◌⊎◌, List}
 use Rattle.column.specs.Sets.{in_column}
+use Rattle.image.specs.Fours.{AllFour}
 use Rattle.image.specs.Word.{kind, payload}
 use Rattle.rules.specs.Quick.{inside_right, with_last, up_to}
 use Rattle.rules.specs.Walk.{walk}
@@ -58,8 +59,5 @@ abbrev pub FoursRead : Head → List ℕ → ℕ → ℕ → Body → Type 0
 FoursRead h part last at r = (e : Earlier) → 0 < e.sequences → BodyRead h part (with_last e last) at r
 
 -- the four words from index i on are right within an alternative
-pub record FourRight (h : Head) (part : List ℕ) (i : ℕ) : Type 0 where
-  pub first : inside_right h (get_or part i 0) ≡ true
-  pub second : inside_right h (get_or part (i + 1) 0) ≡ true
-  pub third : inside_right h (get_or part (i + 2) 0) ≡ true
-  pub fourth : inside_right h (get_or part (i + 3) 0) ≡ true
+abbrev pub FourRight : Head → List ℕ → ℕ → Type 0
+FourRight h part i = AllFour (λ w. inside_right h w ≡ true) part i

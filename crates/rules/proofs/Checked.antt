@@ -6,13 +6,13 @@ use borrow.Author.Tests.{lt-leb}
 use Rattle.image.specs.Word.{kind, is_kind, sum_right, head_of, head_right}
 use Rattle.image.specs.declared.answer.Head.{Head}
 use Rattle.image.specs.declared.answer.Refusal.TheVariants.{Length, SumWord, HeadWord}
-use Rattle.image.specs.declared.answer.Checked.TheVariants.{Refused}
 use Rattle.image.proofs.Head.{head_rule}
 use Rattle.rules.specs.Rules.{opened, last_of, sets_after, sets_of, Before, earlier, fault_at}
 use Rattle.rules.specs.Quick.{after}
 use Rattle.rules.specs.Checked.{at_word, scan, all_but_last, between, first_word, last_word, checked}
 use Rattle.rules.specs.Walk.{walk, opening}
 use Rattle.rules.proofs.Sets.{sets_append}
+use Rattle.std.specs.Prelude.{Err}
 
 -- ---- the walk is the scan
 
@@ -75,21 +75,21 @@ take_one [] l = absurd (omega arith)
 take_one (w ∷ ws) l = refl
 
 module _ (image : List ℕ) where
-  pub refused_short : length image < 2 → Refused Length ≡ checked image
+  pub refused_short : length image < 2 → Err Length ≡ checked image
   unfolding checked
   refused_short l = simp (lt-leb 2 (length image) l)
 
-  pub refused_long : 8192 < length image → Refused Length ≡ checked image
+  pub refused_long : 8192 < length image → Err Length ≡ checked image
   unfolding checked
   refused_long l = simp (le-leb 2 (length image) (omega arith), lt-leb (length image) 8192 l)
 
   module _ (low : 2 ≤ length image) (high : length image ≤ 8192) where
-    pub refused_sum : sum_right (all_but_last image) (last_word image) ≡ false → Refused (SumWord (length image - 1)) ≡ checked image
+    pub refused_sum : sum_right (all_but_last image) (last_word image) ≡ false → Err (SumWord (length image - 1)) ≡ checked image
     unfolding checked
     refused_sum s = simp (le-leb 2 (length image) low, le-leb (length image) 8192 high, s)
 
     pub refused_head : sum_right (all_but_last image) (last_word image) ≡ true → head_right (first_word image) ≡ false
-        → Refused HeadWord ≡ checked image
+        → Err HeadWord ≡ checked image
     unfolding checked
     refused_head s h = simp (le-leb 2 (length image) low, le-leb (length image) 8192 high, s, h)
 

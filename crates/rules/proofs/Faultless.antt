@@ -6,8 +6,8 @@ use Rattle.image.specs.Word.{kind, payload, is_kind, is_fact}
 use Rattle.rules.specs.Rules.{Before, may_stand, where_kind, payload_right, in_order, clears_unset, fault_at}
 use Rattle.image.specs.declared.answer.Head.{Head}
 use Rattle.image.specs.declared.answer.Refusal.{Refusal}
-use Rattle.rules.specs.declared.rules.Fault.TheVariants.{Found, Nothing}
 use Rattle.general.proofs.Bools.{and_left, and_right, and_six}
+use Rattle.std.specs.Prelude.{Some, None}
 
 pub record Fine (h : Head) (e : Before) (w : ℕ) : Type 0 where
   pub stands : may_stand h e w ≡ true
@@ -15,10 +15,10 @@ pub record Fine (h : Head) (e : Before) (w : ℕ) : Type 0 where
   pub follows : in_order e w ≡ true
   pub unset : clears_unset e.sets w ≡ true
 
-found_nothing : {r : Refusal} → Found r ≡ Nothing → ⊥
+found_nothing : {r : Refusal} → Some r ≡ None → ⊥
 found_nothing {r} e = let z : ◌≡◌ {A = ℕ} 0 1 = cc in omega arith
 
-all_kept : (a b c d : Bool) (x y z u : Refusal) → cond a (cond b (cond c (cond d Nothing (Found u)) (Found z)) (Found y)) (Found x) ≡ Nothing
+all_kept : (a b c d : Bool) (x y z u : Refusal) → cond a (cond b (cond c (cond d None (Some u)) (Some z)) (Some y)) (Some x) ≡ None
     → (a ≡ true) × (b ≡ true) × (c ≡ true) × (d ≡ true)
 all_kept true true true true x y z u e = (refl, refl, refl, refl)
 all_kept true true true false x y z u e = absurd (found_nothing e)
@@ -26,12 +26,12 @@ all_kept true true false d x y z u e = absurd (found_nothing e)
 all_kept true false c d x y z u e = absurd (found_nothing e)
 all_kept false b c d x y z u e = absurd (found_nothing e)
 
-pub fine : (h : Head) (e : Before) (p w : ℕ) → fault_at h e p w ≡ Nothing → Fine h e w
+pub fine : (h : Head) (e : Before) (p w : ℕ) → fault_at h e p w ≡ None → Fine h e w
 fine h e p w n =
     let k = all_kept (may_stand h e w) (payload_right h e w) (in_order e w) (clears_unset e.sets w) _ _ _ _ n in
     record { stands = k.0; pays = k.1; follows = k.2; unset = k.3 }
 
-pub none_found : (h : Head) (e : Before) (p w : ℕ) → Fine h e w → Nothing ≡ fault_at h e p w
+pub none_found : (h : Head) (e : Before) (p w : ℕ) → Fine h e w → None ≡ fault_at h e p w
 none_found h e p w f = rw (f.stands, f.pays, f.follows, f.unset)
 
 -- the rule holds of a word of its kind

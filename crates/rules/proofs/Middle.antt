@@ -12,8 +12,8 @@ use Rattle.rules.specs.Walk.{walk}
 use Rattle.image.specs.declared.answer.Head.{Head}
 use Rattle.image.specs.declared.answer.Refusal.TheVariants.{Kind}
 use Rattle.rules.specs.declared.rules.Earlier.{Earlier}
-use Rattle.rules.specs.declared.rules.Fault.{Fault}
-use Rattle.rules.specs.declared.rules.Fault.TheVariants.{Found}
+use Rattle.std.specs.Prelude.{Option, Some}
+use Rattle.image.specs.declared.answer.Refusal.{Refusal}
 
 -- no fact word may stand after the word
 abbrev NoFactAfter : ℕ → Type 0
@@ -21,7 +21,7 @@ NoFactAfter last = is_kind 5 last || is_fact last ≡ false
 
 module _ (h : Head) (e : Earlier) (p w : ℕ) where
   -- a fact word is refused there, whatever is set
-  fact_refused : (sets : ℕ) → NoFactAfter e.last → is_fact w ≡ true → fault_at h (seen e sets) p w ≡ Found (Kind p)
+  fact_refused : (sets : ℕ) → NoFactAfter e.last → is_fact w ≡ true → fault_at h (seen e sets) p w ≡ Some (Kind p)
   fact_refused sets none fact =
       let k = fact_kind w fact in
       rw (
@@ -48,7 +48,7 @@ module _ (h : Head) (e : Earlier) (p w : ℕ) where
       → walk h (seen e s) p (w ∷ ws) ≡ walk h (seen e t) p (w ∷ ws)
   unfolding walk
   past_word ws s t other rest =
-      ap (λ (f : Fault). at_word f (walk h (seen (passed e w) (sets_after s w)) (suc p) ws)) (same_fault s t other)
+      ap (λ (f : Option Refusal). at_word f (walk h (seen (passed e w) (sets_after s w)) (suc p) ws)) (same_fault s t other)
       ∙ ap (at_word (fault_at h (seen e t) p w)) (rw three (go (is_kind 5 w) refl))
     where
       three : is_kind 3 w ≡ false

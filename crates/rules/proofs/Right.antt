@@ -10,10 +10,10 @@ use Rattle.rules.specs.Rules.{where_kind, fault_at}
 use Rattle.rules.specs.Quick.{entry_counted, entry_right, alternative_right, body_right, inside_right, Counts, step_right, sequence_right, FactFollows, passed, with_last, seen, in_alternative}
 use Rattle.image.specs.declared.answer.Head.{Head}
 use Rattle.rules.specs.declared.rules.Earlier.{Earlier}
-use Rattle.rules.specs.declared.rules.Fault.TheVariants.{Nothing}
 use Rattle.general.proofs.Bools.{and_left, and_right, or_left, or_right, or_cases, and_six}
 use Rattle.image.proofs.Words.{fact_of, fact_kind, entry_high}
 use Rattle.rules.proofs.Faultless.{Fine, none_found, kind_where}
+use Rattle.std.specs.Prelude.{None}
 
 -- where each side of a disjunction gives a side of another
 or_map : (a b x y : Bool) → (a ≡ true → x ≡ true) → (b ≡ true → y ≡ true) → a || b ≡ true → x || y ≡ true
@@ -41,29 +41,29 @@ counted_cases h w counted =
     both k n s = (eqb-true (kind w) k (and_left (is_kind k w) (ltb (payload w) n) s), and_right (is_kind k w) (ltb (payload w) n) s)
 
 module _ (h : Head) (e : Earlier) (sets p w : ℕ) where
-  pub entry_faultless : entry_right h e.last w ≡ true → Nothing ≡ fault_at h (seen e sets) p w
+  pub entry_faultless : entry_right h e.last w ≡ true → None ≡ fault_at h (seen e sets) p w
   entry_faultless right =
       let after_one = and_left (is_kind 7 e.last || is_entry e.last) _ right in
       go after_one (counted_cases h w (and_right (is_kind 7 e.last || is_entry e.last) _ right))
     where
       go : is_kind 7 e.last || is_entry e.last ≡ true
-          → EntryOf w 8 h.steps ⊎ EntryOf w 9 h.sequences ⊎ EntryOf w 13 h.facts → Nothing ≡ fault_at h (seen e sets) p w
+          → EntryOf w 8 h.steps ⊎ EntryOf w 9 h.sequences ⊎ EntryOf w 13 h.facts → None ≡ fault_at h (seen e sets) p w
       go after_one (inl entry) = rw (entry.0, after_one, entry.1)
       go after_one (inr (inl entry)) = rw (entry.0, after_one, entry.1)
       go after_one (inr (inr entry)) = rw (entry.0, after_one, entry.1)
 
-  pub alternative_faultless : alternative_right e w ≡ true → Nothing ≡ fault_at h (seen e sets) p w
+  pub alternative_faultless : alternative_right e w ≡ true → None ≡ fault_at h (seen e sets) p w
   alternative_faultless right =
       let whole = eqb-true w (7 * 2 ^ 28) (and_left (eqb w (7 * 2 ^ 28)) (ltb 0 e.sequences) right) in
       let inside = and_right (eqb w (7 * 2 ^ 28)) (ltb 0 e.sequences) right in
       rw (whole, inside)
 
-  pub step_faultless : step_right h e w ≡ true → Nothing ≡ fault_at h (seen e sets) p w
+  pub step_faultless : step_right h e w ≡ true → None ≡ fault_at h (seen e sets) p w
   step_faultless right =
       let t = and_six true true (is_kind 5 w) (eqb e.sequences 0) (eqb (payload w) e.steps) (ltb (payload w) h.steps) right in
       rw (eqb-true (kind w) 5 t.2, t.3, t.4, t.5)
 
-  pub sequence_faultless : sequence_right h e w ≡ true → Nothing ≡ fault_at h (seen e sets) p w
+  pub sequence_faultless : sequence_right h e w ≡ true → None ≡ fault_at h (seen e sets) p w
   sequence_faultless right =
       let t = and_six true true (is_kind 6 w) (leb h.steps e.steps) (eqb (payload w) e.sequences) (ltb (payload w) h.sequences) right in
       rw (eqb-true (kind w) 6 t.2, t.3, t.4, t.5)
@@ -76,7 +76,7 @@ step_opens h e w right = (and_six true true (is_kind 5 w) (eqb e.sequences 0) (e
 
 -- a word that has no fault after the words before it, wherever it stands, and what is carried past it
 pub record Passing (h : Head) (e : Earlier) (sets w : ℕ) (then : Earlier) : Type 0 where
-  pub faultless : (p : ℕ) → Nothing ≡ fault_at h (seen e sets) p w
+  pub faultless : (p : ℕ) → None ≡ fault_at h (seen e sets) p w
   pub past : passed e w ≡ then
 
 -- a word that opens neither a step nor a sequence

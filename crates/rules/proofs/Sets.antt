@@ -1,6 +1,6 @@
 -- What the column of the facts that a step sets says: a fact is in it exactly where an earlier word of the same step sets it.
 -- Assumes nothing.
-use Rattle.std.proofs.Common.{◌≡◌, ℕ, ◌+◌, ◌-◌, ◌<◌, ◌≤◌, Bool, true, false, cond, ◌&&◌, eqb, ◌⊎◌, ◌↔◌, List, [], ◌∷◌, ◌++◌, length, get_or, take, sym, refl, ap, ◌∙◌, inl, inr, ⊎_elim, add-one, arith, take-suc, eq-eqb, eqb-true}
+use Rattle.std.proofs.Common.{◌≡◌, ℕ, ◌+◌, ◌<◌, Bool, true, false, cond, ◌&&◌, eqb, ◌⊎◌, ◌↔◌, List, [], ◌∷◌, ◌++◌, length, get_or, take, sym, refl, ap, ◌∙◌, inl, inr, ⊎_elim, add-one, arith, take-suc, eq-eqb, eqb-true}
 use mathlib.Core.Bool.{false≢true}
 use mir.Val.{bool_byte}
 use Rattle.column.specs.Column.{with_fact}
@@ -8,7 +8,9 @@ use Rattle.column.specs.Sets.{in_column}
 use Rattle.column.proofs.Operations.{in_with, in_own, in_more, in_none}
 use Rattle.image.specs.Word.{kind, payload, is_kind}
 use Rattle.rules.specs.Rules.{opened, sets_after, sets_of, SetBefore, earlier}
-use Rattle.general.proofs.Bools.{or_cases, both_ways}
+use Rattle.std.specs.List.{push}
+use Rattle.std.proofs.lemmas.Bool.{eqb-false}
+use Rattle.general.proofs.Bools.{or_cases, and_parts, both_ways}
 
 -- ---- one word
 
@@ -64,16 +66,28 @@ unfolding sets_of
 sets_next ws i l = rw (add-one i) (ap (sets_of 0) (take-suc ws i 0 l) ∙ sets_append 0 (take i ws) (get_or ws i 0 ∷ []))
 
 -- nothing is set before the first word
-pub sets_first : (ws : List ℕ) (f : ℕ) → in_column (sets_of 0 (take 0 ws)) f ≡ false
+pub sets_first : (ws : List ℕ) (f : ℕ) → length ws ≡ 0 → in_column (sets_of 0 ws) f ≡ false
 unfolding sets_of
-sets_first ws f = in_none f
+sets_first [] f none = in_none f
+sets_first (w ∷ ws) f none = absurd (omega arith)
 
--- which facts are set before an index, by the word right before it and what is set before that
-pub sets_back : (ws : List ℕ) (i f : ℕ) → 0 < i → i ≤ length ws
-    → in_column (sets_of 0 (take i ws)) f ≡ in_column (sets_after (sets_of 0 (take (i - 1) ws)) (get_or ws (i - 1) 0)) f
-sets_back ws i f low high =
-    let one : i ≡ i - 1 + 1 = omega arith in
-    ap (λ (n : ℕ). in_column (sets_of 0 (take n ws)) f) one ∙ ap (λ (s : ℕ). in_column s f) (sets_next ws (i - 1) (omega arith))
+-- whether a fact is set, from the last word back: a set word of it, a step's opener, or another word
+module _ (ws until : List ℕ) (w f : ℕ) (stands : ws ≡ push until w) where
+  sets_last : in_column (sets_of 0 ws) f ≡ in_column (sets_after (sets_of 0 until) w) f
+  unfolding sets_of
+  sets_last = ap (λ (x : List ℕ). in_column (sets_of 0 x) f) stands ∙ ap (λ (s : ℕ). in_column s f) (sets_append 0 until (w ∷ []))
+
+  pub back_found : is_kind 3 w && eqb (payload w) f ≡ true → in_column (sets_of 0 ws) f ≡ true
+  back_found own =
+      let both = and_parts (is_kind 3 w) (eqb (payload w) f) own in
+      sets_last
+      ∙ ap (in_column (sets_after (sets_of 0 until) w)) (sym (eqb-true (payload w) f both.1)) ∙ set_word (sets_of 0 until) w (eqb-true (kind w) 3 both.0)
+
+  pub back_opened : is_kind 5 w ≡ true → in_column (sets_of 0 ws) f ≡ false
+  back_opened five = sets_last ∙ set_none (sets_of 0 until) f w (eqb-true (kind w) 5 five)
+
+  pub back_passed : is_kind 3 w && eqb (payload w) f ≡ false → is_kind 5 w ≡ false → in_column (sets_of 0 until) f ≡ in_column (sets_of 0 ws) f
+  back_passed other no_step = sym (sets_last ∙ set_same (sets_of 0 until) f w other (eqb-false (kind w) 5 no_step))
 
 opens_no_step : (w : ℕ) (ws : List ℕ) → (opened 5 (w ∷ ws) ≡ 0) ↔ ((kind w ≡ 5 → ⊥) × (opened 5 ws ≡ 0))
 unfolding opened

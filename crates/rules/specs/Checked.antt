@@ -1,26 +1,24 @@
 -- The check's answer: refusals 1 to 7, with 13 beside 4 to 6, in their order and with their positions, or acceptance (document 01,
 -- "Turned down, in checking order"; document 02, request 1).
-use Rattle.std.specs.Prelude.{◌≡◌, ℕ, ◌-◌, cond, ◌&&◌, ◌||◌, List, [], ◌∷◌, ◌++◌, length, take, drop, nat_le, nat_lt, slice_index}
+use Rattle.std.specs.Prelude.{◌≡◌, ℕ, ◌-◌, cond, ◌&&◌, ◌||◌, List, [], ◌∷◌, ◌++◌, length, take, drop, nat_le, nat_lt, slice_index, Option, Some, None, Ok, Err}
 use Rattle.image.specs.Word.{most_words, sum_right, head_of, head_right}
 use Rattle.rules.specs.Rules.{opened, earlier, fault_at}
 use Rattle.image.specs.declared.answer.Head.{Head}
 use Rattle.image.specs.declared.answer.Refusal.TheVariants.{Length, SumWord, HeadWord, Missing}
-use Rattle.image.specs.declared.answer.Checked.{Checked}
-use Rattle.image.specs.declared.answer.Checked.TheVariants.{Accepted, Refused}
-use Rattle.rules.specs.declared.rules.Fault.{Fault}
-use Rattle.rules.specs.declared.rules.Fault.TheVariants.{Found, Nothing}
+use Rattle.image.specs.Answer.{Checked}
+use Rattle.image.specs.declared.answer.Refusal.{Refusal}
 
 -- the answer at a word: its fault, or what the words after it give
-abbrev pub at_word : Fault → Checked → Checked
-at_word (Found r) after = Refused r
-at_word Nothing after = after
+abbrev pub at_word : Option Refusal → Checked → Checked
+at_word (Some r) after = Err r
+at_word None after = after
 
 -- 7: "Fewer than A steps or C sequences were opened, position of the last word." The words are all but the last
 abbrev pub counted : Head → List ℕ → Checked
 counted h words =
     cond (nat_lt (opened 5 words) h.steps || nat_lt (opened 6 words) h.sequences)
-    (Refused (Missing (length words)))
-    (Accepted h)
+    (Err (Missing (length words)))
+    (Ok h)
 
 -- "In 4 to 6 the earliest word decides"; 13 "joins 4 to 6": the words are looked at in order, each after those before it
 unfoldable pub scan : Head → List ℕ → List ℕ → Checked
@@ -50,10 +48,10 @@ checked image =
     (cond (sum_right (all_but_last image) (last_word image))
     (cond (head_right (first_word image))
     (scan (head_of (first_word image)) (take 1 image) (between image))
-    (Refused HeadWord))
-    (Refused (SumWord (length image - 1))))
-    (Refused Length)
+    (Err HeadWord))
+    (Err (SumWord (length image - 1))))
+    (Err Length)
 
 -- an image that the check accepts, and what its head counts
 abbrev pub Accepts : List ℕ → Head → Type 0
-Accepts image h = checked image ≡ Accepted h
+Accepts image h = checked image ≡ Ok h

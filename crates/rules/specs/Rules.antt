@@ -1,15 +1,14 @@
 -- The rules for a word between head and sum word: what may stand where (refusal 4), the payloads (5), the order of fact words (6)
 -- and that no step clears what it sets (13). Each is a rule on the word and on the words before it, the head among them (document 01,
 -- "The image"; document 02, requests 1 and 4).
-use Rattle.std.specs.Prelude.{◌≡◌, ℕ, ◌+◌, Bool, cond, not, ◌&&◌, ◌||◌, List, [], ◌∷◌, ◌++◌, ◌==◌, nat_le, nat_lt}
+use Rattle.std.specs.Prelude.{◌≡◌, ℕ, ◌+◌, Bool, cond, not, ◌&&◌, ◌||◌, List, [], ◌∷◌, ◌++◌, ◌==◌, nat_le, nat_lt, Option, Some, None}
 use mir.Val.{bool_byte}
 use Rattle.column.specs.Column.{with_fact}
 use Rattle.column.specs.Sets.{in_column}
 use Rattle.image.specs.Word.{kind, payload, is_kind, is_fact, is_entry}
 use Rattle.image.specs.declared.answer.Head.{Head}
-use Rattle.rules.specs.declared.rules.Fault.{Fault}
 use Rattle.image.specs.declared.answer.Refusal.TheVariants.{Kind, Payload, FactOrder, SetAndCleared}
-use Rattle.rules.specs.declared.rules.Fault.TheVariants.{Found, Nothing}
+use Rattle.image.specs.declared.answer.Refusal.{Refusal}
 
 -- how many of the words are of a kind
 unfoldable pub opened : ℕ → List ℕ → ℕ
@@ -92,12 +91,12 @@ abbrev pub clears_unset : ℕ → ℕ → Bool
 clears_unset sets w = where_kind (is_kind 4 w) (not (in_column sets (payload w)))
 
 -- the fault of a word at position p: "in one word the lower number"; 13 "joins 4 to 6 .. and comes last within one word"
-abbrev pub fault_at : Head → Before → ℕ → ℕ → Fault
+abbrev pub fault_at : Head → Before → ℕ → ℕ → Option Refusal
 fault_at h e p w =
     cond (may_stand h e w)
     (cond (payload_right h e w)
     (cond (in_order e w)
-    (cond (clears_unset e.sets w) Nothing (Found (SetAndCleared p)))
-    (Found (FactOrder p)))
-    (Found (Payload p)))
-    (Found (Kind p))
+    (cond (clears_unset e.sets w) None (Some (SetAndCleared p)))
+    (Some (FactOrder p)))
+    (Some (Payload p)))
+    (Some (Kind p))

@@ -3,13 +3,10 @@ ghost use Rattle.std.specs.Prelude.{◌≡◌, ◌+◌, ◌<◌, ◌≤◌, true
 ghost use Rattle.column.specs.Sets.{in_column};
 ghost use Rattle.image.specs.Word.{most_words};
 ghost use Rattle.rules.specs.Rules.{sets_of, may_stand, payload_right, in_order, clears_unset, fault_at};
-ghost use Rattle.rules.specs.Quick.{entry_right, alternative_right, body_right, inside_right, Counts, step_right, sequence_right, passed, seen, up_to};
+ghost use Rattle.rules.specs.Quick.{entry_right, alternative_right, body_right, inside_right, Counts, step_right, sequence_right, passed, with_last, seen, up_to};
 
 use image::answer::{Head, Refusal};
-use image::word::{
-    ALTERNATIVE_WORD, KIND_ALTERNATIVE, KIND_CHECK, KIND_CLEARS, KIND_NEEDS, KIND_SEQUENCE,
-    KIND_SEQUENCE_ENTRY, KIND_SETS, KIND_STEP, KIND_STEP_ENTRY, PAYLOADS,
-};
+use image::word::{ALTERNATIVE_WORD, Kind, is_entry, is_fact, payload_of};
 
 // Added with wrap, these take 8, 9 and 13 × 2^28 away: what is left of an entry is its payload.
 const LESS_STEP_ENTRY: u32 = 0x80000000;
@@ -27,69 +24,75 @@ pub struct Earlier {
     pub last: u32,
 }
 
-// What is wrong with a word: refusal 4, 5, 6 or 13 with its position, or nothing.
-#[derive(Clone, Copy)]
-pub enum Fault {
-    Found(Refusal),
-    Nothing,
+impl Earlier {
+    // What is carried of the words up to and with `w`.
+    pub fn past(self, w: u32) -> Earlier
+        requires { (self.steps + 1 < 4294967296) × (self.sequences + 1 < 4294967296) }
+        ensures { result ≡ passed self w }
+    {
+        Earlier {
+            steps: self.steps + Kind::Step.is_of(w) as u32,
+            sequences: self.sequences + Kind::Sequence.is_of(w) as u32,
+            last: w,
+        }
+    }
+
+    // What is carried further on, where words that open neither a step nor a sequence follow, the last of them `last`.
+    pub fn further_on(self, last: u32) -> Earlier
+        ensures { result ≡ with_last self last }
+    {
+        Earlier { last, ..self }
+    }
 }
 
 // Refusal 4: whether a word of this kind may stand here.
 fn may_stand(h: Head, e: Earlier, w: u32) -> bool
     ensures { result ≡ may_stand h (seen e 0) w }
 {
-    let k = w / PAYLOADS;
-    let l = e.last / PAYLOADS;
-    ((k == KIND_NEEDS) | (k == KIND_SETS) | (k == KIND_CLEARS))
-        & ((l == KIND_STEP) | ((l == KIND_NEEDS) | (l == KIND_SETS) | (l == KIND_CLEARS)))
-        | (k == KIND_STEP) & (e.sequences == 0)
-        | (k == KIND_SEQUENCE) & (h.steps <= e.steps)
-        | (k == KIND_ALTERNATIVE) & (0 < e.sequences)
-        | ((k == KIND_STEP_ENTRY) | (k == KIND_SEQUENCE_ENTRY) | (k == KIND_CHECK))
-            & ((l == KIND_ALTERNATIVE)
-                | ((l == KIND_STEP_ENTRY) | (l == KIND_SEQUENCE_ENTRY) | (l == KIND_CHECK)))
+    match Kind::of(w) {
+        Some(Kind::Needs | Kind::Sets | Kind::Clears) => Kind::Step.is_of(e.last) | is_fact(e.last),
+        Some(Kind::Step) => e.sequences == 0,
+        Some(Kind::Sequence) => h.steps <= e.steps,
+        Some(Kind::Alternative) => 0 < e.sequences,
+        Some(Kind::StepEntry | Kind::SequenceEntry | Kind::Check) => {
+            Kind::Alternative.is_of(e.last) | is_entry(e.last)
+        }
+        _ => false,
+    }
 }
 
 // Refusal 5: whether the payload keeps the rule of its kind.
 fn payload_right(h: Head, e: Earlier, w: u32) -> bool
     ensures { result ≡ payload_right h (seen e 0) w }
 {
-    let k = w / PAYLOADS;
-    let p = w % PAYLOADS;
-    (!(k == KIND_STEP) | ((p == e.steps) & (p < h.steps)))
-        & (!(k == KIND_SEQUENCE) | ((p == e.sequences) & (p < h.sequences)))
-        & (!(k == KIND_STEP_ENTRY) | (p < h.steps))
-        & (!(k == KIND_SEQUENCE_ENTRY) | (p < h.sequences))
-        & (!((k == KIND_NEEDS) | (k == KIND_SETS) | (k == KIND_CLEARS)) | (p < h.facts))
-        & (!(k == KIND_ALTERNATIVE) | (p == 0))
-        & (!(k == KIND_CHECK) | (p < h.facts))
+    let p = payload_of(w);
+    match Kind::of(w) {
+        Some(Kind::Step) => (p == e.steps) & (p < h.steps),
+        Some(Kind::Sequence) => (p == e.sequences) & (p < h.sequences),
+        Some(Kind::StepEntry) => p < h.steps,
+        Some(Kind::SequenceEntry) => p < h.sequences,
+        Some(Kind::Needs | Kind::Sets | Kind::Clears | Kind::Check) => p < h.facts,
+        Some(Kind::Alternative) => p == 0,
+        _ => true,
+    }
 }
 
 // Refusal 6: whether a fact word is greater than the fact word right before it.
 fn in_order(e: Earlier, w: u32) -> bool
     ensures { result ≡ in_order (seen e 0) w }
 {
-    let k = w / PAYLOADS;
-    let l = e.last / PAYLOADS;
-    !(((k == KIND_NEEDS) | (k == KIND_SETS) | (k == KIND_CLEARS))
-        & ((l == KIND_NEEDS) | (l == KIND_SETS) | (l == KIND_CLEARS)))
-        | (e.last < w)
+    !(is_fact(w) & is_fact(e.last)) | (e.last < w)
 }
 
-// Whether a word of the step sets the fact `f`, among the words before index `i`: these are looked at from the last one back to the step's
-// opener.
-fn set_before(part: &[u32], i: usize, f: u32) -> bool
-    requires { i ≤ length part.now }
-    ensures { result ≡ in_column (sets_of 0 (take i part.now)) f }
+// Whether a word of the step sets the fact `f`, among these words: they are looked at from the last one back to the step's opener.
+fn set_before(words: &[u32], f: u32) -> bool
+    ensures { result ≡ in_column (sets_of 0 words.now) f }
 {
-    let mut j = i;
-    while 0 < j {
-        j -= 1;
-        let w = part[j];
-        if (w / PAYLOADS == KIND_SETS) & (w % PAYLOADS == f) {
+    for &w in words.iter().rev() {
+        if Kind::Sets.is_of(w) & (payload_of(w) == f) {
             return true;
         }
-        if w / PAYLOADS == KIND_STEP {
+        if Kind::Step.is_of(w) {
             return false;
         }
     }
@@ -102,24 +105,18 @@ fn clears_unset(part: &[u32], i: usize) -> bool
     ensures { result ≡ clears_unset (sets_of 0 (take i part.now)) (slice_index part.now i) }
 {
     let w = part[i];
-    if w / PAYLOADS == KIND_CLEARS {
-        return !set_before(part, i, w % PAYLOADS);
-    }
-    true
+    !Kind::Clears.is_of(w) || !set_before(&part[..i], payload_of(w))
 }
 
 // Whether a word of kind 8, 9 or 13 is right: an entry after a kind 7 or another entry that names what the head counts.
 fn entry_right(h: Head, last: u32, w: u32) -> bool
     ensures { result ≡ entry_right h last w }
 {
-    let k = w / PAYLOADS;
-    let p = w % PAYLOADS;
-    let l = last / PAYLOADS;
-    ((l == KIND_ALTERNATIVE)
-        | ((l == KIND_STEP_ENTRY) | (l == KIND_SEQUENCE_ENTRY) | (l == KIND_CHECK)))
-        & (((k == KIND_STEP_ENTRY) & (p < h.steps))
-            | ((k == KIND_SEQUENCE_ENTRY) & (p < h.sequences))
-            | ((k == KIND_CHECK) & (p < h.facts)))
+    let p = payload_of(w);
+    (Kind::Alternative.is_of(last) | is_entry(last))
+        & ((Kind::StepEntry.is_of(w) & (p < h.steps))
+            | (Kind::SequenceEntry.is_of(w) & (p < h.sequences))
+            | (Kind::Check.is_of(w) & (p < h.facts)))
 }
 
 // Whether a word of kind 7 is right.
@@ -133,27 +130,23 @@ fn alternative_right(e: Earlier, w: u32) -> bool
 pub fn body_right(h: Head, e: Earlier, last: u32, w: u32) -> bool
     ensures { result ≡ body_right h e last w }
 {
-    let entry = entry_right(h, last, w);
-    let alternative = alternative_right(e, w);
-    entry | alternative
+    entry_right(h, last, w) | alternative_right(e, w)
 }
 
 // Whether a word of kind 5 is right.
 pub fn step_right(h: Head, e: Earlier, w: u32) -> bool
     ensures { result ≡ step_right h e w }
 {
-    let k = w / PAYLOADS;
-    let p = w % PAYLOADS;
-    (k == KIND_STEP) & (e.sequences == 0) & (p == e.steps) & (p < h.steps)
+    let p = payload_of(w);
+    Kind::Step.is_of(w) & (e.sequences == 0) & (p == e.steps) & (p < h.steps)
 }
 
 // Whether a word of kind 6 is right.
 pub fn sequence_right(h: Head, e: Earlier, w: u32) -> bool
     ensures { result ≡ sequence_right h e w }
 {
-    let k = w / PAYLOADS;
-    let p = w % PAYLOADS;
-    (k == KIND_SEQUENCE) & (h.steps <= e.steps) & (p == e.sequences) & (p < h.sequences)
+    let p = payload_of(w);
+    Kind::Sequence.is_of(w) & (h.steps <= e.steps) & (p == e.sequences) & (p < h.sequences)
 }
 
 // Whether a word of kind 7, 8, 9 or 13 is right after another such word. Counts below 2^28 leave a kind's payloads in one range of numbers.
@@ -161,42 +154,30 @@ pub fn inside_right(h: Head, w: u32) -> bool
     requires { Counts h }
     ensures { result ≡ true → inside_right h w ≡ true }
 {
-    let step = std::num::wrapping_add_u32(w, LESS_STEP_ENTRY);
-    let sequence = std::num::wrapping_add_u32(w, LESS_SEQUENCE_ENTRY);
-    let check = std::num::wrapping_add_u32(w, LESS_CHECK);
+    let step = w.wrapping_add(LESS_STEP_ENTRY);
+    let sequence = w.wrapping_add(LESS_SEQUENCE_ENTRY);
+    let check = w.wrapping_add(LESS_CHECK);
     (step < h.steps) | (sequence < h.sequences) | (check < h.facts) | (w == ALTERNATIVE_WORD)
 }
 
 // The first refusal of 4, 5, 6 and 13 that the word at index `i` meets, by each rule, in a part that begins at position `at`.
-pub fn first_fault(h: Head, e: Earlier, at: usize, part: &[u32], i: usize) -> Fault
+pub fn first_fault(h: Head, e: Earlier, at: usize, part: &[u32], i: usize) -> Option<Refusal>
     requires { (i < length part.now) × (at + length part.now ≤ most_words) }
     ensures { result ≡ fault_at h (up_to part.now e i) (at + i) (slice_index part.now i) }
 {
     let w = part[i];
     let p = (at + i) as u32;
     if !may_stand(h, e, w) {
-        return Fault::Found(Refusal::Kind(p));
+        return Some(Refusal::Kind(p));
     }
     if !payload_right(h, e, w) {
-        return Fault::Found(Refusal::Payload(p));
+        return Some(Refusal::Payload(p));
     }
     if !in_order(e, w) {
-        return Fault::Found(Refusal::FactOrder(p));
+        return Some(Refusal::FactOrder(p));
     }
     if !clears_unset(part, i) {
-        return Fault::Found(Refusal::SetAndCleared(p));
+        return Some(Refusal::SetAndCleared(p));
     }
-    Fault::Nothing
-}
-
-// What is carried of the words up to and with `w`.
-pub fn past(e: Earlier, w: u32) -> Earlier
-    requires { (e.steps + 1 < 4294967296) × (e.sequences + 1 < 4294967296) }
-    ensures { result ≡ passed e w }
-{
-    Earlier {
-        steps: e.steps + ((w / PAYLOADS == KIND_STEP) as u32),
-        sequences: e.sequences + ((w / PAYLOADS == KIND_SEQUENCE) as u32),
-        last: w,
-    }
+    None
 }

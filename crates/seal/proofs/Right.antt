@@ -17,12 +17,11 @@ use Rattle.image.specs.Answer.{refusal_answer}
 use Rattle.image.specs.Word.{most_words, kind, payload, is_kind, ordered_sum, sum_right, head_of, head_right}
 use Rattle.image.specs.declared.answer.Head.{Head}
 use Rattle.image.specs.declared.answer.Refusal.TheVariants.{Length, HeadWord, Kind, Payload, FactOrder, Missing, SetAndCleared}
-use Rattle.image.specs.declared.answer.Checked.{Checked}
-use Rattle.image.specs.declared.answer.Checked.TheVariants.{Accepted, Refused}
-use Rattle.rules.specs.declared.rules.Fault.TheVariants.{Found, Nothing}
 use Rattle.rules.specs.Rules.{opened, earlier, may_stand, payload_right, in_order, clears_unset}
 use Rattle.rules.specs.Checked.{at_word, scan, all_but_last, between, first_word, last_word, checked}
 use Rattle.seal.specs.Answer.{sum_word, with_sum}
+use Rattle.std.specs.Prelude.{Some, None, Ok, Err}
+use Rattle.image.specs.Answer.{Checked}
 
 -- ---- words with one word after them
 
@@ -72,8 +71,8 @@ right_stays image some right =
 
 -- it answers something else than 2: "N × 2^32 + P for refusal N at position P"
 abbrev pub NotTwo : Checked → Type 0
-NotTwo (Accepted h) = Unit {0}
-NotTwo (Refused r) = refusal_answer r / 2 ^ 32 ≢ 2
+NotTwo (Ok h) = Unit {0}
+NotTwo (Err r) = refusal_answer r / 2 ^ 32 ≢ 2
 
 either : (b : Bool) (x y : Checked) → NotTwo x → NotTwo y → NotTwo (cond b x y)
 either true x y p q = p
@@ -81,7 +80,7 @@ either false x y p q = q
 
 -- nothing that is found at a word is 2
 fault_not : (a b c d : Bool) (p : ℕ) (after : Checked) → NotTwo after
-    → NotTwo (at_word (cond a (cond b (cond c (cond d Nothing (Found (SetAndCleared p))) (Found (FactOrder p))) (Found (Payload p))) (Found (Kind p))) after)
+    → NotTwo (at_word (cond a (cond b (cond c (cond d None (Some (SetAndCleared p))) (Some (FactOrder p))) (Some (Payload p))) (Some (Kind p))) after)
 fault_not true true true true p after rest = rest
 fault_not true true true false p after rest = λ e. omega arith
 fault_not true true false d p after rest = λ e. omega arith
@@ -91,7 +90,7 @@ fault_not false b c d p after rest = λ e. omega arith
 scan_not : (h : Head) (before ws : List ℕ) → NotTwo (scan h before ws)
 unfolding scan
 scan_not h before [] =
-    either (ltb (opened 5 before) h.steps || ltb (opened 6 before) h.sequences) (Refused (Missing (length before))) (Accepted h) (λ e. omega arith) tt
+    either (ltb (opened 5 before) h.steps || ltb (opened 6 before) h.sequences) (Err (Missing (length before))) (Ok h) (λ e. omega arith) tt
 scan_not h before (w ∷ ws) =
     let e = earlier before in
     fault_not (may_stand h e w) (payload_right h e w) (in_order e w) (clears_unset e.sets w) (length before) (scan h (before ++ (w ∷ [])) ws)
@@ -101,6 +100,6 @@ pub right_unrefused : (image : List ℕ) → sum_right (all_but_last image) (las
 unfolding checked
 right_unrefused image right =
     rw right
-    (either (leb 2 (length image) && leb (length image) most_words) _ (Refused Length)
-    (either (head_right (first_word image)) (scan (head_of (first_word image)) (take 1 image) (between image)) (Refused HeadWord)
+    (either (leb 2 (length image) && leb (length image) most_words) _ (Err Length)
+    (either (head_right (first_word image)) (scan (head_of (first_word image)) (take 1 image) (between image)) (Err HeadWord)
     (scan_not (head_of (first_word image)) (take 1 image) (between image)) (λ e. omega arith)) (λ e. omega arith))

@@ -2,31 +2,25 @@
 ghost use Rattle.std.specs.Prelude.{◌≡◌};
 ghost use Rattle.seal.specs.Answer.{sum_word, SealCalled};
 
-use crate::answer::Sealing;
 use image::answer::Refusal;
-use image::word::{FEWEST_WORDS, KIND_SUM, MOST_WORDS, PAYLOADS};
+use image::word::{FEWEST_WORDS, Kind, MOST_WORDS};
 use sum::payload::sum_of;
 
 // The sum word after these words.
 fn sum_word(earlier: &[u32]) -> u32
     ensures { result ≡ sum_word earlier.now }
 {
-    KIND_SUM * PAYLOADS + sum_of(earlier)
+    Kind::Sum.word(sum_of(earlier))
 }
 
 // The seal call: what it answers, and the words of the image after it. The last word is written and not read.
-pub fn seal(image: &mut [u32]) -> Sealing
+pub fn seal(image: &mut [u32]) -> Result<(), Refusal>
     ensures { SealCalled image.old result image.new }
 {
-    let n = image.len();
-    if n < FEWEST_WORDS {
-        return Sealing::Refused(Refusal::Length);
+    if !(FEWEST_WORDS..=MOST_WORDS).contains(&image.len()) {
+        return Err(Refusal::Length);
     }
-    if MOST_WORDS < n {
-        return Sealing::Refused(Refusal::Length);
-    }
-    let last = n - 1;
-    let word = sum_word(&image[..last]);
-    image[last] = word;
-    Sealing::Sealed
+    let (last, earlier) = image.split_last_mut().ok_or(Refusal::Length)?;
+    *last = sum_word(earlier);
+    Ok(())
 }

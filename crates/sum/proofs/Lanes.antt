@@ -1,13 +1,13 @@
 -- The sums of words in four lanes. It has, in this order: numbers with wrap; the lanes joined; the start, a turn and the end of the loop.
 -- Assumes nothing.
-use Rattle.std.proofs.Common.{◌≡◌, ℕ, ◌+◌, ◌-◌, ◌*◌, ◌/◌, ◌%◌, ◌^◌, ◌<◌, ◌≤◌, List, length, get_or, drop, sym, refl, ap, ◌∙◌, arith}
+use Rattle.std.proofs.Common.{◌≡◌, ℕ, ◌+◌, ◌-◌, ◌*◌, ◌/◌, ◌%◌, ◌^◌, ◌<◌, List, [], ◌∷◌, ◌++◌, length, get_or, drop, sym, refl, ap, ◌∙◌, arith, append_assoc, length-append}
+use Rattle.std.proofs.Math.Seq.{drop-append_seam}
 use native.Mathlib.Nat.{add-mod, mod-add-mod}
 use Rattle.general.proofs.Numbers.{same_remainder}
 use Rattle.image.specs.Word.{counts_as}
 use Rattle.sum.specs.Sums.{with_word, sums_after}
 use Rattle.sum.specs.Lanes.{wrapped, Lanes, Joined}
 use Rattle.sum.specs.declared.sums.Sums.{Sums}
-use Rattle.sum.proofs.Loop.{sums_turn}
 
 -- ---- numbers with wrap
 
@@ -57,17 +57,26 @@ module _ (a b c d : Sums) (running values : ℕ) (added : running ≡ (a.running
       cc (weighed_wraps sum lanes.running₁ lanes.running₂ lanes.running₃ lanes.values lanes.weighed) in
       record { running = whole i; values = weighs i }
 
--- the lanes, where the words before index i are in them
-pub record InFours (words : List ℕ) (a b c d : Sums) (i : ℕ) : Type 0 where
-  pub within : i ≤ length words
-  pub fours : i % 4 ≡ 0
+-- the lanes, where the words in front are in them and the rest is to come
+pub record InFours (words : List ℕ) (a b c d : Sums) (rest : List ℕ) : Type 0 where
+  pub front : List ℕ
+  pub stands : words ≡ front ++ rest
+  pub fours : length front % 4 ≡ 0
   pub lanes : Lanes a b c d
-  pub so_far : sums_after (wrapped lanes.running lanes.values) (drop i words) ≡ sums_after (wrapped 0 0) words
+  pub so_far : sums_after (wrapped lanes.running lanes.values) rest ≡ sums_after (wrapped 0 0) words
 
-pub fours_none : (words : List ℕ) → InFours words (wrapped 0 0) (wrapped 0 0) (wrapped 0 0) (wrapped 0 0) 0
-fours_none words =
+-- what `default` gives
+abbrev NoSums : Sums → Type 0
+NoSums s = (s.running ≡ 0) × (s.values ≡ 0)
+
+no_sums : (s : Sums) → NoSums s → s ≡ wrapped 0 0
+no_sums s (r, v) i = record { running = r i; values = v i }
+
+pub fours_none : (words : List ℕ) (a b c d : Sums) → NoSums a → NoSums b → NoSums c → NoSums d → InFours words a b c d words
+fours_none words a b c d p q r t =
     record {
-      within = omega arith;
+      front = [];
+      stands = refl;
       fours = refl;
       lanes =
           record {
@@ -81,10 +90,10 @@ fours_none words =
             values₃ = 0;
             running = 0;
             values = 0;
-            first = refl;
-            second = refl;
-            third = refl;
-            fourth = refl;
+            first = no_sums a p;
+            second = no_sums b q;
+            third = no_sums c r;
+            fourth = no_sums d t;
             together = refl;
             weighed = refl;
           };
@@ -95,43 +104,34 @@ fours_none words =
 lane_turn : (s b w : ℕ) (lane next : Sums) → next ≡ with_word lane w → lane ≡ wrapped s b → next ≡ wrapped (s + counts_as w) (b + (s + counts_as w))
 lane_turn s b w lane next e l = e ∙ ap (λ (x : Sums). with_word x w) l ∙ wrapped_turn s b w
 
--- a word more of all
-word_turn : (s b : ℕ) (words : List ℕ) (i j : ℕ) → i < length words → j ≡ i + 1
-    → sums_after (wrapped (s + counts_as (get_or words i 0)) (b + (s + counts_as (get_or words i 0)))) (drop j words) ≡ sums_after (wrapped s b) (drop i words)
-word_turn s b words i j l e =
-    ap (λ (n : ℕ). sums_after (wrapped (s + counts_as (get_or words i 0)) (b + (s + counts_as (get_or words i 0)))) (drop n words)) e
-    ∙ ap (λ (x : Sums). sums_after x (drop (i + 1) words)) (sym (wrapped_turn s b (get_or words i 0)))
-    ∙ sym (sums_turn (wrapped s b) words i l)
-
-pub fours_turn : (words : List ℕ) (i : ℕ) (a b c d a' b' c' d' : Sums) → i + 4 ≤ length words → InFours words a b c d i
-    → a' ≡ with_word a (get_or words i 0) → b' ≡ with_word b (get_or words (i + 1) 0) → c' ≡ with_word c (get_or words (i + 2) 0)
-    → d' ≡ with_word d (get_or words (i + 3) 0) → InFours words a' b' c' d' (i + 4)
-fours_turn words i a b c d a' b' c' d' room four p q r t =
-    let l = four.lanes in
-    let v₀ = counts_as (get_or words i 0) in
-    let v₁ = counts_as (get_or words (i + 1) 0) in
-    let v₂ = counts_as (get_or words (i + 2) 0) in
-    let v₃ = counts_as (get_or words (i + 3) 0) in
-    let s₀ = l.running + v₀ in
-    let s₁ = s₀ + v₁ in
-    let s₂ = s₁ + v₂ in
-    let s₃ = s₂ + v₃ in
+-- four words more
+pub fours_turn : (words four rest then : List ℕ) (a b c d a' b' c' d' : Sums) → rest ≡ four ++ then → length four ≡ 4 → InFours words a b c d rest
+    → a' ≡ with_word a (get_or four 0 0) → b' ≡ with_word b (get_or four 1 0) → c' ≡ with_word c (get_or four 2 0)
+    → d' ≡ with_word d (get_or four 3 0) → InFours words a' b' c' d' then
+fours_turn words (w₀ ∷ w₁ ∷ w₂ ∷ w₃ ∷ []) rest then a b c d a' b' c' d' is size so p q r t =
+    let l = so.lanes in
+    let four = w₀ ∷ w₁ ∷ w₂ ∷ w₃ ∷ [] in
+    let s₀ = l.running + counts_as w₀ in
+    let s₁ = s₀ + counts_as w₁ in
+    let s₂ = s₁ + counts_as w₂ in
+    let s₃ = s₂ + counts_as w₃ in
     let u₀ = l.values + s₀ in
     let u₁ = u₀ + s₁ in
     let u₂ = u₁ + s₂ in
     record {
-      within = room;
-      fours = omega (arith, four.fours);
+      front = so.front ++ four;
+      stands = so.stands ∙ ap (λ (x : List ℕ). so.front ++ x) is ∙ sym (append_assoc so.front four then);
+      fours = rw length-append (omega (arith, so.fours));
       lanes =
           record {
-            running₀ = l.running₀ + v₀;
-            running₁ = l.running₁ + v₁;
-            running₂ = l.running₂ + v₂;
-            running₃ = l.running₃ + v₃;
-            values₀ = l.values₀ + (l.running₀ + v₀);
-            values₁ = l.values₁ + (l.running₁ + v₁);
-            values₂ = l.values₂ + (l.running₂ + v₂);
-            values₃ = l.values₃ + (l.running₃ + v₃);
+            running₀ = l.running₀ + counts_as w₀;
+            running₁ = l.running₁ + counts_as w₁;
+            running₂ = l.running₂ + counts_as w₂;
+            running₃ = l.running₃ + counts_as w₃;
+            values₀ = l.values₀ + (l.running₀ + counts_as w₀);
+            values₁ = l.values₁ + (l.running₁ + counts_as w₁);
+            values₂ = l.values₂ + (l.running₂ + counts_as w₂);
+            values₃ = l.values₃ + (l.running₃ + counts_as w₃);
             running = s₃;
             values = u₂ + s₃;
             first = lane_turn l.running₀ l.values₀ _ a a' p l.first;
@@ -142,15 +142,23 @@ fours_turn words i a b c d a' b' c' d' room four p q r t =
             weighed = omega (arith, l.together, l.weighed);
           };
       so_far =
-          word_turn s₂ u₂ words (i + 3) (i + 4) (omega arith) (omega arith)
-          ∙ word_turn s₁ u₁ words (i + 2) (i + 3) (omega arith) (omega arith)
-          ∙ word_turn s₀ u₀ words (i + 1) (i + 2) (omega arith) (omega arith)
-          ∙ word_turn l.running l.values words i (i + 1) (omega arith) refl
-          ∙ four.so_far;
+          ap (λ (x : Sums). sums_after x then)
+          (sym (wrapped_turn s₂ u₂ w₃)
+          ∙ ap (λ (x : Sums). with_word x w₃)
+          (sym (wrapped_turn s₁ u₁ w₂) ∙ ap (λ (x : Sums). with_word x w₂) (sym (wrapped_turn s₀ u₀ w₁) ∙ ap (λ (x : Sums). with_word x w₁) (sym (wrapped_turn l.running l.values w₀)))))
+          ∙ ap (sums_after (wrapped l.running l.values)) (sym is)
+          ∙ so.so_far;
     }
+fours_turn words [] rest then a b c d a' b' c' d' is size so p q r t = absurd (omega arith)
+fours_turn words (w₀ ∷ []) rest then a b c d a' b' c' d' is size so p q r t = absurd (omega arith)
+fours_turn words (w₀ ∷ w₁ ∷ []) rest then a b c d a' b' c' d' is size so p q r t = absurd (omega arith)
+fours_turn words (w₀ ∷ w₁ ∷ w₂ ∷ []) rest then a b c d a' b' c' d' is size so p q r t = absurd (omega arith)
+fours_turn words (w₀ ∷ w₁ ∷ w₂ ∷ w₃ ∷ w ∷ ws) rest then a b c d a' b' c' d' is size so p q r t = absurd (omega arith)
 
-pub fours_end : (words : List ℕ) (i : ℕ) (a b c d sums : Sums) → length words < i + 4 → InFours words a b c d i → Joined a b c d sums
+pub fours_end : (words rest : List ℕ) (a b c d sums : Sums) → length rest < 4 → InFours words a b c d rest → Joined a b c d sums
     → sums_after sums (drop (length words / 4 * 4) words) ≡ sums_after (wrapped 0 0) words
-fours_end words i a b c d sums few four joined =
-    let last : length words / 4 * 4 ≡ i = omega (arith, four.within, four.fours) in
-    ap (λ (n : ℕ). sums_after sums (drop n words)) last ∙ ap (λ (x : Sums). sums_after x (drop i words)) (joined four.lanes) ∙ four.so_far
+fours_end words rest a b c d sums few so joined =
+    let size : length words ≡ length so.front + length rest = rw (so.stands, length-append) refl in
+    let last : length words / 4 * 4 ≡ length so.front = omega (arith, so.fours) in
+    let left : drop (length words / 4 * 4) words ≡ rest = rw (last, so.stands, drop-append_seam) refl in
+    rw (left, joined so.lanes) so.so_far

@@ -1,6 +1,7 @@
 -- The sum word's rule in the form that the code follows: the two sums are carried from word to word. `sums_payload` (proofs/Loop) proves that
 -- they give the payload of `Word`.
-use Rattle.std.specs.Prelude.{ℕ, ◌+◌, ◌%◌, ◌^◌, List, [], ◌∷◌}
+use Rattle.std.specs.Prelude.{ℕ, ◌+◌, ◌%◌, ◌^◌, List}
+use Rattle.std.specs.List.{fold}
 use Rattle.image.specs.Word.{counts_as}
 use Rattle.sum.specs.declared.sums.Sums.{Sums}
 
@@ -13,6 +14,5 @@ with_word sums w =
     }
 
 -- and with all these words
-unfoldable pub sums_after : Sums → List ℕ → Sums
-sums_after sums [] = sums
-sums_after sums (w ∷ ws) = sums_after (with_word sums w) ws
+abbrev pub sums_after : Sums → List ℕ → Sums
+sums_after = fold with_word

@@ -4,25 +4,17 @@ ghost use Rattle.std.specs.Prelude.{◌≡◌, ◌+◌, ◌*◌, ◌/◌, ◌%�
 ghost use Rattle.sum.specs.Sums.{sums_after};
 ghost use Rattle.sum.specs.Lanes.{wrapped, Joined};
 
-use crate::sums::{Sums, with_word};
+use crate::sums::Sums;
 use image::word::AT_ONCE;
 
 // Sums wrap at 2^32.
 const WRAP: u64 = 0x100000000;
 
-// The sums of no word.
-const NO_SUMS: Sums = Sums {
-    running: 0,
-    values: 0,
-};
-
 // Four numbers added with wrap.
 fn added(a: u32, b: u32, c: u32, d: u32) -> u32
     ensures { result ≡ (a + b + c + d) % 2 ^ 32 }
 {
-    let two = std::num::wrapping_add_u32(a, b);
-    let three = std::num::wrapping_add_u32(two, c);
-    std::num::wrapping_add_u32(three, d)
+    a.wrapping_add(b).wrapping_add(c).wrapping_add(d)
 }
 
 // The sums of all words, from those of the lanes. Each time that the values of its lane take in a word, those of all words take it in four
@@ -42,17 +34,15 @@ fn joined(a: Sums, b: Sums, c: Sums, d: Sums) -> Sums
 pub fn sums_in_fours(words: &[u32]) -> Sums
     ensures { sums_after result (drop (length words.now / 4 * 4) words.now) ≡ sums_after (wrapped 0 0) words.now }
 {
-    let mut a = NO_SUMS;
-    let mut b = NO_SUMS;
-    let mut c = NO_SUMS;
-    let mut d = NO_SUMS;
-    let mut i = 0;
-    while AT_ONCE <= words.len() - i {
-        a = with_word(a, words[i]);
-        b = with_word(b, words[i + 1]);
-        c = with_word(c, words[i + 2]);
-        d = with_word(d, words[i + 3]);
-        i += AT_ONCE;
+    let mut a = Sums::default();
+    let mut b = Sums::default();
+    let mut c = Sums::default();
+    let mut d = Sums::default();
+    for four in words.chunks_exact(AT_ONCE) {
+        a = a.with_word(four[0]);
+        b = b.with_word(four[1]);
+        c = c.with_word(four[2]);
+        d = d.with_word(four[3]);
     }
     joined(a, b, c, d)
 }

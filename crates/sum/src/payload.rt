@@ -3,14 +3,14 @@ ghost use Rattle.std.specs.Prelude.{◌≡◌};
 ghost use Rattle.image.specs.Word.{ordered_sum, sum_right};
 
 use crate::fours::sums_in_fours;
-use crate::sums::sums_from;
-use image::word::{AT_ONCE, KIND_SUM, PAYLOADS};
+use image::word::{AT_ONCE, Kind, PAYLOADS};
 
 // The payload of the sum word after these words.
 pub fn sum_of(words: &[u32]) -> u32
     ensures { result ≡ ordered_sum words.now }
 {
-    sums_from(sums_in_fours(words), words, words.len() / AT_ONCE * AT_ONCE).values % PAYLOADS
+    let rest = &words[words.len() / AT_ONCE * AT_ONCE..];
+    sums_in_fours(words).with_words(rest).values % PAYLOADS
 }
 
 // Whether `w` is the sum word after the words `earlier`.
@@ -18,5 +18,5 @@ pub fn sum_right(earlier: &[u32], w: u32) -> bool
     ensures { result ≡ sum_right earlier.now w }
 {
     let s = sum_of(earlier);
-    (w / PAYLOADS == KIND_SUM) & (w % PAYLOADS == s)
+    Kind::Sum.is_of(w) & (w % PAYLOADS == s)
 }

@@ -1,5 +1,5 @@
 // What a word counts as, and the two sums, word by word.
-ghost use Rattle.std.specs.Prelude.{◌≡◌, ◌≤◌, length, drop};
+ghost use Rattle.std.specs.Prelude.{◌≡◌};
 ghost use Rattle.image.specs.Word.{counts_as};
 ghost use Rattle.sum.specs.Sums.{with_word, sums_after};
 
@@ -15,35 +15,29 @@ fn counts_as(w: u32) -> u32
     w % PAYLOADS + KIND_COUNTS * (w / PAYLOADS)
 }
 
-// The running sum of what words count as, and the sum of its values after each of them, both with wrap at 2^32.
-#[derive(Clone, Copy)]
+// The running sum of what words count as, and the sum of its values after each of them, both with wrap at 2^32; of no word, 0 and 0.
+#[derive(Clone, Copy, Default)]
 pub struct Sums {
     pub running: u32,
     pub values: u32,
 }
 
-// The sums with one word more.
-pub fn with_word(sums: Sums, w: u32) -> Sums
-    ensures { result ≡ with_word sums w }
-{
-    let counts = counts_as(w);
-    let running = std::num::wrapping_add_u32(sums.running, counts);
-    Sums {
-        running: running,
-        values: std::num::wrapping_add_u32(sums.values, running),
+impl Sums {
+    // The sums with one word more.
+    pub fn with_word(self, w: u32) -> Sums
+        ensures { result ≡ with_word self w }
+    {
+        let running = self.running.wrapping_add(counts_as(w));
+        Sums {
+            running,
+            values: self.values.wrapping_add(running),
+        }
     }
-}
 
-// The sums of all words, where those before index `at` have the sums `from`.
-pub fn sums_from(from: Sums, words: &[u32], at: usize) -> Sums
-    requires { at ≤ length words.now }
-    ensures { result ≡ sums_after from (drop at words.now) }
-{
-    let mut sums = from;
-    let mut i = at;
-    while i < words.len() {
-        sums = with_word(sums, words[i]);
-        i += 1;
+    // The sums with all these words more.
+    pub fn with_words(self, words: &[u32]) -> Sums
+        ensures { result ≡ sums_after self words.now }
+    {
+        words.iter().fold(self, |sums, w| sums.with_word(*w))
     }
-    sums
 }

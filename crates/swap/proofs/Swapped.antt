@@ -15,7 +15,6 @@ use Rattle.general.proofs.Bools.{and_right}
 use Rattle.image.specs.Word.{kind, payload, is_kind, is_entry, counts_as, ordered_sum, sum_right}
 use Rattle.image.specs.declared.answer.Head.{Head}
 use Rattle.image.specs.declared.answer.Refusal.TheVariants.{SumWord}
-use Rattle.image.specs.declared.answer.Checked.TheVariants.{Refused}
 use Rattle.image.proofs.Head.{head_rule}
 use Rattle.image.proofs.Words.{entry_cases, entry_high}
 use Rattle.rules.specs.Checked.{all_but_last, first_word, last_word, checked, Accepts}
@@ -26,6 +25,7 @@ use Rattle.library.proofs.Decode.{kind_is}
 use Rattle.library.proofs.Accepted.{checks, faultless}
 use Rattle.swap.specs.Swapped.{swapped, Noticed}
 use Rattle.swap.proofs.Sums.{Close, payload_apart}
+use Rattle.std.specs.Prelude.{Err}
 
 -- ---- lists in which two words change places
 
@@ -57,7 +57,7 @@ module _ (image : List ℕ) (i j : ℕ) (one : i + 1 < length image) (other : j 
   last_swapped = rw (length_swapped image i j) (other_swapped image i j (length image - 1) (omega arith) (omega arith))
 
   pub words_noticed : length image ≤ 8192 → sum_right (all_but_last image) (last_word image) ≡ true
-      → Close (counts_as (get_or image i 0)) (counts_as (get_or image j 0)) → checked (swapped image i j) ≡ Refused (SumWord (length image - 1))
+      → Close (counts_as (get_or image i 0)) (counts_as (get_or image j 0)) → checked (swapped image i j) ≡ Err (SumWord (length image - 1))
   words_noticed high right close =
       let earlier = all_but_last image in
       let one_stays = get_or-take (length image - 1) image i 0 (omega arith) in

@@ -1,9 +1,8 @@
 -- Images in which two words change places, and what the check says of them (document 02, request 6).
-use Rattle.std.specs.Prelude.{ℕ, ◌+◌, ◌-◌, ◌<◌, ◌≡◌, true, List, length, get_or, set}
+use Rattle.std.specs.Prelude.{ℕ, ◌+◌, ◌-◌, ◌<◌, ◌≡◌, true, List, length, get_or, set, Err}
 use Rattle.image.specs.Word.{is_entry}
 use Rattle.image.specs.declared.answer.Head.{Head}
 use Rattle.image.specs.declared.answer.Refusal.TheVariants.{SumWord}
-use Rattle.image.specs.declared.answer.Checked.TheVariants.{Refused}
 use Rattle.rules.specs.Checked.{checked, Accepts}
 
 -- the words in which those at i and j "change places"
@@ -22,4 +21,4 @@ pub record DifferentEntries (image : List ℕ) (i j : ℕ) : Type 0 where
 abbrev pub Noticed : Type 0
 Noticed =
     (image : List ℕ) (h : Head) (i j : ℕ) → Accepts image h → DifferentEntries image i j
-    → checked (swapped image i j) ≡ Refused (SumWord (length image - 1))
+    → checked (swapped image i j) ≡ Err (SumWord (length image - 1))

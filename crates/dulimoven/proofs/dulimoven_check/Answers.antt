@@ -5,4 +5,4 @@ use Rattle.image.specs.Answer.{checked_answer}
 use Rattle.dulimoven.proofs.dulimoven_check.Goals as goal
 
 pub returns : goal.returns
-returns c = c.checked_answer.ensures ∙ ap checked_answer c.check.ensures
+returns c = c.answer_number.ensures ∙ ap checked_answer c.check.ensures

@@ -5,10 +5,10 @@ use Rattle.card.proofs.Filled.{call_refused}
 use Rattle.card.proofs.call.cards.Goals as goal
 
 pub invariant_of-fill : goal.invariant_of-fill
-invariant_of-fill c = record { accepted = sym c.check.ensures ∙ c.in-Accepted.is }
+invariant_of-fill c = record { accepted = sym c.check.ensures ∙ c.in-Ok.is }
 
-pub returns-in-Refused : goal.returns-in-Refused
-returns-in-Refused c = let a = c.args in call_refused a.image.now a.area.now c.in-Refused.r (sym c.check.ensures ∙ c.in-Refused.is)
+pub returns-in-Err : goal.returns-in-Err
+returns-in-Err c = let a = c.args in call_refused a.image.now a.area.now c.in-Err.r (sym c.check.ensures ∙ c.in-Err.is)
 
-pub returns-in-Accepted : goal.returns-in-Accepted
-returns-in-Accepted c = c.fill.ensures
+pub returns-in-Ok : goal.returns-in-Ok
+returns-in-Ok c = c.fill.ensures

@@ -1,51 +1,20 @@
--- `rules::rules::set_before` meets its contract: what is set before `i` is what is set before `j`, as far as the fact goes.
+-- `rules::rules::set_before` meets its contract.
 -- Assumes nothing.
-use Rattle.std.proofs.Common.{◌≡◌, ℕ, ◌-◌, eqb, get_or, take, sym, ap, ◌∙◌, arith, eqb-true}
-use Rattle.general.proofs.Bools.{and_parts}
-use Rattle.column.specs.Sets.{in_column}
-use Rattle.image.specs.Word.{kind, payload, is_kind}
-use Rattle.rules.specs.Rules.{sets_after, sets_of}
-use Rattle.rules.proofs.Sets.{set_word, set_none, set_same, sets_back, sets_first}
+use Rattle.std.proofs.Common.{sym, ◌∙◌}
+use Rattle.rules.proofs.Sets.{sets_first, back_found, back_opened, back_passed}
 use Rattle.rules.proofs.rules.set_before.Goals as goal
 
-pub returns-then-w-f : goal.returns-then-w-f
-returns-then-w-f c =
-    let turn = c in
-    let at-loop = turn in
-    let a = at-loop.args in
-    let ws = a.part.now in
-    let j = at-loop.loop-j.j in
-    let w = get_or ws (j - 1) 0 in
-    let s = sets_of 0 (take (j - 1) ws) in
-    let both = and_parts (is_kind 3 w) (eqb (payload w) a.f) c.if-w-f.true in
-    sym (ap (in_column (sets_after s w)) (sym (eqb-true (payload w) a.f both.1)) ∙ set_word s w (eqb-true (kind w) 3 both.0))
-    ∙ sym (sets_back ws j a.f turn.loop-j-test.true at-loop.loop-j.invariant.0) ∙ at-loop.loop-j.invariant.1
+pub returns-then-is_of-payload_of : goal.returns-then-is_of-payload_of
+returns-then-is_of-payload_of c =
+    sym (back_found _ _ _ c.args.f c.in-Some.ensures.steps (rw (c.is_of.ensures, c.payload_of.ensures) at c.if-is_of-payload_of.true)) ∙ c.loop-w.invariant
 
-pub returns-then-w-eq-KIND_STEP : goal.returns-then-w-eq-KIND_STEP
-returns-then-w-eq-KIND_STEP c =
-    let turn = c in
-    let at-loop = turn in
-    let a = at-loop.args in
-    let ws = a.part.now in
-    let j = at-loop.loop-j.j in
-    sym (set_none (sets_of 0 (take (j - 1) ws)) a.f (get_or ws (j - 1) 0) c.if-w-eq-KIND_STEP.true)
-    ∙ sym (sets_back ws j a.f turn.loop-j-test.true at-loop.loop-j.invariant.0) ∙ at-loop.loop-j.invariant.1
+pub returns-then-is_of : goal.returns-then-is_of
+returns-then-is_of c = sym (back_opened _ _ _ c.args.f c.in-Some.ensures.steps (sym c.is_of-in-loop-w.ensures ∙ c.if-is_of.true)) ∙ c.loop-w.invariant
 
-pub loop-j-preserved : goal.loop-j-preserved
-loop-j-preserved c =
-    let turn = c in
-    let at-loop = turn in
-    let a = at-loop.args in
-    let ws = a.part.now in
-    let j = at-loop.loop-j.j in (
-      omega (arith, at-loop.loop-j.invariant.0),
-      sym (set_same (sets_of 0 (take (j - 1) ws)) a.f (get_or ws (j - 1) 0) c.if-w-f.false c.if-w-eq-KIND_STEP.false)
-          ∙ sym (sets_back ws j a.f turn.loop-j-test.true at-loop.loop-j.invariant.0) ∙ at-loop.loop-j.invariant.1,
-    )
+pub loop-w-preserved : goal.loop-w-preserved
+loop-w-preserved c =
+    back_passed _ _ _ c.args.f c.in-Some.ensures.steps (rw (c.is_of.ensures, c.payload_of.ensures) at c.if-is_of-payload_of.false) (sym c.is_of-in-loop-w.ensures ∙ c.if-is_of.false)
+    ∙ c.loop-w.invariant
 
 pub returns : goal.returns
-returns c =
-    let at-loop = c in
-    let a = at-loop.args in
-    let none : at-loop.loop-j.j ≡ 0 = omega arith in
-    sym (sets_first a.part.now a.f) ∙ ap (λ (n : ℕ). in_column (sets_of 0 (take n a.part.now)) a.f) (sym none) ∙ at-loop.loop-j.invariant.1
+returns c = sym (sets_first _ c.args.f c.in-None.ensures.steps.0) ∙ c.loop-w.invariant
