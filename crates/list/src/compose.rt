@@ -9,10 +9,7 @@ ghost use Rattle.list.specs.Fold.{MembersIn, member_row, followed_row, list_row,
 use column::{BLOCK_FACTS, all_in};
 use row::words::{ALL_BITS, Marks, Row};
 use writer::block::{CARD_WORDS, COLUMN_WORDS, put_block};
-use writer::card::{
-    EMPTY_FROM, FLAGS, MAY_CLEAR, MAY_END_CLEARED, MAY_END_UNMENTIONED, MAY_FIRST_SET,
-    MAY_FIRST_UNTOUCHED, MAY_LAST_UNTOUCHED, MAY_NEED, MAY_SET, flags, numbers_of,
-};
+use writer::card::{CardColumn, EMPTY_FROM, FLAGS, flags, numbers_of};
 
 // The row of member `m` in a block, made of the columns that its card has of "some run". Of the first two words only the lowest bit says something.
 fn member_row(cards: &[u64], block: u32, m: u32) -> Row
@@ -20,22 +17,22 @@ fn member_row(cards: &[u64], block: u32, m: u32) -> Row
     ensures { result ≡ member_row cards.now block m }
 {
     let card = &cards[CARD_WORDS * m as usize..];
-    let column = |k: usize| card[1 + COLUMN_WORDS * (k - 1) + block as usize];
+    let word = |column: CardColumn| card[1 + COLUMN_WORDS * (column as usize - 1) + block as usize];
     Row {
         run: card[FLAGS],
         empty: card[FLAGS] / EMPTY_FROM,
         last: Marks {
-            present: column(MAY_SET),
-            absent: column(MAY_CLEAR),
-            untouched: column(MAY_LAST_UNTOUCHED),
+            present: word(CardColumn::MaySet),
+            absent: word(CardColumn::MayClear),
+            untouched: word(CardColumn::MayLastUntouched),
         },
         first: Marks {
-            present: column(MAY_NEED),
-            absent: column(MAY_FIRST_SET),
-            untouched: column(MAY_FIRST_UNTOUCHED),
+            present: word(CardColumn::MayNeed),
+            absent: word(CardColumn::MayFirstSet),
+            untouched: word(CardColumn::MayFirstUntouched),
         },
-        cleared: column(MAY_END_CLEARED),
-        unmentioned: column(MAY_END_UNMENTIONED),
+        cleared: word(CardColumn::MayEndCleared),
+        unmentioned: word(CardColumn::MayEndUnmentioned),
     }
 }
 

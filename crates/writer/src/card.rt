@@ -6,33 +6,26 @@ ghost use Rattle.writer.specs.Card.{flags_of, always_of, row_numbers};
 use column::sets::{count, union, without};
 use row::words::Row;
 
-// The numbers of a card, in their order.
+// The numbers of a card: the flags first, then the columns in their order.
 pub const FLAGS: usize = 0;
 
-pub const ALWAYS_NEEDED: usize = 1;
-
-pub const MAY_NEED: usize = 2;
-
-pub const MAY_SET: usize = 3;
-
-pub const MAY_CLEAR: usize = 4;
-
-pub const ALWAYS_SET: usize = 5;
-
-pub const ALWAYS_CLEARED: usize = 6;
-
-pub const ALWAYS_STANDS: usize = 7;
-
-pub const MAY_FIRST_SET: usize = 8;
-
-pub const MAY_FIRST_UNTOUCHED: usize = 9;
-
-pub const MAY_LAST_UNTOUCHED: usize = 10;
-
-// Of what stands: some run's last item that sets, clears, needs or checks the fact clears it; some run has no such item.
-pub const MAY_END_CLEARED: usize = 11;
-
-pub const MAY_END_UNMENTIONED: usize = 12;
+// The columns of a card, each by the number that it is of the card's. The last two are of what stands: some run's last item that sets, clears, needs
+// or checks the fact clears it; some run has no such item.
+#[derive(Clone, Copy, PartialEq, Eq)]
+pub enum CardColumn {
+    AlwaysNeeded = 1,
+    MayNeed,
+    MaySet,
+    MayClear,
+    AlwaysSet,
+    AlwaysCleared,
+    AlwaysStands,
+    MayFirstSet,
+    MayFirstUntouched,
+    MayLastUntouched,
+    MayEndCleared,
+    MayEndUnmentioned,
+}
 
 pub const COLUMNS: usize = 12;
 
