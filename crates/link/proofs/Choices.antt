@@ -39,15 +39,33 @@ module _ (test : Alternative → Bool) (part : List ℕ) (at : ℕ) where
   abbrev below : ℕ → ℕ
   below n = last_index (λ i. test (get_or alternatives i [])) (length alternatives) n
 
+  -- what stands at the last opener o of those of n alternatives
+  back_at : (n o i : ℕ) → LastBefore part at n o i → 0 < n → Back part at (n - 1) o
+  back_at n o i last some =
+      let one : n ≡ suc (n - 1) = omega arith in
+      rw (last.opener some) (before_back part at (n - 1) i (subst (λ (m : ℕ). Before part at m i) one last.before))
+
   -- at the head: the newest of all is the newest of the first n, of which the last opens at o
   pub record Seeking (n o : ℕ) : Type 0 where
     pub index : ℕ
     pub last : LastBefore part at n o index
     pub same : below n ≡ newest test alternatives
+    pub few : n ≤ length part
+    pub inside : 0 < n → o + 1 ≤ length part
+
+  seeking : (n o i : ℕ) → LastBefore part at n o i → below n ≡ newest test alternatives → Seeking n o
+  seeking n o i last same =
+      record {
+        index = i;
+        last = last;
+        same = same;
+        few = before_few part at n i last.before;
+        inside = λ some. omega (arith, (back_at n o i last some).inside);
+      }
 
   pub seeking_start : (r : Alternatives) → AllBefore part at r → Seeking r.count r.last
   unfolding newest
-  seeking_start r counted = record { index = counted.end; last = counted.last; same = ap below counted.all }
+  seeking_start r counted = seeking r.count r.last counted.end counted.last (ap below counted.all)
 
   -- none passes
   pub seeking_out : (n o : ℕ) → Seeking n o → n ≤ 0 → length alternatives ≡ newest test alternatives
@@ -57,9 +75,7 @@ module _ (test : Alternative → Bool) (part : List ℕ) (at : ℕ) where
   -- the last of them, whose entries stand after o
   module _ (n o : ℕ) (here : Seeking n o) (some : 0 < n) where
     last_back : Back part at (n - 1) o
-    last_back =
-        let one : n ≡ suc (n - 1) = omega arith in
-        rw (here.last.opener some) (before_back part at (n - 1) here.index (subst (λ (m : ℕ). Before part at m here.index) one here.last.before))
+    last_back = back_at n o here.index here.last some
 
     by_last : (b : Bool) → test (entries_from (drop (o + 1) part)) ≡ b → cond b (n - 1) (below (n - 1)) ≡ newest test alternatives
     unfolding last_index
@@ -68,14 +84,10 @@ module _ (test : Alternative → Bool) (part : List ℕ) (at : ℕ) where
         ap (λ (x : Bool). cond x (n - 1) (below (n - 1))) (sym e ∙ ap test (sym last_back.entries)) ∙ ap below one ∙ here.same
 
     pub seeking_turn : test (entries_from (drop (o + 1) part)) ≡ false → (p : ℕ) → p ≡ opener_before part o → Seeking (n - 1) p
-    seeking_turn e p opener = record { index = o; last = record { before = last_back.before; opener = λ more. opener }; same = by_last false e }
+    seeking_turn e p opener = seeking (n - 1) p o (record { before = last_back.before; opener = λ more. opener }) (by_last false e)
 
     pub seeking_found : test (entries_from (drop (o + 1) part)) ≡ true → n - 1 ≡ newest test alternatives
     seeking_found e = by_last true e
-
-    -- its entries stand within the words
-    pub last_within : o + 1 ≤ length part
-    last_within = omega (arith, last_back.inside)
 
 -- ---- the index from which on all entries pass
 
@@ -236,4 +248,4 @@ module _ (none : ℕ) (ahead behind ranks : List ℕ) (k : ℕ) where
           ((last_back placed part at n o here some).entries ∙ ap entries_from (sym same)) (sym found.0)
           (sym (entry_number_lem (get_or words j 0))
           ∙ ap entry_number (sym (folding_entry placing e (item (step 0))) ∙ ap (λ (m : ℕ). get_or (entries_from words) m (item (step 0))) index))
-          (omega (arith, before_few part at n _ here.last.before)) (omega (arith, folding_inside placing e, ap length same, length-drop (o + 1) part))
+          (omega (arith, here.few)) (omega (arith, folding_inside placing e, ap length same, length-drop (o + 1) part))

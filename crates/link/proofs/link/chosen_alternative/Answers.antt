@@ -7,28 +7,19 @@ use Prim.Native.Nat.{ℕ}
 use lib.Dec.{leb}
 use Rattle.link.specs.Choice.{alternative_in}
 use Rattle.walk.proofs.Before.{before_few}
-use Rattle.link.proofs.Choices.{seeking_start, last_within, seeking_turn, seeking_found, seeking_out}
+use Rattle.link.proofs.Choices.{seeking_start, seeking_turn, seeking_found, seeking_out}
 use Rattle.link.proofs.link.chosen_alternative.Goals as goal
 
 pub loop-alternative-init : goal.loop-alternative-init
 loop-alternative-init c = seeking_start _ _ _ _ c.alternatives_of-all.ensures
-
-pub overflow_add-opener : goal.overflow_add-opener
-overflow_add-opener c = omega (arith, last_within _ _ _ _ _ c.loop-alternative.invariant c.loop-alternative-test.true, c.requires.1)
-
-pub greatest_depth-requires : goal.greatest_depth-requires
-greatest_depth-requires c = last_within _ _ _ _ _ c.loop-alternative.invariant c.loop-alternative-test.true
 
 pub returns-then-greatest_depth-k : goal.returns-then-greatest_depth-k
 unfolding alternative_in
 returns-then-greatest_depth-k c =
     let here = c.loop-alternative.invariant in (
       seeking_found _ _ _ _ _ here c.loop-alternative-test.true (ap (λ (n : ℕ). leb n c.args.k) (sym c.greatest_depth.ensures.value) ∙ le-leb _ _ c.if-greatest_depth-k.true),
-      omega (arith, before_few _ _ _ _ here.last.before, c.requires.1),
+      omega arith,
     )
-
-pub opener_before-opener-requires : goal.opener_before-opener-requires
-opener_before-opener-requires c = omega (arith, last_within _ _ _ _ _ c.loop-alternative.invariant c.loop-alternative-test.true)
 
 pub loop-alternative-preserved : goal.loop-alternative-preserved
 loop-alternative-preserved c =
@@ -39,4 +30,4 @@ pub returns : goal.returns
 unfolding alternative_in
 returns c =
     let counted = c.alternatives_of-all.ensures in
-    (counted.all ∙ seeking_out _ _ _ _ _ c.loop-alternative.invariant c.loop-alternative-test.false, omega (arith, before_few _ _ _ _ counted.last.before, c.requires.1))
+    (counted.all ∙ seeking_out _ _ _ _ _ c.loop-alternative.invariant c.loop-alternative-test.false, omega (arith, before_few _ _ _ _ counted.last.before))

@@ -6,32 +6,17 @@ use mathlib.Core.Path.{◌≡◌, sym, ◌∙◌}
 use mathlib.Core.Bool.{false}
 use lib.ListN.{length, get_or}
 use Rattle.image.specs.Word.{is_entry}
-use Rattle.link.proofs.Choices.{seeking_start, last_within, words_after, none_past, placing_turn, choosing_turn, chosen_found, chosen_out}
+use Rattle.link.proofs.Choices.{seeking_start, words_after, none_past, placing_turn, choosing_turn, chosen_found, chosen_out}
 use Rattle.link.proofs.link.chosen_link.Goals.{else-loop-position-test, then-loop-position-test+then-not-part_entry}
 use Rattle.link.proofs.link.chosen_link.Goals as goal
 
 pub loop-alternative-init : goal.loop-alternative-init
 loop-alternative-init c = seeking_start _ _ _ _ c.alternatives_of-all.ensures
 
-pub overflow_add-words : goal.overflow_add-words
-overflow_add-words c = omega (arith, last_within _ _ _ _ _ c.loop-alternative.invariant c.loop-alternative-test.true, c.requires.1)
-
-pub offset_bounds-by-opener : goal.offset_bounds-by-opener
-offset_bounds-by-opener c = omega (arith, last_within _ _ _ _ _ c.loop-alternative.invariant c.loop-alternative-test.true, c.requires.1)
-
-pub slice_bounds-words-count : goal.slice_bounds-words-count
-slice_bounds-words-count c = last_within _ _ _ _ _ c.loop-alternative.invariant c.loop-alternative-test.true
-
-pub slice_bounds-words-start : goal.slice_bounds-words-start
-slice_bounds-words-start c = last_within _ _ _ _ _ c.loop-alternative.invariant c.loop-alternative-test.true
-
 pub loop-position-preserved : goal.loop-position-preserved
 loop-position-preserved c =
     placing_turn _ _ _ _ _ _ _ c.tail_from-tail.ensures _ _ c.loop-position.invariant (sym c.part_entry.ensures ∙ c.if-not-part_entry.false)
     c.traits-t.result c.traits-t.ensures c.if-ok-tail.false
-
-pub opener_before-opener-requires : goal.opener_before-opener-requires
-opener_before-opener-requires c = omega (arith, last_within _ _ _ _ _ c.loop-alternative.invariant c.loop-alternative-test.true)
 
 pub loop-alternative-preserved : goal.loop-alternative-preserved
 loop-alternative-preserved c =
