@@ -14,10 +14,7 @@ fn is_dead(runs: &Set, w: u32) -> bool
     requires { RunWithin w × (is_entry w ≡ true) }
     ensures { result ≡ is_dead runs.now (entry_of w) }
 {
-    if Kind::SequenceEntry.is_of(w) {
-        return !runs.contains(payload_of(w) as usize);
-    }
-    false
+    Kind::SequenceEntry.is_of(w) && !runs.contains(payload_of(w) as usize)
 }
 
 // Walks the entries that stand from index `at` on. Answers the index of the first dead one, or of the word after them.
@@ -25,17 +22,13 @@ fn live_end(runs: &Set, part: &[u32], at: usize) -> usize
     requires { RunsReadable runs.now part.now × (at ≤ length part.now) }
     ensures { AlternativeWalked runs.now part.now at result }
 {
-    let mut i = at;
-    loop {
-        let w = word_at(part, i);
-        if !part_entry(w) {
+    for i in at..part.len() {
+        let w = part[i];
+        if !part_entry(w) || is_dead(runs, w) {
             return i;
         }
-        if is_dead(runs, w) {
-            return i;
-        }
-        i += 1;
     }
+    part.len()
 }
 
 // Whether one of the alternatives that stand from index `at` on gives a run: the walk over its entries meets no dead one.
@@ -44,6 +37,7 @@ pub fn gives_run(runs: &Set, part: &[u32], at: usize) -> bool
     ensures { result ≡ runs_by (in_set runs.now) (alternatives_from (drop at part.now)) }
 {
     let mut i = at;
+    // The walk goes on where the walks over entries end.
     loop {
         let w = word_at(part, i);
         i += 1;

@@ -1,70 +1,44 @@
 -- `running::read::live_end` meets its contract: what the entries to come give is what the alternative gives.
 -- Assumes nothing.
-use Rattle.std.proofs.Common.{◌≡◌, ◌<◌, Bool, true, false, not, length, get_or, sym, refl, ap, ◌∙◌, arith}
+use Rattle.std.proofs.Common.{◌≡◌, false, not, length, get_or, drop, ◌+◌, refl, sym, ap, ◌∙◌, arith}
+use Rattle.std.proofs.lemmas.List.{get_or_past}
 use Rattle.general.specs.Scan.{every}
 use Rattle.image.specs.Word.{is_entry}
-use Rattle.library.specs.Library.{entry_of}
-use Rattle.library.proofs.Decode.{high_at}
-use Rattle.walk.proofs.Walking.{tested, folding_inside, folding_out, leaving_start, leaving_turn, leaving_dead, leaving_rest, leaving_out}
-use Rattle.running.specs.Runs.{is_dead}
+use Rattle.library.specs.Library.{entry_of, entries_from}
+use Rattle.callers.specs.Callers.{in_set}
+use Rattle.walk.proofs.Walking.{folding_out, leaving_start, leaving_turn, leaving_dead, leaving_rest, leaving_out}
 use Rattle.running.proofs.Gives.{gives_alive, gives_dead}
 use Rattle.running.proofs.read.live_end.Goals as goal
+use Rattle.running.proofs.read.live_end.Goals.{then-not-part_entry-via-then-not-part_entry, then-not-part_entry-via-else-not-part_entry+then-is_dead}
 
-pub loop-at-init : goal.loop-at-init
-loop-at-init c = leaving_start c.requires.1 refl
-
-pub part_entry-requires : goal.part_entry-requires
-part_entry-requires c =
-    let at-loop = c in
-    let start = at-loop in
-    rw c.word_at-w.ensures (high_at start.args.part.now (λ j l. (start.requires.0.words j l).high) at-loop.loop-at.i)
+pub loop-i-init : goal.loop-i-init
+loop-i-init c = leaving_start c.requires.1 refl
 
 pub returns-then-not-part_entry : goal.returns-then-not-part_entry
 unfolding every
 returns-then-not-part_entry c =
-    let word = c in
-    let here = word.loop-at.invariant in
-    let e = tested is_entry word.word_at-w.ensures c.part_entry.ensures (c.if-not-part_entry.true) in
-    record { ended = leaving_out here e; gives = sym (folding_out here.folding e) ∙ sym (ap not e) }
+    let here = c.loop-i.invariant in
+    elim c.then-not-part_entry.branch [
+      | then-not-part_entry-via-then-not-part_entry w ↦
+          let e = sym c.part_entry.ensures ∙ w.if-not-part_entry.true in
+          record { ended = leaving_out here e; gives = sym (folding_out here.folding e) ∙ sym (ap not e) }
+      | then-not-part_entry-via-else-not-part_entry+then-is_dead w ↦
+          let e = sym c.part_entry.ensures ∙ w.if-not-part_entry.false in
+          let is = sym w.is_dead.ensures ∙ w.if-is_dead.true in
+          let part = c.args.part.now in
+          let i = c.loop-i.i in
+          record { ended = leaving_dead here e is; gives = sym (leaving_rest here e) ∙ gives_dead (in_set c.args.runs.now) (entry_of (get_or part i 0)) (entries_from (drop (i + 1) part)) is ∙ sym (ap not e) }
+    ]
 
-pub is_dead-requires : goal.is_dead-requires
-is_dead-requires c =
-    let entry : is_entry (get_or c.args.part.now c.loop-at.i 0) ≡ true = tested is_entry c.word_at-w.ensures c.part_entry.ensures (c.if-not-part_entry.false) in
-    let inside : c.loop-at.i < length c.args.part.now = folding_inside c.loop-at.invariant.folding (entry) in
-    let word = c in
-    let start = word in
-    rw word.word_at-w.ensures (start.requires.0.words word.loop-at.i (inside), entry)
+pub loop-i-preserved : goal.loop-i-preserved
+loop-i-preserved c =
+    let is = sym c.is_dead.ensures ∙ c.if-is_dead.false in
+    leaving_turn c.loop-i.invariant (sym c.part_entry.ensures ∙ c.if-not-part_entry.false) is (gives_alive _ _ _ is)
 
-pub returns-then-is_dead : goal.returns-then-is_dead
-returns-then-is_dead c =
-    let entry : is_entry (get_or c.args.part.now c.loop-at.i 0) ≡ true = tested is_entry c.word_at-w.ensures c.part_entry.ensures (c.if-not-part_entry.false) in
-    let dead : (b : Bool) → c.is_dead.result ≡ b → let at-loop = c in let a = at-loop.args in is_dead a.runs.now (entry_of (get_or a.part.now at-loop.loop-at.i 0)) ≡ b = λ b told. let a = c.args in tested (λ w. is_dead a.runs.now (entry_of w)) c.word_at-w.ensures c.is_dead.ensures told in
-    let test = c in
-    let at-loop = test in
-    let here = at-loop.loop-at.invariant in
-    let is = dead true c.if-is_dead.true in
-    record {
-      ended = leaving_dead here (entry) is;
-      gives = sym (leaving_rest here (entry)) ∙ gives_dead _ _ _ is ∙ sym (ap not (entry));
-    }
-
-pub overflow_add-i : goal.overflow_add-i
-overflow_add-i c =
-    let entry : is_entry (get_or c.args.part.now c.loop-at.i 0) ≡ true = tested is_entry c.word_at-w.ensures c.part_entry.ensures (c.if-not-part_entry.false) in
-    let inside : c.loop-at.i < length c.args.part.now = folding_inside c.loop-at.invariant.folding (entry) in
-    let test = c in
-    omega (arith, test.well_formed, inside)
-
-pub loop-at-smaller : goal.loop-at-smaller
-loop-at-smaller c =
-    let entry : is_entry (get_or c.args.part.now c.loop-at.i 0) ≡ true = tested is_entry c.word_at-w.ensures c.part_entry.ensures (c.if-not-part_entry.false) in
-    let inside : c.loop-at.i < length c.args.part.now = folding_inside c.loop-at.invariant.folding (entry) in
-    omega (arith, inside)
-
-pub loop-at-preserved : goal.loop-at-preserved
-loop-at-preserved c =
-    let entry : is_entry (get_or c.args.part.now c.loop-at.i 0) ≡ true = tested is_entry c.word_at-w.ensures c.part_entry.ensures (c.if-not-part_entry.false) in
-    let dead : (b : Bool) → c.is_dead.result ≡ b → let at-loop = c in let a = at-loop.args in is_dead a.runs.now (entry_of (get_or a.part.now at-loop.loop-at.i 0)) ≡ b = λ b told. let a = c.args in tested (λ w. is_dead a.runs.now (entry_of w)) c.word_at-w.ensures c.is_dead.ensures told in
-    let test = c in
-    let is = dead false c.if-is_dead.false in
-    leaving_turn test.loop-at.invariant (entry) is (gives_alive _ _ _ is)
+pub returns : goal.returns
+unfolding every
+returns c =
+    let here = c.loop-i.invariant in
+    let all : c.loop-i.i ≡ length c.args.part.now = omega (arith, c.loop-i.auto.i-end c.requires.1) in
+    let e : is_entry (get_or c.args.part.now c.loop-i.i 0) ≡ false = ap is_entry (get_or_past c.args.part.now c.loop-i.i 0 (omega arith)) in
+    rw (← all) (record { ended = leaving_out here e; gives = sym (folding_out here.folding e) ∙ sym (ap not e) })
