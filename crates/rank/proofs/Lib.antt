@@ -1,4 +1,3 @@
-pub mod Rankable
 pub mod Visits
 pub mod Walk
 pub mod Looks
