@@ -5,7 +5,6 @@
 -- Assumes nothing.
 use Prim.Native.Nat.{ℕ, zero, suc, ◌+◌, ◌-◌, ◌*◌, ◌/◌, ◌%◌, ◌^◌, ◌≤◌, ◌<◌}
 use native.Mathlib.Omega.{arith}
-use native.Mathlib.Nat.{add-zero}
 use native.Mathlib.Decide.{ℕ_discrete, dec_lt}
 use mathlib.Core.Path.{◌≡◌, refl, sym, ap, ap₂, ◌∙◌}
 use mathlib.Core.Bool.{Bool, true, false, ◌&&◌, ◌||◌}
@@ -155,22 +154,6 @@ uniting_turn d callers s₀ s i v low e p =
       left = λ k high. get_or-set_other s i k v 0 (λ q. omega arith) ∙ p.left k (omega arith);
     }
 
--- the words one after the other
-pub united : (d : ℕ) (callers s : List ℕ) (v₀ v₁ v₂ v₃ : ℕ) → length s ≡ 4 → v₀ ≡ bit_or (get_or s 0 0) (get_or callers (4 * d) 0)
-    → v₁ ≡ bit_or (get_or (set s 0 v₀) 1 0) (get_or callers (4 * d + 1) 0) → v₂ ≡ bit_or (get_or (set (set s 0 v₀) 1 v₁) 2 0) (get_or callers (4 * d + 2) 0)
-    → v₃ ≡ bit_or (get_or (set (set (set s 0 v₀) 1 v₁) 2 v₂) 3 0) (get_or callers (4 * d + 3) 0)
-    → United d callers s (set (set (set (set s 0 v₀) 1 v₁) 2 v₂) 3 v₃)
-united d callers [] v₀ v₁ v₂ v₃ four e₀ e₁ e₂ e₃ k l = absurd (omega arith)
-united d callers (a ∷ []) v₀ v₁ v₂ v₃ four e₀ e₁ e₂ e₃ k l = absurd (omega arith)
-united d callers (a ∷ b ∷ []) v₀ v₁ v₂ v₃ four e₀ e₁ e₂ e₃ k l = absurd (omega arith)
-united d callers (a ∷ b ∷ c ∷ []) v₀ v₁ v₂ v₃ four e₀ e₁ e₂ e₃ k l = absurd (omega arith)
-united d callers (a ∷ b ∷ c ∷ x ∷ y ∷ s) v₀ v₁ v₂ v₃ four e₀ e₁ e₂ e₃ k l = absurd (omega arith)
-united d callers (a ∷ b ∷ c ∷ x ∷ []) v₀ v₁ v₂ v₃ four e₀ e₁ e₂ e₃ zero l = e₀ ∙ ap (λ (j : ℕ). bit_or a (get_or callers j 0)) (sym (add-zero (4 * d)))
-united d callers (a ∷ b ∷ c ∷ x ∷ []) v₀ v₁ v₂ v₃ four e₀ e₁ e₂ e₃ (suc zero) l = e₁
-united d callers (a ∷ b ∷ c ∷ x ∷ []) v₀ v₁ v₂ v₃ four e₀ e₁ e₂ e₃ (suc (suc zero)) l = e₂
-united d callers (a ∷ b ∷ c ∷ x ∷ []) v₀ v₁ v₂ v₃ four e₀ e₁ e₂ e₃ (suc (suc (suc zero))) l = e₃
-united d callers (a ∷ b ∷ c ∷ x ∷ []) v₀ v₁ v₂ v₃ four e₀ e₁ e₂ e₃ (suc (suc (suc (suc k)))) l = absurd (omega arith)
-
 pub united_out : (d : ℕ) (callers s s' : List ℕ) → United d callers s s' → (c : ℕ) → c < 256 → in_set s' c ≡ false → (in_set s c ≡ false) × (is_caller callers d c ≡ false)
 united_out d callers s s' words c l e =
     let k = c / 64 in
@@ -204,6 +187,10 @@ first_in s callers d k both t c low e some fits is at =
 or_none : (x : Bool) → x ≡ (x || false)
 or_none true = refl
 or_none false = refl
+
+and_none : (x : Bool) → (x && false) ≡ false
+and_none true = refl
+and_none false = refl
 
 -- sequence p has c among its callers
 module _ (s : List ℕ) (c p v : ℕ) (few : c < 256) (l : 4 * p + c / 64 < length s)
@@ -245,10 +232,6 @@ pub added_none : (s : List ℕ) (p c : ℕ) → c < 256 → length s ≤ 4 * p +
 added_none s p c few l d b low room =
     or_none (is_caller s d b)
     ∙ ap (λ (x : Bool). is_caller s d b || x) (sym (and_none (eqb b c)) ∙ ap (λ (y : Bool). eqb b c && y) (sym (ne_eqb p d (λ q. omega arith))))
-  where
-    and_none : (x : Bool) → (x && false) ≡ false
-    and_none true = refl
-    and_none false = refl
 
 -- what holds at the head of the loop over the calls of sequence c: the callers so far, with the calls that are left, are all
 pub record Adding (part : List ℕ) (at c : ℕ) (s₀ s : List ℕ) (i : ℕ) : Type 0 where
@@ -284,10 +267,6 @@ module _ {part : List ℕ} {at c : ℕ} {s₀ s : List ℕ} {i : ℕ} (here : Ad
       or_none (is_caller s d b)
       ∙ ap (λ (x : Bool). is_caller s d b || x) (sym (and_none (eqb b c)) ∙ ap (λ (y : Bool). eqb b c && y) (sym (none d)))
       ∙ here.same d b low room
-    where
-      and_none : (x : Bool) → (x && false) ≡ false
-      and_none true = refl
-      and_none false = refl
 
 -- what holds at the head of the loop over the sequences
 pub record Writing (part places s₀ s : List ℕ) (n c : ℕ) : Type 0 where

@@ -42,9 +42,6 @@ module _ (P : Entry → Type 0) (items : (x : Item) → P (item x)) where
 
 -- ---- the calls that are left from an index on
 
-abbrev pub left : List ℕ → ℕ → ℕ → Bool
-left = calls_left
-
 left_by : (part : List ℕ) (i d : ℕ) {es : List Entry} {alts : List Alternative} → entries_from (drop i part) ≡ es → alternatives_from (drop i part) ≡ alts
     → calls_left part i d ≡ (some (is_call_of d) es || calls_of alts d)
 left_by part i d = ap₂ (λ (es : List Entry) (alts : List Alternative). some (is_call_of d) es || calls_of alts d)

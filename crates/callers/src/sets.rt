@@ -12,8 +12,12 @@ pub const SET_WORDS: usize = 4;
 
 pub const WORD_BITS: usize = 64;
 
-// A set of such words has every sequence.
-pub const ALL_SEQUENCES: u64 = 0xffffffffffffffff;
+// The place of a sequence's bit in its word.
+pub fn bit_of(c: usize) -> u32
+    ensures { (result ≡ c % 64) × (result < 64) }
+{
+    (c % WORD_BITS) as u32
+}
 
 // A set of sequences. What contracts see of it is the list of its words.
 #[derive(Clone, Copy)]
@@ -46,7 +50,7 @@ impl Set {
         ensures { result ≡ every_sequence }
     {
         Set {
-            words: [ALL_SEQUENCES; SET_WORDS],
+            words: [u64::MAX; SET_WORDS],
         }
     }
 
@@ -102,49 +106,4 @@ impl Set {
             self.words[k] = union(self.words[k], callers[at + k]);
         }
     }
-}
-
-// The place of a sequence's bit in its word.
-pub fn bit_of(c: usize) -> u32
-    ensures { (result ≡ c % 64) × (result < 64) }
-{
-    (c % WORD_BITS) as u32
-}
-
-// Whether sequence `c` is in the set.
-pub fn contains(set: &[u64], c: usize) -> bool
-    requires { (length set.now ≡ set_words) × (c < most_sequences) }
-    ensures { result ≡ in_set set.now c }
-{
-    holds(set[c / WORD_BITS], bit_of(c))
-}
-
-// Puts sequence `c` in.
-pub fn insert(set: &mut [u64], c: usize)
-    requires { (length set.old ≡ set_words) × (c < most_sequences) }
-    ensures { set.new ≡ with_member set.old c }
-{
-    let k = c / WORD_BITS;
-    set[k] = with_fact(set[k], bit_of(c));
-}
-
-// Takes sequence `c` out.
-pub fn remove(set: &mut [u64], c: usize)
-    requires { (length set.old ≡ set_words) × (c < most_sequences) }
-    ensures { Removed c set.old set.new }
-{
-    let k = c / WORD_BITS;
-    set[k] = without(set[k], with_fact(0, bit_of(c)));
-}
-
-// Puts the callers of sequence `d` in.
-pub fn unite(set: &mut [u64], callers: &[u64], d: usize)
-    requires { (length set.old ≡ set_words) × (set_words * d + set_words ≤ length callers.now) }
-    ensures { United d callers.now set.old set.new }
-{
-    let at = SET_WORDS * d;
-    set[0] = union(set[0], callers[at]);
-    set[1] = union(set[1], callers[at + 1]);
-    set[2] = union(set[2], callers[at + 2]);
-    set[3] = union(set[3], callers[at + 3]);
 }

@@ -6,7 +6,6 @@ ghost use Rattle.library.specs.Library.{alternatives_from};
 ghost use Rattle.callers.specs.Callers.{Put, CallersAsked, CallersWritten};
 
 use crate::callees::Callees;
-pub use crate::callees::goes_on;
 use crate::sets::{SET_WORDS, WORD_BITS, bit_of};
 use column::with_fact;
 
