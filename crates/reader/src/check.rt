@@ -137,21 +137,18 @@ impl Part<'_> {
         all_four(self.words, at, |w| inside_right(self.head, w))
     }
 
-    // The same by fours that are right, and then one by one.
+    // The same by fours that are right, and then one by one. The index counts by hand: beside an iterator over the fours it would still be counted.
     fn read_fours(&self, last: u32, at: usize) -> Body
         requires { (at ≤ length self.now.words.now) × (in_alternative last ≡ true) }
         ensures { FoursRead self.now.head self.now.words.now last at result }
     {
-        let mut l = last;
+        let mut before = last;
         let mut i = at;
-        while AT_ONCE <= self.words.len() - i {
-            if !self.four_right(i) {
-                return self.read_rest(l, i);
-            }
-            l = self.words[i + 3];
+        while AT_ONCE <= self.words.len() - i && self.four_right(i) {
+            before = self.words[i + 3];
             i += AT_ONCE;
         }
-        self.read_rest(l, i)
+        self.read_rest(before, i)
     }
 
     // Reads the alternatives and entries that stand from index `at` on and are right: of such words there are most.

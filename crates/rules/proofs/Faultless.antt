@@ -1,6 +1,7 @@
 -- What a word without a fault keeps: each of the four rules, and the rule for its payload by its kind.
 -- Assumes nothing.
 use Rattle.std.proofs.Common.{◌≡◌, ℕ, ◌<◌, Bool, true, false, cond, ◌&&◌, eqb, ltb, refl, arith, ltb-true, eq-eqb, eqb-true}
+use Rattle.std.proofs.lemmas.Bool.Decides.{nat_tests}
 use mathlib.Core.Bool.{false≢true}
 use Rattle.image.specs.Word.{kind, payload, is_kind, is_fact}
 use Rattle.rules.specs.Rules.{Before, may_stand, where_kind, payload_right, in_order, clears_unset, fault_at}
@@ -16,15 +17,11 @@ pub record Fine (h : Head) (e : Before) (w : ℕ) : Type 0 where
   pub unset : clears_unset e.sets w ≡ true
 
 found_nothing : {r : Refusal} → Some r ≡ None → ⊥
-found_nothing {r} e = let z : ◌≡◌ {A = ℕ} 0 1 = cc in omega arith
+found_nothing {r} e = cc
 
 all_kept : (a b c d : Bool) (x y z u : Refusal) → cond a (cond b (cond c (cond d None (Some u)) (Some z)) (Some y)) (Some x) ≡ None
     → (a ≡ true) × (b ≡ true) × (c ≡ true) × (d ≡ true)
-all_kept true true true true x y z u e = (refl, refl, refl, refl)
-all_kept true true true false x y z u e = absurd (found_nothing e)
-all_kept true true false d x y z u e = absurd (found_nothing e)
-all_kept true false c d x y z u e = absurd (found_nothing e)
-all_kept false b c d x y z u e = absurd (found_nothing e)
+all_kept a b c d x y z u e = grind (arith, nat_tests)
 
 pub fine : (h : Head) (e : Before) (p w : ℕ) → fault_at h e p w ≡ None → Fine h e w
 fine h e p w n =
@@ -36,8 +33,7 @@ none_found h e p w f = rw (f.stands, f.pays, f.follows, f.unset)
 
 -- the rule holds of a word of its kind
 pub where_kind_lem : (b r : Bool) → where_kind b r ≡ true → b ≡ true → r ≡ true
-where_kind_lem true r e q = e
-where_kind_lem false r e q = absurd (false≢true q)
+where_kind_lem b r e q = grind (arith, nat_tests)
 
 pub kind_where : (b r : Bool) → (b ≡ true → r ≡ true) → where_kind b r ≡ true
 kind_where true r holds = holds refl
@@ -53,26 +49,11 @@ pub record Payloads (h : Head) (e : Before) (w : ℕ) : Type 0 where
 
 pub payloads : (h : Head) (e : Before) (w : ℕ) → payload_right h e w ≡ true → Payloads h e w
 payloads h e w s =
-    let p = payload w in
-    let five = eqb p e.steps && ltb p h.steps in
-    let six = eqb p e.sequences && ltb p h.sequences in
-    let a = where_kind (is_kind 5 w) five in
-    let b = where_kind (is_kind 6 w) six in
-    let c = where_kind (is_kind 8 w) (ltb p h.steps) in
-    let d = where_kind (is_kind 9 w) (ltb p h.sequences) in
-    let f = where_kind (is_fact w) (ltb p h.facts) in
-    let g = where_kind (is_kind 7 w) (eqb p 0) in
-    let check = where_kind (is_kind 13 w) (ltb p h.facts) in
-    let others = a && b && c && d && f && g in
-    let t = and_six a b c d f g (and_left others check s) in
-    let opens_step : kind w ≡ 5 → five ≡ true = λ k. where_kind_lem (is_kind 5 w) five t.0 (eq-eqb (kind w) 5 k) in
-    let opens_sequence : kind w ≡ 6 → six ≡ true = λ k. where_kind_lem (is_kind 6 w) six t.1 (eq-eqb (kind w) 6 k) in
     record {
-      step = λ k. (eqb-true _ _ (and_left (eqb p e.steps) _ (opens_step k)), ltb-true _ _ (and_right (eqb p e.steps) _ (opens_step k)));
-      sequence =
-          λ k. (eqb-true _ _ (and_left (eqb p e.sequences) _ (opens_sequence k)), ltb-true _ _ (and_right (eqb p e.sequences) _ (opens_sequence k)));
-      names_step = λ k. ltb-true _ _ (where_kind_lem (is_kind 8 w) (ltb p h.steps) t.2 (eq-eqb (kind w) 8 k));
-      names_sequence = λ k. ltb-true _ _ (where_kind_lem (is_kind 9 w) (ltb p h.sequences) t.3 (eq-eqb (kind w) 9 k));
-      names_fact = λ k. ltb-true _ _ (where_kind_lem (is_kind 13 w) (ltb p h.facts) (and_right others check s) (eq-eqb (kind w) 13 k));
-      fact = λ k. ltb-true _ _ (where_kind_lem (is_fact w) (ltb p h.facts) t.4 k);
+      step = λ k. grind (arith, nat_tests);
+      sequence = λ k. grind (arith, nat_tests);
+      names_step = λ k. grind (arith, nat_tests);
+      names_sequence = λ k. grind (arith, nat_tests);
+      names_fact = λ k. grind (arith, nat_tests);
+      fact = λ k. grind (arith, nat_tests);
     }

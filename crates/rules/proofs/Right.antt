@@ -3,6 +3,7 @@
 -- words is the scan of document 01 is in Checked.
 -- Assumes nothing.
 use Rattle.std.proofs.Common.{◌≡◌, ℕ, ◌+◌, ◌-◌, ◌*◌, ◌%◌, ◌^◌, ◌<◌, ◌≤◌, Bool, true, false, not, ◌&&◌, ◌||◌, eqb, ltb, leb, ◌⊎◌, sym, ap, ◌∙◌, inl, inr, ⊎_elim, arith, ltb-true, lt-ltb, eq-eqb, ne_eqb, eqb-true}
+use Rattle.std.proofs.lemmas.Bool.Decides.{nat_tests}
 use mir.Val.{bool_byte}
 use Rattle.column.specs.Sets.{in_column}
 use Rattle.image.specs.Word.{kind, payload, is_kind, is_fact, is_entry}
@@ -20,9 +21,7 @@ or_map : (a b x y : Bool) → (a ≡ true → x ≡ true) → (b ≡ true → y 
 or_map a b x y f g e = ⊎_elim (λ p. or_left x y (f p)) (λ p. or_right x y (g p)) (or_cases a b e)
 
 counted_entry : (h : Head) (w : ℕ) → entry_counted h w ≡ true → is_entry w ≡ true
-counted_entry h w =
-    or_map _ _ _ _ (or_map _ _ _ _ (and_left (is_kind 8 w) (ltb (payload w) h.steps)) (and_left (is_kind 9 w) (ltb (payload w) h.sequences)))
-    (and_left (is_kind 13 w) (ltb (payload w) h.facts))
+counted_entry h w = grind (arith, nat_tests)
 
 -- a word of kind k whose payload is below n
 abbrev EntryOf : ℕ → ℕ → ℕ → Type 0
@@ -30,15 +29,7 @@ EntryOf w k n = (kind w ≡ k) × (ltb (payload w) n ≡ true)
 
 -- an entry that names what the head counts, by its kind
 counted_cases : (h : Head) (w : ℕ) → entry_counted h w ≡ true → EntryOf w 8 h.steps ⊎ EntryOf w 9 h.sequences ⊎ EntryOf w 13 h.facts
-counted_cases h w counted =
-    ⊎_elim
-    (λ s. ⊎_elim (λ s. inl (both 8 h.steps s)) (λ s. inr (inl (both 9 h.sequences s)))
-    (or_cases (is_kind 8 w && ltb (payload w) h.steps) (is_kind 9 w && ltb (payload w) h.sequences) s))
-    (λ s. inr (inr (both 13 h.facts s)))
-    (or_cases (is_kind 8 w && ltb (payload w) h.steps || is_kind 9 w && ltb (payload w) h.sequences) (is_kind 13 w && ltb (payload w) h.facts) counted)
-  where
-    both : (k n : ℕ) → is_kind k w && ltb (payload w) n ≡ true → EntryOf w k n
-    both k n s = (eqb-true (kind w) k (and_left (is_kind k w) (ltb (payload w) n) s), and_right (is_kind k w) (ltb (payload w) n) s)
+counted_cases h w counted = grind (arith, nat_tests)
 
 module _ (h : Head) (e : Earlier) (sets p w : ℕ) where
   pub entry_faultless : entry_right h e.last w ≡ true → None ≡ fault_at h (seen e sets) p w
@@ -72,7 +63,7 @@ module _ (h : Head) (e : Earlier) (sets p w : ℕ) where
 
 -- the next step's opener
 pub step_opens : (h : Head) (e : Earlier) (w : ℕ) → step_right h e w ≡ true → is_kind 5 w ≡ true
-step_opens h e w right = (and_six true true (is_kind 5 w) (eqb e.sequences 0) (eqb (payload w) e.steps) (ltb (payload w) h.steps) right).2
+step_opens h e w right = grind (arith, nat_tests)
 
 -- a word that has no fault after the words before it, wherever it stands, and what is carried past it
 pub record Passing (h : Head) (e : Earlier) (sets w : ℕ) (then : Earlier) : Type 0 where
@@ -89,13 +80,7 @@ opens_nothing e w five six =
 -- a word of a sequence's body
 module _ (h : Head) (e : Earlier) (last w : ℕ) (right : body_right h e last w ≡ true) where
   body_kind : (kind w ≡ 7) ⊎ (is_entry w ≡ true)
-  body_kind =
-      ⊎_elim
-      (λ (entry : entry_right h last w ≡ true). inr (counted_entry h w (and_right (is_kind 7 last || is_entry last) _ entry)))
-      (λ (alternative : alternative_right e w ≡ true).
-      let whole = eqb-true w (7 * 2 ^ 28) (and_left (eqb w (7 * 2 ^ 28)) (ltb 0 e.sequences) alternative) in
-      inl (rw whole))
-      (or_cases (entry_right h last w) (alternative_right e w) right)
+  body_kind = grind (arith, nat_tests)
 
   body_high : 7 ≤ kind w
   body_high = ⊎_elim (λ k. omega arith) (λ k. omega (arith, entry_high w k)) body_kind
@@ -111,16 +96,11 @@ module _ (h : Head) (e : Earlier) (last w : ℕ) (right : body_right h e last w 
       }
 
   pub body_follows : in_alternative w ≡ true
-  body_follows = ⊎_elim (λ k. or_left (is_kind 7 w) (is_entry w) (eq-eqb (kind w) 7 k)) (or_right (is_kind 7 w) (is_entry w)) body_kind
+  body_follows = grind (arith, nat_tests)
 
 pub inside_body : (h : Head) (e : Earlier) (last w : ℕ) → 0 < e.sequences → in_alternative last ≡ true → inside_right h w ≡ true
     → body_right h e last w ≡ true
-inside_body h e last w opened follows right =
-    ⊎_elim
-    (λ (entry : entry_counted h w ≡ true). or_left (entry_right h last w) (alternative_right e w) (rw (follows, entry)))
-    (λ (alternative : eqb w (7 * 2 ^ 28) ≡ true).
-    or_right (entry_right h last w) (alternative_right e w) (rw (alternative, lt-ltb 0 e.sequences opened)))
-    (or_cases (entry_counted h w) (eqb w (7 * 2 ^ 28)) right)
+inside_body h e last w opened follows right = grind (arith, nat_tests)
 
 -- the words of a kind with a payload below a count are a range of numbers: what is left of them less the kind's first word is below the count
 in_range_lem : (k n w a : ℕ) → w < 2 ^ 32 → k ≤ 15 → n ≤ 2 ^ 28 → a ≡ (w + (16 - k) * 2 ^ 28) % 2 ^ 32 → ltb a n ≡ true → is_kind k w && ltb (payload w) n ≡ true
@@ -149,20 +129,13 @@ module _ (h : Head) (k last w : ℕ) (low : 2 ≤ k) (high : k ≤ 4) (is : kind
 
   -- what it follows opens a step, or is a fact word and less
   before : (is_kind 5 last ≡ true) ⊎ ((is_fact last ≡ true) × (last < w))
-  before =
-      ⊎_elim
-      (λ (f : FactFollows last k).
-      ⊎_elim (λ five. inl (eq-eqb (kind last) 5 five)) (λ below. inr (fact_of last below.0 (omega arith), omega arith)) f)
-      (λ same. inr (fact_of last (omega arith) (omega arith), same.1)) follows
+  before = grind (arith, nat_tests, fact_of last)
 
   may_stand_lem : is_kind 5 last || is_fact last ≡ true
-  may_stand_lem = ⊎_elim (or_left (is_kind 5 last) (is_fact last)) (λ less. or_right (is_kind 5 last) (is_fact last) less.0) before
+  may_stand_lem = grind (arith, nat_tests)
 
   in_order_lem : where_kind (is_fact w && is_fact last) (ltb last w) ≡ true
-  in_order_lem =
-      kind_where (is_fact w && is_fact last) (ltb last w)
-      (λ both. ⊎_elim (λ five. absurd (omega (arith, eqb-true (kind last) 5 five, fact_kind last (and_right (is_fact w) (is_fact last) both))))
-      (λ less. lt-ltb last w less.1) before)
+  in_order_lem = grind (arith, nat_tests)
 
   other : (j : ℕ) → 5 ≤ j → is_kind j w ≡ false
   other j more = ne_eqb (kind w) j (λ same. omega arith)

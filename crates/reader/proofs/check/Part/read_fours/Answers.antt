@@ -6,4 +6,4 @@ use Rattle.reader.proofs.check.Part.read_fours.Goals as goal
 
 pub loop-i-preserved : goal.loop-i-preserved
 loop-i-preserved c =
-    (omega arith, fours_turn _ _ c.args.last c.args.at _ c.loop-i.i (omega arith) (c.four_right.ensures c.if-not-four_right.false) c.loop-i.invariant.1)
+    (omega arith, fours_turn _ _ c.args.last c.args.at _ c.loop-i.i (omega arith) (c.four_right.ensures c.if-four_right.true) c.loop-i.invariant.1)
