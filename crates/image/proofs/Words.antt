@@ -4,14 +4,13 @@ use Prim.Native.Nat.{ℕ, zero, suc, ◌/◌, ◌%◌, ◌^◌, ◌≤◌, ◌<�
 use lib.Dec.{eqb, leb}
 use native.Mathlib.Omega.{arith}
 use mathlib.Core.Path.{◌≡◌, refl, sym}
-use mathlib.Core.Bool.{Bool, true, false, ◌||◌}
-use mathlib.Core.Logic.{◌⊎◌, inl, inr, ⊎_elim}
-use borrow.Author.Tests.{eqb-true, eqb-false, ne_eqb}
+use mathlib.Core.Bool.{true, false, ◌||◌}
+use mathlib.Core.Logic.{◌⊎◌}
+use borrow.Author.Tests.{ne_eqb}
 use Rattle.image.specs.Word.{kind, is_kind, is_fact, is_entry}
 use Rattle.std.proofs.lemmas.Bool.Decides.{nat_tests}
 use Rattle.image.specs.Kinds.{kind_number}
 use Rattle.image.specs.declared.word.Kind.{Kind}
-use Rattle.general.proofs.Bools.{or_cases}
 
 -- a fact word is of kind 2, 3 or 4
 pub fact_of : (w : ℕ) → 2 ≤ kind w → kind w ≤ 4 → is_fact w ≡ true

@@ -1,13 +1,11 @@
 -- What a word without a fault keeps: each of the four rules, and the rule for its payload by its kind.
 -- Assumes nothing.
-use Rattle.std.proofs.Common.{◌≡◌, ℕ, ◌<◌, Bool, true, false, cond, ◌&&◌, eqb, ltb, refl, arith, ltb-true, eq-eqb, eqb-true}
+use Rattle.std.proofs.Common.{◌≡◌, ℕ, ◌<◌, Bool, true, false, cond, refl, arith}
 use Rattle.std.proofs.lemmas.Bool.Decides.{nat_tests}
-use mathlib.Core.Bool.{false≢true}
-use Rattle.image.specs.Word.{kind, payload, is_kind, is_fact}
+use Rattle.image.specs.Word.{kind, payload, is_fact}
 use Rattle.rules.specs.Rules.{Before, may_stand, where_kind, payload_right, in_order, clears_unset, fault_at}
 use Rattle.image.specs.declared.answer.Head.{Head}
 use Rattle.image.specs.declared.answer.Refusal.{Refusal}
-use Rattle.general.proofs.Bools.{and_left, and_right, and_six}
 use Rattle.std.specs.Prelude.{Some, None}
 
 pub record Fine (h : Head) (e : Before) (w : ℕ) : Type 0 where

@@ -2,7 +2,7 @@
 -- It has: a law for each kind of word, and what a reader needs of the words that it passes by (`Passing`). That the walk over the
 -- words is the scan of document 01 is in Checked.
 -- Assumes nothing.
-use Rattle.std.proofs.Common.{◌≡◌, ℕ, ◌+◌, ◌-◌, ◌*◌, ◌%◌, ◌^◌, ◌<◌, ◌≤◌, Bool, true, false, not, ◌&&◌, ◌||◌, eqb, ltb, leb, ◌⊎◌, sym, ap, ◌∙◌, inl, inr, ⊎_elim, arith, ltb-true, lt-ltb, eq-eqb, ne_eqb, eqb-true}
+use Rattle.std.proofs.Common.{◌≡◌, ℕ, ◌+◌, ◌-◌, ◌*◌, ◌%◌, ◌^◌, ◌<◌, ◌≤◌, Bool, true, false, not, ◌&&◌, ◌||◌, eqb, ltb, ◌⊎◌, sym, ap, ◌∙◌, inl, inr, ⊎_elim, arith, lt-ltb, ne_eqb, eqb-true}
 use Rattle.std.proofs.lemmas.Bool.Decides.{nat_tests}
 use mir.Val.{bool_byte}
 use Rattle.column.specs.Sets.{in_column}
@@ -11,8 +11,8 @@ use Rattle.rules.specs.Rules.{where_kind, fault_at}
 use Rattle.rules.specs.Quick.{entry_counted, entry_right, alternative_right, body_right, inside_right, Counts, step_right, sequence_right, FactFollows, passed, with_last, seen, in_alternative}
 use Rattle.image.specs.declared.answer.Head.{Head}
 use Rattle.rules.specs.declared.rules.Earlier.{Earlier}
-use Rattle.general.proofs.Bools.{and_left, and_right, or_left, or_right, or_cases, and_six}
-use Rattle.image.proofs.Words.{fact_of, fact_kind, entry_high}
+use Rattle.general.proofs.Bools.{and_left, and_right, or_left, or_right, or_cases}
+use Rattle.image.proofs.Words.{fact_of, entry_high}
 use Rattle.rules.proofs.Faultless.{Fine, none_found, kind_where}
 use Rattle.std.specs.Prelude.{None}
 
@@ -44,20 +44,13 @@ module _ (h : Head) (e : Earlier) (sets p w : ℕ) where
       go after_one (inr (inr entry)) = rw (entry.0, after_one, entry.1)
 
   pub alternative_faultless : alternative_right e w ≡ true → None ≡ fault_at h (seen e sets) p w
-  alternative_faultless right =
-      let whole = eqb-true w (7 * 2 ^ 28) (and_left (eqb w (7 * 2 ^ 28)) (ltb 0 e.sequences) right) in
-      let inside = and_right (eqb w (7 * 2 ^ 28)) (ltb 0 e.sequences) right in
-      rw (whole, inside)
+  alternative_faultless right = grind (arith, nat_tests)
 
   pub step_faultless : step_right h e w ≡ true → None ≡ fault_at h (seen e sets) p w
-  step_faultless right =
-      let t = and_six true true (is_kind 5 w) (eqb e.sequences 0) (eqb (payload w) e.steps) (ltb (payload w) h.steps) right in
-      rw (eqb-true (kind w) 5 t.2, t.3, t.4, t.5)
+  step_faultless right = grind (arith, nat_tests)
 
   pub sequence_faultless : sequence_right h e w ≡ true → None ≡ fault_at h (seen e sets) p w
-  sequence_faultless right =
-      let t = and_six true true (is_kind 6 w) (leb h.steps e.steps) (eqb (payload w) e.sequences) (ltb (payload w) h.sequences) right in
-      rw (eqb-true (kind w) 6 t.2, t.3, t.4, t.5)
+  sequence_faultless right = grind (arith, nat_tests)
 
 -- ---- words that a reader passes by
 
@@ -83,7 +76,7 @@ module _ (h : Head) (e : Earlier) (last w : ℕ) (right : body_right h e last w 
   body_kind = grind (arith, nat_tests)
 
   body_high : 7 ≤ kind w
-  body_high = ⊎_elim (λ k. omega arith) (λ k. omega (arith, entry_high w k)) body_kind
+  body_high = grind (arith, nat_tests, body_kind, entry_high w)
 
   pub body_passing : (sets : ℕ) → Passing h (with_last e last) sets w (with_last e w)
   body_passing sets =
@@ -104,11 +97,7 @@ inside_body h e last w opened follows right = grind (arith, nat_tests)
 
 -- the words of a kind with a payload below a count are a range of numbers: what is left of them less the kind's first word is below the count
 in_range_lem : (k n w a : ℕ) → w < 2 ^ 32 → k ≤ 15 → n ≤ 2 ^ 28 → a ≡ (w + (16 - k) * 2 ^ 28) % 2 ^ 32 → ltb a n ≡ true → is_kind k w && ltb (payload w) n ≡ true
-in_range_lem k n w a bound few small distance tested =
-    let l = ltb-true a n tested in
-    let is : kind w ≡ k = omega arith in
-    let low : payload w < n = omega arith in
-    rw (eq-eqb (kind w) k is, lt-ltb (payload w) n low)
+in_range_lem k n w a bound few small distance tested = grind (arith, nat_tests)
 
 pub inside_ranges : (h : Head) (w a b c : ℕ) → w < 2 ^ 32 → Counts h → a ≡ (w + 8 * 2 ^ 28) % 2 ^ 32 → b ≡ (w + 7 * 2 ^ 28) % 2 ^ 32
     → c ≡ (w + 3 * 2 ^ 28) % 2 ^ 32 → ltb a h.steps || ltb b h.sequences || ltb c h.facts || eqb w (7 * 2 ^ 28) ≡ true
