@@ -1,8 +1,7 @@
 -- `walk::sequence::alternatives_of` meets its contract: as many alternatives open before the word as were counted.
 -- Assumes nothing.
-use Rattle.std.proofs.Common.{◌≡◌, ℕ, ◌+◌, Bool, true, cond, ◌||◌, sym, ap, ap₂, ◌∙◌, arith}
+use Rattle.std.proofs.Common.{◌≡◌, Bool, ◌||◌, sym, ap, ap₂, ◌∙◌, arith}
 use mir.Val.{bool_byte}
-use Rattle.walk.specs.Walk.{LastBefore}
 use Rattle.walk.proofs.Before.{before_start, before_out, before_end, last_turn, before_few}
 use Rattle.walk.proofs.sequence.alternatives_of.Goals as goal
 
