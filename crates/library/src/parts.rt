@@ -19,14 +19,14 @@ pub fn none_opens(words: &[u32], at: usize) -> bool
 fn pass_fours(words: &[u32]) -> usize
     ensures { Passed words.now result }
 {
-    let mut i = 0;
-    while AT_ONCE <= words.len() - i {
-        if !none_opens(words, i) {
-            return i;
+    let mut passed = 0;
+    for four in words.chunks_exact(AT_ONCE) {
+        if !none_opens(four, 0) {
+            break;
         }
-        i += AT_ONCE;
+        passed += AT_ONCE;
     }
-    i
+    passed
 }
 
 // How many words stand before the first sequence.

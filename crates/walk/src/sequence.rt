@@ -55,19 +55,19 @@ pub fn entries_end(part: &[u32], at: usize) -> usize
     at + entries_ahead(&part[at..])
 }
 
-// The same by fours, where a walk has left many entries. The index counts by hand: beside an iterator over the fours it would still be counted.
+// The same by fours, where a walk has left many entries.
 pub fn rest_end(part: &[u32], at: usize) -> usize
     requires { at ≤ length part.now }
     ensures { result ≡ entries_end part.now at }
 {
-    let mut i = at;
-    while AT_ONCE <= part.len() - i {
-        if !all_four(part, i, is_entry) {
+    let mut end = at;
+    for four in part[at..].chunks_exact(AT_ONCE) {
+        if !all_four(four, 0, is_entry) {
             break;
         }
-        i += AT_ONCE;
+        end += AT_ONCE;
     }
-    entries_end(part, i)
+    entries_end(part, end)
 }
 
 // The value where the test holds, otherwise the other one. No way out and no work in either, so that it compiles to no branch.

@@ -1,12 +1,13 @@
 -- `library::parts::pass_fours` meets its contract: none of the words that were passed opens a sequence.
 -- Assumes nothing.
-use Prim.Native.Nat.{◌-◌, ◌≤◌}
-use lib.ListN.{length}
+use Rattle.std.proofs.Common.{◌≡◌, drop}
+use Rattle.std.specs.Slice.Iter.{chunks_exact_rest, chunks_exact_size}
 use Rattle.library.specs.Seam.{Passed}
 use Rattle.library.proofs.parts.pass_fours.Given as goal
 
-abbrev pub invariant-loop-i : goal.invariant-loop-i
-invariant-loop-i l = (l.i ≤ length l.words) × Passed l.words l.i
-
-abbrev pub decreases-loop-i : goal.decreases-loop-i
-decreases-loop-i l = length l.words - l.i
+abbrev pub invariant-loop-four : goal.invariant-loop-four
+invariant-loop-four l = record {
+  passed : Passed l.words l.passed;
+  rest : chunks_exact_rest l.four-iterator ≡ drop l.passed l.words;
+  size : chunks_exact_size l.four-iterator ≡ 4;
+}
