@@ -116,10 +116,11 @@ module _ (m : ℕ) (ahead behind ranks part places : List ℕ) (before : List �
         }
 
     -- the same by what the functions promise that choose a link and write its words
-    pub writing_next : (j from : ℕ) (r : Choice) (after : List ℕ) → k ≡ suc j → from ≡ get_or places c 0 + 1 → Chosen m ahead behind ranks part from j r
-        → after ≡ set (set area at (choice_word c r.alternative)) (at + 1) (11 * 2 ^ 28 + r.position) → Writing after j r.entry (at + 2)
-    writing_next j from r after next opener chosen put =
-        rw (put, chosen.entry, opener)
+    pub writing_next : (j from : ℕ) (r : Choice) (after : List ℕ) {left end : ℕ} → k ≡ suc j → j ≡ left → at + 2 ≡ end → from ≡ get_or places c 0 + 1
+        → Chosen m ahead behind ranks part from j r
+        → after ≡ set (set area at (choice_word c r.alternative)) (at + 1) (11 * 2 ^ 28 + r.position) → Writing after left r.entry end
+    writing_next j from r after next less more opener chosen put =
+        rw (put, chosen.entry, opener, ← less, ← more)
         (writing_turn j next r.alternative r.position (chosen.link c ∙ ap (λ (n : ℕ). link_in m ahead behind ranks c j (alternatives_from (drop n part))) opener))
 
 -- ---- the answer by the ranks

@@ -34,11 +34,10 @@ impl Chooser<'_> {
         ensures { area.new ≡ chain_words (links_in self.now.by.q.none self.now.by.ahead.now self.now.by.behind.now self.now.by.ranks.now self.now.by.part.now self.now.places.now count c) ++ drop (link_length * count) area.old }
     {
         let mut d = c;
-        let mut at = 0;
-        for k in (0..count).rev() {
-            let link = chosen_link(&self.by, self.after_opener(d), k);
+        for i in 0..count {
+            let link = chosen_link(&self.by, self.after_opener(d), count - 1 - i);
+            let at = LINK_WORDS * i as usize;
             put_link(area, at, d, link.alternative, POSITION_WORD + link.position);
-            at += LINK_WORDS;
             d = link.entry;
         }
     }
