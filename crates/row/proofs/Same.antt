@@ -1,6 +1,5 @@
 -- Rows are the same by `==`, field by field in their order, exactly where `same_rows` says so.
 -- Assumes nothing.
-use Prim.Native.Nat.{ℕ}
 use mathlib.Core.Path.{◌≡◌}
 use mathlib.Core.Bool.{Bool, ◌&&◌}
 use lib.Dec.{eqb}
