@@ -48,7 +48,7 @@ pub fn dulimoven_list(
 ) -> u64
     ensures { returned result card.new ≡ engine.list facts sequences cards.now list.now card.old }
 {
-    list::answer::list_answer(list::call::list(facts, sequences, cards, list, card))
+    image::answer::answer_number(list::call::list(facts, sequences, cards, list, card))
 }
 
 // Why a sequence has no run: the length of the list of the sequences without a run that it reaches, with their numbers written, or N × 2^32 + P for

@@ -2,7 +2,7 @@
 -- request 5).
 use Rattle.std.specs.Prelude.{ℕ, ◌*◌, ◌≡◌, cond, List, length, leb, ltb, Result, Ok, Err}
 use Rattle.general.specs.Tests.{some}
-use Rattle.image.specs.Answer.{refusal_answer}
+use Rattle.image.specs.Answer.{answer_number}
 use Rattle.image.specs.declared.answer.Refusal.{Refusal}
 use Rattle.image.specs.declared.answer.Refusal.TheVariants.{CardArea, ListLength, Member}
 use Rattle.cards.specs.Layout.{card_words}
@@ -20,8 +20,7 @@ listed sequences cards ms =
 
 -- 0 where the card is the answer, "N × 2^32 + P for refusal N at position P" otherwise
 abbrev pub listed_answer : Listed → ℕ
-listed_answer (Ok u) = 0
-listed_answer (Err r) = refusal_answer r
+listed_answer = answer_number (λ u. 0)
 
 -- "one card for it as the call's answer"; a refusal changes nothing
 abbrev pub card_after : Listed → ℕ → List ℕ → List ℕ → List ℕ → List ℕ

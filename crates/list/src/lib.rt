@@ -1,6 +1,5 @@
 // The card of a test list, worked out from the cards alone.
 #![tactic(auto)]
 
-pub mod answer;
 pub mod call;
 pub mod compose;

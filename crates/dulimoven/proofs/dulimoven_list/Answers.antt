@@ -8,4 +8,4 @@ use Rattle.dulimoven.proofs.dulimoven_list.Goals as goal
 pub returns : goal.returns
 returns c =
     let called = c.list.ensures in
-    ap₂ returned (c.list_answer.ensures ∙ ap listed_answer called.answer) called.card
+    ap₂ returned (c.answer_number.ensures ∙ ap listed_answer called.answer) called.card
