@@ -1,6 +1,6 @@
 -- The kinds of fact words and of entries.
 -- Assumes nothing.
-use Prim.Native.Nat.{ℕ, zero, suc, ◌/◌, ◌%◌, ◌^◌, ◌≤◌, ◌<◌}
+use Prim.Native.Nat.{ℕ, ◌/◌, ◌%◌, ◌^◌, ◌≤◌, ◌<◌}
 use lib.Dec.{eqb, leb}
 use native.Mathlib.Omega.{arith}
 use mathlib.Core.Path.{◌≡◌, refl, sym}
@@ -8,6 +8,7 @@ use mathlib.Core.Bool.{true, false, ◌||◌}
 use mathlib.Core.Logic.{◌⊎◌}
 use borrow.Author.Tests.{ne_eqb}
 use Rattle.image.specs.Word.{kind, is_kind, is_fact, is_entry}
+use Rattle.std.proofs.lemmas.Bool.{agree_below_at}
 use Rattle.std.proofs.lemmas.Bool.Decides.{nat_tests}
 use Rattle.image.specs.Kinds.{kind_number}
 use Rattle.image.specs.declared.word.Kind.{Kind}
@@ -37,27 +38,8 @@ pub kinds_between : (w : ℕ) → is_entry w ≡ true → (leb (kind w) 8 ≡ is
 kinds_between w e = grind (arith, nat_tests)
 
 -- the kinds of entries as the bits of a number
-kind_bit : (k : ℕ) → k < 16 → eqb (0x2300 / 2 ^ k % 2) 1 ≡ (eqb k 8 || eqb k 9 || eqb k 13)
-kind_bit zero l = refl
-kind_bit (suc zero) l = refl
-kind_bit (suc (suc zero)) l = refl
-kind_bit (suc (suc (suc zero))) l = refl
-kind_bit (suc (suc (suc (suc zero)))) l = refl
-kind_bit (suc (suc (suc (suc (suc zero))))) l = refl
-kind_bit (suc (suc (suc (suc (suc (suc zero)))))) l = refl
-kind_bit (suc (suc (suc (suc (suc (suc (suc zero))))))) l = refl
-kind_bit (suc (suc (suc (suc (suc (suc (suc (suc zero)))))))) l = refl
-kind_bit (suc (suc (suc (suc (suc (suc (suc (suc (suc zero))))))))) l = refl
-kind_bit (suc (suc (suc (suc (suc (suc (suc (suc (suc (suc zero)))))))))) l = refl
-kind_bit (suc (suc (suc (suc (suc (suc (suc (suc (suc (suc (suc zero))))))))))) l = refl
-kind_bit (suc (suc (suc (suc (suc (suc (suc (suc (suc (suc (suc (suc zero)))))))))))) l = refl
-kind_bit (suc (suc (suc (suc (suc (suc (suc (suc (suc (suc (suc (suc (suc zero))))))))))))) l = refl
-kind_bit (suc (suc (suc (suc (suc (suc (suc (suc (suc (suc (suc (suc (suc (suc zero)))))))))))))) l = refl
-kind_bit (suc (suc (suc (suc (suc (suc (suc (suc (suc (suc (suc (suc (suc (suc (suc zero))))))))))))))) l = refl
-kind_bit (suc (suc (suc (suc (suc (suc (suc (suc (suc (suc (suc (suc (suc (suc (suc (suc k)))))))))))))))) l = absurd (omega arith)
-
 pub entry_bit : (w : ℕ) → w < 2 ^ 32 → eqb (0x2300 / 2 ^ kind w % 2) 1 ≡ is_entry w
-entry_bit w l = kind_bit (kind w) (omega arith)
+entry_bit w l = agree_below_at (λ k. eqb (0x2300 / 2 ^ k % 2) 1) (λ k. eqb k 8 || eqb k 9 || eqb k 13) 16 (kind w) refl (omega arith)
 
 -- a word whose kind no kind has is of none
 pub no_kind : (w : ℕ) → ((k : Kind) → kind_number k ≡ kind w → ⊥) → (k : Kind) → is_kind (kind_number k) w ≡ false
