@@ -1,9 +1,9 @@
 -- That the walk is the scan of document 01, and which case of `checked` holds where.
 -- Assumes nothing.
-use Rattle.std.proofs.Common.{◌≡◌, ℕ, suc, ◌+◌, ◌-◌, ◌<◌, ◌≤◌, true, false, List, [], ◌∷◌, ◌++◌, length, take, sym, refl, ap, ◌∙◌, ap₂, add-one, arith, length-append, ne_eqb, eqb-true, le-leb}
+use Rattle.std.proofs.Common.{◌≡◌, ℕ, suc, ◌+◌, ◌-◌, ◌<◌, ◌≤◌, true, false, List, [], ◌∷◌, ◌++◌, length, take, sym, refl, ap, ◌∙◌, ap₂, add-one, arith, length-append, le-leb}
+use Rattle.std.proofs.lemmas.Bool.Decides.{nat_tests}
 use mir.Val.{bool_byte}
-use borrow.Author.Tests.{lt-leb}
-use Rattle.image.specs.Word.{kind, is_kind, sum_right, head_of, head_right}
+use Rattle.image.specs.Word.{is_kind, sum_right, head_of, head_right}
 use Rattle.image.specs.declared.answer.Head.{Head}
 use Rattle.image.specs.declared.answer.Refusal.TheVariants.{Length, SumWord, HeadWord}
 use Rattle.image.proofs.Head.{head_rule}
@@ -49,7 +49,7 @@ scan_walk h before (w ∷ ws) =
 
 -- the head opens nothing and sets nothing
 not_kind : (k j w : ℕ) → is_kind k w ≡ true → (k ≡ j → ⊥) → is_kind j w ≡ false
-not_kind k j w e d = ne_eqb (kind w) j (λ q. d (sym (eqb-true (kind w) k e) ∙ q))
+not_kind k j w e d = grind (arith, nat_tests)
 
 opens_none : (k w : ℕ) → is_kind k w ≡ false → opened k (w ∷ []) ≡ 0
 unfolding opened
@@ -77,11 +77,11 @@ take_one (w ∷ ws) l = refl
 module _ (image : List ℕ) where
   pub refused_short : length image < 2 → Err Length ≡ checked image
   unfolding checked
-  refused_short l = simp (lt-leb 2 (length image) l)
+  refused_short l = grind (arith, nat_tests)
 
   pub refused_long : 8192 < length image → Err Length ≡ checked image
   unfolding checked
-  refused_long l = simp (le-leb 2 (length image) (omega arith), lt-leb (length image) 8192 l)
+  refused_long l = grind (arith, nat_tests)
 
   module _ (low : 2 ≤ length image) (high : length image ≤ 8192) where
     pub refused_sum : sum_right (all_but_last image) (last_word image) ≡ false → Err (SumWord (length image - 1)) ≡ checked image

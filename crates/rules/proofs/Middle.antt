@@ -1,9 +1,10 @@
 -- A part that begins at a word that is no fact word, as a sequence's opener: the answer from there on does not depend on what the step sets
 -- that was opened before. A clear word, of which alone that is asked, stands after a step's opener, where nothing is set, or is refused by 4.
 -- Assumes nothing.
-use Rattle.std.proofs.Common.{◌≡◌, ℕ, suc, Bool, true, false, cond, ◌||◌, List, [], ◌∷◌, refl, ap, ◌∙◌, arith, ne_eqb}
+use Rattle.std.proofs.Common.{◌≡◌, ℕ, suc, Bool, true, false, cond, ◌||◌, List, [], ◌∷◌, refl, ap, ◌∙◌, arith}
+use Rattle.std.proofs.lemmas.Bool.Decides.{nat_tests}
 use Rattle.general.proofs.Bools.{nor_left, nor_right}
-use Rattle.image.specs.Word.{kind, is_kind, is_fact}
+use Rattle.image.specs.Word.{is_kind, is_fact}
 use Rattle.image.proofs.Words.{fact_kind}
 use Rattle.rules.specs.Rules.{sets_after, fault_at}
 use Rattle.rules.specs.Quick.{passed, seen}
@@ -22,25 +23,11 @@ NoFactAfter last = is_kind 5 last || is_fact last ≡ false
 module _ (h : Head) (e : Earlier) (p w : ℕ) where
   -- a fact word is refused there, whatever is set
   fact_refused : (sets : ℕ) → NoFactAfter e.last → is_fact w ≡ true → fault_at h (seen e sets) p w ≡ Some (Kind p)
-  fact_refused sets none fact =
-      let k = fact_kind w fact in
-      rw (
-        fact,
-        none,
-        other 5 (λ q. omega arith),
-        other 6 (λ q. omega arith),
-        other 7 (λ q. omega arith),
-        other 8 (λ q. omega arith),
-        other 9 (λ q. omega arith),
-        other 13 (λ q. omega arith),
-      )
-    where
-      other : (j : ℕ) → (kind w ≡ j → ⊥) → is_kind j w ≡ false
-      other j differs = ne_eqb (kind w) j differs
+  fact_refused sets none fact = grind (arith, nat_tests, fact_kind w fact)
 
   -- a word that is no fact word has the same fault, whatever is set
   same_fault : (s t : ℕ) → is_fact w ≡ false → fault_at h (seen e s) p w ≡ fault_at h (seen e t) p w
-  same_fault s t other = rw (nor_right (is_kind 2 w || is_kind 3 w) (is_kind 4 w) other)
+  same_fault s t other = grind (arith, nat_tests)
 
   -- and so the same answer, where the words after it have
   past_word : (ws : List ℕ) (s t : ℕ) → is_fact w ≡ false

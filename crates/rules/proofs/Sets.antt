@@ -1,6 +1,7 @@
 -- What the column of the facts that a step sets says: a fact is in it exactly where an earlier word of the same step sets it.
 -- Assumes nothing.
 use Rattle.std.proofs.Common.{◌≡◌, ℕ, ◌+◌, ◌<◌, Bool, true, false, cond, ◌&&◌, eqb, ◌⊎◌, ◌↔◌, List, [], ◌∷◌, ◌++◌, length, get_or, take, sym, refl, ap, ◌∙◌, inl, inr, ⊎_elim, add-one, arith, take-suc, eq-eqb, eqb-true}
+use Rattle.std.proofs.lemmas.Bool.Decides.{nat_tests}
 use mathlib.Core.Bool.{false≢true}
 use mir.Val.{bool_byte}
 use Rattle.column.specs.Column.{with_fact}
@@ -10,23 +11,14 @@ use Rattle.image.specs.Word.{kind, payload, is_kind}
 use Rattle.rules.specs.Rules.{opened, sets_after, sets_of, SetBefore, earlier}
 use Rattle.std.specs.List.{push}
 use Rattle.std.proofs.lemmas.Bool.{eqb-false}
-use Rattle.general.proofs.Bools.{or_cases, and_parts, both_ways}
+use Rattle.general.proofs.Bools.{and_parts, both_ways}
 
 -- ---- one word
 
 -- a fact that is set after a word: the word sets it, or it was set before and the word opens no step
 pub set_by : (sets f w : ℕ) → in_column (sets_after sets w) f ≡ true
     → ((kind w ≡ 3) × (payload w ≡ f)) ⊎ ((in_column sets f ≡ true) × (kind w ≡ 5 → ⊥))
-set_by sets f w = go (is_kind 3 w) (is_kind 5 w) refl refl
-  where
-    go : (b c : Bool) → is_kind 3 w ≡ b → is_kind 5 w ≡ c → in_column (cond b (with_fact sets (payload w)) (cond c 0 sets)) f ≡ true
-        → ((kind w ≡ 3) × (payload w ≡ f)) ⊎ ((in_column sets f ≡ true) × (kind w ≡ 5 → ⊥))
-    go true c three five e =
-        let k = eqb-true (kind w) 3 three in
-        ⊎_elim (λ p. inl (k, eqb-true (payload w) f p)) (λ s. inr (s, λ q. omega arith))
-        (or_cases (eqb (payload w) f) (in_column sets f) (sym (in_with sets (payload w) f) ∙ e))
-    go false true three five e = absurd (false≢true (sym (in_none f) ∙ e))
-    go false false three five e = inr (e, λ q. false≢true (sym five ∙ eq-eqb (kind w) 5 q))
+set_by sets f w = grind (arith, nat_tests, in_with sets (payload w) f, in_none f)
 
 -- a set word sets its fact
 pub set_word : (sets w : ℕ) → kind w ≡ 3 → in_column (sets_after sets w) (payload w) ≡ true
@@ -43,7 +35,7 @@ set_stays sets f w other e = go (is_kind 3 w) (is_kind 5 w) refl
 
 -- after a step's opener nothing is set
 pub set_none : (sets f w : ℕ) → kind w ≡ 5 → in_column (sets_after sets w) f ≡ false
-set_none sets f w five = rw five (in_none f)
+set_none sets f w five = grind (arith, nat_tests, in_none f)
 
 -- a word that neither sets the fact nor opens a step changes nothing
 pub set_same : (sets f w : ℕ) → is_kind 3 w && eqb (payload w) f ≡ false → (kind w ≡ 5 → ⊥) → in_column (sets_after sets w) f ≡ in_column sets f
