@@ -29,10 +29,11 @@ use Rattle.settling.specs.Settling.{Reached, Settled}
 use Rattle.reading.specs.Walks.{is_dead}
 use Rattle.outcome.specs.Visited.{visited}
 use Rattle.row.specs.declared.words.Row.{Row}
+use Rattle.library.proofs.Rows.{all_at}
 use Rattle.outcome.proofs.Low.{LowRow, none_low, reached_low}
 use Rattle.runs.proofs.Rows.{by_column}
 use Rattle.outcome.proofs.Settled.{Given, blank_row, settled_bits}
-use Rattle.outcome.proofs.Stores.{words_from, take_words}
+use Rattle.rows.proofs.Places.{row_read}
 use Rattle.outcome.proofs.Visited.{visits_lower}
 use Rattle.settling.proofs.Visits.{reached_length}
 
@@ -51,15 +52,7 @@ word_row t c =
     side first untouched = refl
 
 word_low : (n : ℕ) (r : Row) → LowRow n r → (j : ℕ) → j < row_words → get_or (words_of r) j 0 < 2 ^ n
-word_low n r low = by_column (λ (j : ℕ). get_or (words_of r) j 0 < 2 ^ n) low.run low.empty side low.cleared low.unmentioned
-  where
-    side : (s : Side) (m : Mark) → get_or (words_of r) (column_number s m) 0 < 2 ^ n
-    side last present = low.last.0
-    side last absent = low.last.1
-    side last untouched = low.last.2
-    side first present = low.first.0
-    side first absent = low.first.1
-    side first untouched = low.first.2
+word_low n r low j l = all_at (λ (w : ℕ). w < 2 ^ n) (words_of r) low 0 j l
 
 -- a column in which all bits are alike
 column_some : (n : ℕ) → 1 ≤ n → (b : Bool) → ltb 0 (column n (λ (f : ℕ). b)) ≡ b
@@ -74,7 +67,7 @@ run_word_lem L k c = refl
 -- a table of n rows by its words
 table_rows : (L : Library) (b n c : ℕ) (t : List ℕ) → length t ≡ row_words * n → ((i j : ℕ) → i < n → j < row_words → get_or t (row_words * i + j) 0 ≡ outcome_word L b j (c + i))
     → t ≡ outcome_rows L b c n
-unfolding outcome_rows words_from
+unfolding outcome_rows
 table_rows L b zero c t e words = drop_of_length-le t {i = 0} (omega arith)
 table_rows L b (suc n) c t e words =
     let w : (j : ℕ) → j < row_words → get_or t j 0 ≡ outcome_word L b j c =
@@ -82,7 +75,7 @@ table_rows L b (suc n) c t e words =
     let rest : drop row_words t ≡ outcome_rows L b (suc c) n =
     table_rows L b n (suc c) (drop row_words t) (omega (arith, length-drop row_words t))
     (λ i j l k. get_or-drop row_words t (row_words * i + j) 0 ∙ later i j ∙ words (suc i) j (omega arith) k ∙ ap (outcome_word L b j) (add-suc c i ∙ sym (suc-add c i))) in
-    sym (take-append-drop row_words t) ∙ ap (λ (l : List ℕ). l ++ drop row_words t) (take_words row_words t 0 (omega arith))
+    sym (take-append-drop row_words t) ∙ ap (λ (l : List ℕ). l ++ drop row_words t) (sym (row_read t 0 (omega arith)))
     ∙ (λ i.
     w 0 (omega arith) i ∷ w 1 (omega arith) i ∷ w 2 (omega arith) i ∷ w 3 (omega arith) i ∷ w 4 (omega arith) i ∷ w 5 (omega arith) i
     ∷ w 6 (omega arith) i ∷ w 7 (omega arith) i ∷ w 8 (omega arith) i ∷ w 9 (omega arith) i ∷ rest i)
