@@ -9,12 +9,8 @@ use Rattle.cards.specs.Layout.{card_words}
 use Rattle.library.specs.Library.{library_of}
 use Rattle.library.proofs.Accepted.{faultless, counted}
 use Rattle.writer.specs.Block.{cards_with}
-use Rattle.outcome.proofs.Fill.{areas_asked}
 use Rattle.card.proofs.Table.{table_cards}
 use Rattle.card.proofs.call.fill_block.Goals as goal
-
-pub outcome_table-requires : goal.outcome_table-requires
-outcome_table-requires g c = let room = c.requires.1 in areas_asked c.requires.0.given _ _ _ room.masks room.steps room.rows
 
 pub write_blocks-requires : goal.write_blocks-requires
 write_blocks-requires g c =

@@ -8,9 +8,6 @@ use Rattle.outcome.proofs.Stores.{Fitting}
 use Rattle.outcome.proofs.Visited.{visit_made}
 use Rattle.outcome.proofs.settle.RowVisitsVisits.visit.Goals as goal
 
-pub invariant_of-reader : goal.invariant_of-reader
-invariant_of-reader c = record { readable = c.requires.1.readable }
-
 pub returns : goal.returns
 returns c =
     let v = c.args.self.now in

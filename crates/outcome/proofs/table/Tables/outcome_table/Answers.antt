@@ -2,22 +2,12 @@
 -- Assumes nothing.
 use native.Mathlib.Omega.{arith}
 use Prim.Native.Nat.{ℕ, ◌*◌}
-use mathlib.Core.Path.{refl, sym, ap}
+use mathlib.Core.Path.{refl, ap}
 use mathlib.Core.List.{List, ◌++◌}
 use lib.ListN.{drop}
-use lib.Seq.{length-take-le}
 use Rattle.row.specs.Words.{row_words}
-use Rattle.outcome.proofs.Fill.{table_long, settle_asked, outcomes_done}
+use Rattle.outcome.proofs.Fill.{settle_asked, outcomes_done}
 use Rattle.outcome.proofs.table.Tables.outcome_table.Goals as goal
-
-pub slice_bounds-settle-end : goal.slice_bounds-settle-end
-slice_bounds-settle-end c = c.requires.room
-
-pub slice_bounds-schedule-end : goal.slice_bounds-schedule-end
-slice_bounds-schedule-end c = sym (length-take-le _ _ c.requires.given.order_room)
-
-pub slice_bounds-settle-end-2 : goal.slice_bounds-settle-end-2
-slice_bounds-settle-end-2 c = sym (table_long c.requires)
 
 pub settle-requires : goal.settle-requires
 settle-requires c =

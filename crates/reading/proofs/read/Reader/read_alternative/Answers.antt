@@ -2,7 +2,7 @@
 -- Assumes nothing.
 use borrow.Author.Rules.{rules}
 use native.Mathlib.Omega.{arith}
-use mathlib.Core.Path.{◌≡◌, refl, sym, ap, ◌∙◌}
+use mathlib.Core.Path.{◌≡◌, sym, ap, ◌∙◌}
 use mathlib.Core.Bool.{false, not}
 use Prim.Native.Nat.{ℕ}
 use lib.ListN.{length, get_or, get_or-eq_default}
@@ -10,7 +10,7 @@ use lib.Dec.{ltb}
 use borrow.Author.Tests.{lt-ltb, eqb-true}
 use Rattle.image.specs.Word.{kind, is_entry}
 use Rattle.library.proofs.Decode.{check_entry}
-use Rattle.walk.proofs.Walking.{folding_out, leaving_start, leaving_out}
+use Rattle.walk.proofs.Walking.{folding_out, leaving_out}
 use Rattle.row.specs.Words.{no_row, check_row}
 use Rattle.row.specs.declared.words.Row.{Row}
 use Rattle.reading.specs.Walks.{is_dead, entry_in, joined_from}
@@ -18,22 +18,12 @@ use Rattle.reading.proofs.Walks.{dead_is, live_turn, dead_end}
 use Rattle.reading.proofs.read.Reader.read_alternative.Goals as goal
 use Rattle.reading.proofs.read.Reader.read_alternative.Goals.{then-is_check, else-is_check+else-named-eq0}
 
-pub loop-i-init : goal.loop-i-init
-loop-i-init c = rw c.start-row.ensures (leaving_start c.requires refl)
-
-pub part_entry-requires : goal.part_entry-requires
-part_entry-requires c = (c.args.self.now.readable c.loop-i.i c.loop-i-test.true).high
-
 pub returns-then-not-part_entry : goal.returns-then-not-part_entry
 unfolding joined_from
 returns-then-not-part_entry c =
     let here = c.loop-i.invariant in
     let e = sym c.part_entry.ensures ∙ c.if-not-part_entry.true in
     record { row = folding_out here.folding e; ended = leaving_out here e }
-
-pub named_row-named-requires : goal.named_row-named-requires
-named_row-named-requires c =
-    (c.args.self.now.readable c.loop-i.i c.loop-i-test.true, sym c.part_entry.ensures ∙ c.if-not-part_entry.false, sym c.is_check.ensures ∙ c.if-is_check.false)
 
 pub returns-then-named-eq0 : goal.returns-then-named-eq0
 returns-then-named-eq0 c =

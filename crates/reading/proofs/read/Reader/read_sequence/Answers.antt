@@ -1,17 +1,12 @@
 -- `reading::read::Reader::read_sequence` meets its contract: what is united so far, with the alternatives to come, is the whole sequence.
 -- Assumes nothing.
-use borrow.Author.Rules.{rules}
-use mathlib.Core.Path.{◌≡◌, refl, sym, ap, ◌∙◌}
+use mathlib.Core.Path.{refl, sym, ap, ◌∙◌}
 use lib.ListN.{get_or-eq_default}
 use Rattle.image.specs.Word.{is_kind, is_entry}
-use Rattle.row.specs.Words.{no_row}
-use Rattle.walk.proofs.Walking.{tested, walking_start, walking_turn, walking_pass, walking_out}
+use Rattle.walk.proofs.Walking.{tested, walking_turn, walking_pass, walking_out}
 use Rattle.reading.specs.Walks.{is_dead, united_from}
 use Rattle.reading.proofs.Walks.{uniting_empties}
 use Rattle.reading.proofs.read.Reader.read_sequence.Goals as goal
-
-pub loop-i-init : goal.loop-i-init
-loop-i-init c = let nothing : c.default-row.result ≡ no_row = search rules in rw nothing (walking_start c.requires refl)
 
 pub loop-i-preserved-then-is_entry : goal.loop-i-preserved-then-is_entry
 loop-i-preserved-then-is_entry c = walking_pass c.loop-i.invariant (sym c.is_entry.ensures ∙ c.if-is_entry.true) c.rest_end-i.ensures
