@@ -1,22 +1,16 @@
 -- What a count as the card call's answer says.
 -- Assumes nothing.
-use Prim.Native.Nat.{ℕ, ◌*◌, ◌≤◌, ◌<◌}
+use Prim.Native.Nat.{ℕ, ◌*◌, ◌≤◌}
 use native.Mathlib.Omega.{arith}
-use mathlib.Core.Path.{◌≡◌, refl, sym, ap, ◌∙◌}
+use mathlib.Core.Path.{◌≡◌, refl}
 use mathlib.Core.Bool.{Bool, true, false, cond}
-use mathlib.Core.List.{List, ◌++◌}
-use lib.ListN.{length, drop}
 use lib.Dec.{ltb}
-use borrow.Author.Tests.{lt-ltb, le-ltb, ltb-false}
-use Rattle.std.specs.Prelude.{Result, Ok, Err}
-use Rattle.library.specs.Library.{library_of}
-use Rattle.rules.specs.Checked.{checked}
+use borrow.Author.Tests.{ltb-false}
+use Rattle.std.specs.Prelude.{Ok, Err}
 use Rattle.image.specs.declared.answer.Head.{Head}
-use Rattle.image.specs.declared.answer.Refusal.{Refusal}
 use Rattle.image.specs.declared.answer.Refusal.TheVariants.{CardArea}
 use Rattle.cards.specs.Layout.{card_words}
-use Rattle.cards.specs.Card.{cards}
-use Rattle.card.specs.Answer.{cards_given, cards_of, area_with, CardsCalled}
+use Rattle.card.specs.Answer.{cards_given}
 use Rattle.image.specs.Answer.{Checked}
 
 -- where the call answers a count, the image is accepted with that count, and the area has room

@@ -2,13 +2,12 @@
 -- "Turned down, in checking order", "The card" and "Chains").
 use Rattle.std.specs.Prelude.{ℕ, ◌*◌, ◌≡◌, cond, List, ◌++◌, length, drop, ltb, Result, Ok, Err}
 use Rattle.image.specs.declared.answer.Refusal.{Refusal}
-use Rattle.image.specs.Answer.{refusal_answer}
 use Rattle.rules.specs.Checked.{checked}
 use Rattle.library.specs.Library.{library_of}
 use Rattle.image.specs.declared.answer.Refusal.TheVariants.{CardArea}
 use Rattle.cards.specs.Layout.{card_words}
 use Rattle.cards.specs.Card.{cards}
-use Rattle.image.specs.Answer.{Checked}
+use Rattle.image.specs.Answer.{Checked, answer_number}
 
 -- 8: "The card area has fewer than 7 × C words of 64 bits."; "8 asks 49 × C" (document 02, request 8). It comes after 1 to 7;
 -- "Otherwise .. the cards [answer] C"
@@ -33,8 +32,7 @@ card_area image area = area_with (cards_of image area) image area
 
 -- "It gets one 64-bit number: N × 2^32 + P for refusal N at position P, otherwise .. C from the cards"
 abbrev pub cards_answer : Result ℕ Refusal → ℕ
-cards_answer (Ok n) = n
-cards_answer (Err r) = refusal_answer r
+cards_answer = answer_number (λ n. n)
 
 -- what the card call does: its answer, and the area after it
 pub record CardsCalled (image before : List ℕ) (found : Result ℕ Refusal) (after : List ℕ) : Type 0 where

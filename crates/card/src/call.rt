@@ -82,8 +82,6 @@ fn fill(accepted: &Accepted, area: &mut [u64]) -> Result<u32, Refusal>
 pub fn cards(image: &[u32], area: &mut [u64]) -> Result<u32, Refusal>
     ensures { CardsCalled image.now area.old result area.new }
 {
-    match check(image) {
-        Err(r) => Err(r),
-        Ok(head) => fill(&Accepted { image, head }, area),
-    }
+    let head = check(image)?;
+    fill(&Accepted { image, head }, area)
 }

@@ -7,7 +7,7 @@ ghost use Rattle.card_text.specs.Writers.{numbers_of, text_bytes, AnswerAsked};
 
 use crate::line::{MOST_LINES, put_lines, put_refusal};
 use card::call::cards;
-use image::answer::{Refusal, number, position};
+use image::answer::Refusal;
 use image::word::MOST_WORDS;
 use text::area::Text;
 use text::bytes::{WORD_BYTES, write_words};
@@ -26,7 +26,7 @@ pub fn put_answer(text: &mut Text, found: Result<u32, Refusal>, cards: &[u64])
 {
     match found {
         Ok(n) => put_lines(text, n, cards),
-        Err(r) => put_refusal(text, number(r), position(r) as u64),
+        Err(r) => put_refusal(text, r.number(), r.position() as u64),
     }
 }
 

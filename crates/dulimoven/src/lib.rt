@@ -20,7 +20,7 @@ pub fn dulimoven_check(image: &[u32]) -> u64
 pub fn dulimoven_cards(image: &[u32], area: &mut [u64]) -> u64
     ensures { returned result area.new ≡ engine.cards image.now area.old }
 {
-    card::answer::cards_answer(card::call::cards(image, area))
+    image::answer::answer_number(card::call::cards(image, area))
 }
 
 // The chain: the number of links with their words written, two a link, 0 for "none", or N × 2^32 + P for refusal N at position P; "none" and a

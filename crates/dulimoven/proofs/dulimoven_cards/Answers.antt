@@ -8,4 +8,4 @@ use Rattle.dulimoven.proofs.dulimoven_cards.Goals as goal
 pub returns : goal.returns
 returns c =
     let called = c.cards.ensures in
-    ap₂ returned (c.cards_answer.ensures ∙ ap cards_answer called.answer) called.area
+    ap₂ returned (c.answer_number.ensures ∙ ap cards_answer called.answer) called.area
