@@ -14,7 +14,7 @@ module _ (ws four next : List ℕ) (i : ℕ) (cut : drop i ws ≡ four ++ next) 
   pub four_within : i + 4 ≤ length ws
   four_within = omega (arith, length-drop i ws, ap length cut, length-append four next)
 
-  four_word : (k : ℕ) → k < 4 → get_or four k 0 ≡ get_or ws (i + k) 0
+  pub four_word : (k : ℕ) → k < 4 → get_or four k 0 ≡ get_or ws (i + k) 0
   four_word k l =
       sym (get_or-append four next 0 k (omega arith)) ∙ ap (λ (xs : List ℕ). get_or xs k 0) (sym cut) ∙ get_or-drop i ws k 0
 

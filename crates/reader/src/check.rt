@@ -129,26 +129,29 @@ impl Part<'_> {
         }
     }
 
-    // Whether the four words from index `at` on are right after an alternative's opener or an entry.
-    fn four_right(&self, at: usize) -> bool
-        requires { at + 4 ≤ length self.now.words.now }
-        ensures { result ≡ true → FourRight self.now.head self.now.words.now at }
+    // Whether four words are right after an alternative's opener or an entry.
+    fn four_right(&self, four: &[u32]) -> bool
+        requires { length four.now ≡ 4 }
+        ensures { result ≡ true → FourRight self.now.head four.now 0 }
     {
-        all_four(self.words, at, |w| inside_right(self.head, w))
+        all_four(four, 0, |w| inside_right(self.head, w))
     }
 
-    // The same by fours that are right, and then one by one. The index counts by hand: beside an iterator over the fours it would still be counted.
+    // The same by fours that are right, and then one by one.
     fn read_fours(&self, last: u32, at: usize) -> Body
         requires { (at ≤ length self.now.words.now) × (in_alternative last ≡ true) }
         ensures { FoursRead self.now.head self.now.words.now last at result }
     {
         let mut before = last;
-        let mut i = at;
-        while AT_ONCE <= self.words.len() - i && self.four_right(i) {
-            before = self.words[i + 3];
-            i += AT_ONCE;
+        let mut next = at;
+        for four in self.words[at..].chunks_exact(AT_ONCE) {
+            if !self.four_right(four) {
+                break;
+            }
+            before = four[3];
+            next += AT_ONCE;
         }
-        self.read_rest(before, i)
+        self.read_rest(before, next)
     }
 
     // Reads the alternatives and entries that stand from index `at` on and are right: of such words there are most.
