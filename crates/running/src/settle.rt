@@ -23,7 +23,7 @@ pub struct RunVisits<'a> {
     pub n: usize,
 }
 
-// A set is settled as a table of one word, the set.
+// A set is settled as a table of one word, the set: a trait's table is a slice, since no type parameter stands for an unsized type.
 impl Visits for RunVisits<'_> {
     type Word = Set;
 
@@ -100,6 +100,7 @@ impl RunVisits<'_> {
         ensures { Settles (visited self.now.part.now self.now.places.now) self.now.n runs.old runs.new }
     {
         let mut left = unfound;
+        // how many passes it takes is seen as they go
         'passes: loop {
             let count = self.pass(runs, forward, self.n);
             if count == 0 {

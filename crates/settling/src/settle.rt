@@ -6,7 +6,8 @@ ghost use Rattle.settling.specs.Settling.{Visit, VisitLaws, Scheduled, Swept, Se
 use crate::turns::{Turns, after_visit};
 use callers::sets::Set;
 
-// The visits of a table.
+// The visits of a table. Their laws (`VisitLaws`) are asked where a table is settled, and are no laws of the trait: an `impl` may cite its crate's
+// specs/ alone, and the laws of each kind of visit stand in proofs/.
 pub trait Visits {
     // What the table is made of.
     type Word;
