@@ -1,8 +1,9 @@
 -- What follows for each of four words.
 -- Assumes nothing.
-use Rattle.std.proofs.Common.{◌≡◌, ℕ, ◌+◌, ◌<◌, ◌≤◌, List, ◌++◌, length, get_or, drop, sym, ap, ◌∙◌, subst, arith, length-append, length-drop}
-use lib.ListN.{get_or-append}
-use lib.Seq.{get_or-drop, drop-drop, drop-append_seam}
+use Rattle.std.proofs.Common.{◌≡◌, ℕ, ◌+◌, ◌-◌, ◌<◌, ◌≤◌, List, ◌++◌, length, get_or, drop, sym, ap, ◌∙◌, subst, arith, length-append, length-drop}
+use lib.ListN.{get_or-append, take}
+use Rattle.std.proofs.lemmas.List.{get_or-append_right, get_or-take, length-take-le, take-take}
+use lib.Seq.{get_or-drop, drop-drop, drop-append_seam, take-append_seam}
 use Rattle.image.specs.Fours.{AllFour}
 
 pub all_four_also : {P Q : ℕ → Type 0} {ws : List ℕ} {i : ℕ} → ((w : ℕ) → P w → Q w) → AllFour P ws i → AllFour Q ws i
@@ -32,3 +33,37 @@ module _ (ws four next : List ℕ) (i : ℕ) (cut : drop i ws ≡ four ++ next) 
   four_rest =
       sym (drop-append_seam four next) ∙ ap (λ (n : ℕ). drop n (four ++ next)) long ∙ ap (drop 4) (sym cut) ∙ drop-drop 4 i ws
       ∙ ap (λ (n : ℕ). drop n ws) (omega arith)
+
+-- the last four of the words before index i
+module _ (ws four next : List ℕ) (i : ℕ) (within : i ≤ length ws) (cut : take i ws ≡ next ++ four) (long : length four ≡ 4) where
+  last_long : length next + 4 ≡ i
+  last_long = omega (arith, length-take-le i ws within, ap length cut, length-append next four)
+
+  pub last_four : 4 ≤ i
+  last_four = omega (arith, last_long)
+
+  last_start : i - 4 ≡ length next
+  last_start = omega (arith, last_long)
+
+  pub last_rest : next ≡ take (i - 4) ws
+  last_rest =
+      let low : length next ≤ i = omega (arith, last_long) in
+      sym (take-append_seam next four) ∙ ap (take (length next)) (sym cut) ∙ take-take (length next) i ws low ∙ ap (λ (n : ℕ). take n ws) (sym last_start)
+
+  last_word : (k : ℕ) → k < 4 → get_or four k 0 ≡ get_or ws (i - 4 + k) 0
+  last_word k l =
+      let e : i - 4 + k - (i - 4) ≡ k = omega arith in
+      let lt : i - 4 + k < i = omega (arith, last_four) in
+      let from : i - 4 ≤ i - 4 + k = omega arith in
+      sym (ap (λ (n : ℕ). get_or four n 0) e) ∙ sym (get_or-append_right next four (i - 4) (i - 4 + k) 0 (sym last_start) from)
+      ∙ ap (λ (xs : List ℕ). get_or xs (i - 4 + k) 0) (sym cut) ∙ get_or-take i ws (i - 4 + k) 0 lt
+
+  pub last_at : (P : ℕ → Type 0) → AllFour P four 0 → AllFour P ws (i - 4)
+  last_at P all =
+      let same : i - 4 + 0 ≡ i - 4 = omega arith in
+      record {
+        first = subst P (last_word 0 (omega arith) ∙ ap (λ (n : ℕ). get_or ws n 0) same) all.first;
+        second = subst P (last_word 1 (omega arith)) all.second;
+        third = subst P (last_word 2 (omega arith)) all.third;
+        fourth = subst P (last_word 3 (omega arith)) all.fourth;
+      }

@@ -76,9 +76,9 @@ fn pass_back(part: &[u32], end: usize) -> usize
     ensures { NoPlaces part.now result end }
 {
     let mut i = end;
-    while AT_ONCE <= i {
-        if !none_opens(part, i - AT_ONCE) {
-            return i;
+    for four in part[..end].rchunks_exact(AT_ONCE) {
+        if !none_opens(four, 0) {
+            break;
         }
         i -= AT_ONCE;
     }

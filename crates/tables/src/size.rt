@@ -1,5 +1,6 @@
 // The sizes of the areas that a call makes its tables in. To clear areas for the largest image takes longer than all else that a call does with an
-// everyday one, so there are small areas too, for images with few steps and few sequences.
+// everyday one, so there are small areas too, for images with few steps and few sequences. Each size has two constants by hand: they are const
+// arguments, and such an argument cannot be computed from another one.
 ghost use Rattle.std.specs.Prelude.{◌≡◌};
 ghost use Rattle.tables.specs.Tables.{is_small};
 
