@@ -4,10 +4,6 @@ use Rattle.std.proofs.Common.{◌||◌, sym, ap₂, ◌∙◌, refl, arith}
 use Rattle.reach.proofs.Queue.{noted_before, new_room, new_queued, noted_new}
 use Rattle.reach.proofs.found.Reached.note.Goals as goal
 
-pub returns-then-contains : goal.returns-then-contains
-returns-then-contains c =
-    noted_before c.args.self.now c.args.d (sym (ap₂ ◌||◌ c.contains.ensures c.contains-2.ensures) ∙ c.if-contains.true)
-
 pub offset_bounds-self-self : goal.offset_bounds-self-self
 offset_bounds-self-self c =
     let new = sym (ap₂ ◌||◌ c.contains.ensures c.contains-2.ensures) ∙ c.if-contains.false in

@@ -7,13 +7,3 @@ use Rattle.reach.proofs.found.Reached.only.Goals as goal
 pub invariant_of-result : goal.invariant_of-result
 invariant_of-result c =
     record { queued = rw (c.insert.ensures, c.default-set.ensures) (queued_one c.args.n c.args.c c.requires.0 c.requires.1) }
-
-pub returns : goal.returns
-returns c =
-    record {
-      runs_same = refl;
-      bound = refl;
-      one = refl;
-      first = refl;
-      asked = λ e. rw (c.insert.ensures, c.default-set.ensures) (one_found c.args.n c.args.c c.requires.0 c.requires.1 e);
-    }

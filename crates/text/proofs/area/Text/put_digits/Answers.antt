@@ -7,10 +7,6 @@ use Rattle.text.specs.Number.{digits_in}
 use Rattle.text.specs.Text.{Put}
 use Rattle.text.proofs.area.Text.put_digits.Goals as goal
 
-pub put_last_digit-rest-requires : goal.put_last_digit-rest-requires
-put_last_digit-rest-requires g c =
-    record { low = c.requires.low; high = c.requires.high; room = omega arith }
-
 pub loop-preserved : goal.loop-preserved
 loop-preserved g c =
     (omega (arith, c.put_last_digit-rest.ensures.put.front.room), λ after p. c.loop.invariant.1 after (put_digit_more _ _ _ _ _ _ _ _ (omega arith) c.put_last_digit-rest.ensures.put c.put_last_digit-rest.ensures.rest p))

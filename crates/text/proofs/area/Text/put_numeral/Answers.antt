@@ -5,16 +5,9 @@ use Rattle.text.specs.Number.{numeral}
 use Rattle.text.proofs.Numeral.{numeral_some, length_more, put_numeral_more, put_numeral_last, less_left}
 use Rattle.text.proofs.area.Text.put_numeral.Goals as goal
 
-pub loop-rest-init : goal.loop-rest-init
-loop-rest-init g c = (c.requires.room, λ _ p. p)
-
 pub put_last_digit-rest-requires : goal.put_last_digit-rest-requires
 put_last_digit-rest-requires g c =
     record { low = c.requires.low; high = c.requires.high; room = omega (arith, numeral_some g.row.BASE c.requires.low c.loop-rest.rest) }
-
-pub loop-rest-smaller : goal.loop-rest-smaller
-loop-rest-smaller g c =
-    less_left g.row.BASE c.loop-rest.rest _ c.requires.low c.loop-rest-test.true c.put_last_digit-rest.ensures.rest
 
 pub loop-rest-preserved : goal.loop-rest-preserved
 loop-rest-preserved g c =
