@@ -14,7 +14,7 @@ use Rattle.general.proofs.Rising.{passing_same}
 use Rattle.image.specs.declared.answer.Head.{Head}
 use Rattle.image.specs.declared.answer.Refusal.{Refusal}
 use Rattle.image.specs.declared.answer.Refusal.TheVariants.{Sequence, HasRun, ListArea}
-use Rattle.image.specs.Answer.{Checked}
+use Rattle.image.specs.Answer.{Checked, answer_number}
 use Rattle.std.specs.Prelude.{Result, Ok, Err}
 use Rattle.rules.specs.Checked.{Accepts, checked}
 use Rattle.library.specs.Library.{Library, Alternative, library_of, sequences_part}
@@ -36,7 +36,7 @@ use Rattle.endings.proofs.Reached.{table_reaches}
 use Rattle.reach.specs.Queue as found
 use Rattle.reach.specs.Queue.{ReachAsked, FromAsked, Found}
 use Rattle.endless.specs.Marked.{Marked}
-use Rattle.endless.specs.Answer.{explained, area_after, after_check, Explains, EndlessCalled}
+use Rattle.endless.specs.Answer.{endless_answer, explained, area_after, after_check, Explains, EndlessCalled}
 
 -- ---- an accepted image
 
@@ -102,6 +102,11 @@ module _ {h : Head} {image places runs : List ℕ} (accepted : Accepts image h) 
   reached_listed {c} low none = found_listed (record { sequence = omega (arith, (counted image h accepted).sequences); none = (no_run_iff L c).0 none })
 
 -- ---- the answer
+
+-- its number on the C side is that of what every call finds: how many there are, or the refusal's
+pub answer_is : (found : Result ℕ Refusal) → endless_answer found ≡ answer_number (λ n. n) found
+answer_is (Ok n) = refl
+answer_is (Err r) = refl
 
 module _ (L : Library) (c : ℕ) (area : List ℕ) where
   abbrev told : Bool → Bool → Result ℕ Refusal

@@ -162,22 +162,3 @@ pub fn answer_number<T: Found>(answer: Result<T, Refusal>) -> u64
         Err(refusal) => u64::from(refusal),
     }
 }
-
-// These three say the same as `number`, `position` and `u64::from`, for the crates that do not use those yet.
-pub fn number(refusal: Refusal) -> u64
-    ensures { (result ≡ refusal_number refusal) × (result < 2 ^ 32) }
-{
-    refusal.number()
-}
-
-pub fn position(refusal: Refusal) -> u32
-    ensures { result ≡ refusal_position refusal }
-{
-    refusal.position()
-}
-
-pub fn refusal_answer(refusal: Refusal) -> u64
-    ensures { result ≡ refusal_answer refusal }
-{
-    u64::from(refusal)
-}

@@ -75,35 +75,6 @@ impl Kind {
     }
 }
 
-// The same as numbers, for the crates that do not use `Kind` yet.
-pub const KIND_HEAD: u32 = 1;
-
-pub const KIND_NEEDS: u32 = 2;
-
-pub const KIND_SETS: u32 = 3;
-
-pub const KIND_CLEARS: u32 = 4;
-
-pub const KIND_STEP: u32 = 5;
-
-pub const KIND_SEQUENCE: u32 = 6;
-
-pub const KIND_ALTERNATIVE: u32 = 7;
-
-pub const KIND_STEP_ENTRY: u32 = 8;
-
-pub const KIND_SEQUENCE_ENTRY: u32 = 9;
-
-pub const KIND_CHOICE: u32 = 10;
-
-pub const KIND_POSITION: u32 = 11;
-
-pub const KIND_UNTOUCHED: u32 = 12;
-
-pub const KIND_CHECK: u32 = 13;
-
-pub const KIND_SUM: u32 = 15;
-
 // An alternative's opener: its payload is 0.
 pub const ALTERNATIVE_WORD: u32 = 0x70000000;
 
@@ -143,13 +114,6 @@ pub fn payload_of(w: u32) -> u32
     ensures { result ≡ payload w }
 {
     w % PAYLOADS
-}
-
-// Whether a word is of kind `k`.
-pub fn is_kind(k: u32, w: u32) -> bool
-    ensures { result ≡ is_kind k w }
-{
-    w / PAYLOADS == k
 }
 
 // A fact word: kind 2, 3 or 4.

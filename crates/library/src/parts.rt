@@ -5,14 +5,14 @@ ghost use Rattle.library.specs.Library.{before_sequences, steps_part, sequences_
 ghost use Rattle.library.specs.Seam.{Passed, NoneOpens};
 
 use image::fours::all_four;
-use image::word::{AT_ONCE, KIND_SEQUENCE, is_kind};
+use image::word::{AT_ONCE, Kind};
 
 // Whether none of the four words from index `at` on opens a sequence.
 pub fn none_opens(words: &[u32], at: usize) -> bool
     requires { at + 4 ≤ length words.now }
     ensures { result ≡ true → NoneOpens words.now at }
 {
-    all_four(words, at, |w| !is_kind(KIND_SEQUENCE, w))
+    all_four(words, at, |w| !Kind::Sequence.is_of(w))
 }
 
 // Passes words by fours, none of which opens a sequence.
@@ -35,7 +35,7 @@ fn first_sequence(words: &[u32]) -> usize
     ensures within { result ≤ length words.now }
 {
     for i in pass_fours(words)..words.len() {
-        if is_kind(KIND_SEQUENCE, words[i]) {
+        if Kind::Sequence.is_of(words[i]) {
             return i;
         }
     }

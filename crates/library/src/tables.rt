@@ -7,7 +7,7 @@ ghost use Rattle.library.specs.Tables.{mask_words, masks, places_from, with_word
 use crate::parts::none_opens;
 use column::with_fact_in;
 use image::answer::Head;
-use image::word::{AT_ONCE, KIND_NEEDS, KIND_SEQUENCE, KIND_SETS, KIND_STEP, is_kind, payload_of};
+use image::word::{AT_ONCE, Kind, payload_of};
 
 // The words of a step in the table of masks: one for what it needs, one for what it sets, one for what it clears.
 pub const MASK_WORDS: usize = 3;
@@ -25,12 +25,12 @@ fn with_word(m: Masks, block: u32, w: u32) -> Masks
     ensures { result ≡ with_word block m w }
 {
     let f = payload_of(w);
-    if is_kind(KIND_NEEDS, w) {
+    if Kind::Needs.is_of(w) {
         Masks {
             needs: with_fact_in(m.needs, block, f),
             ..m
         }
-    } else if is_kind(KIND_SETS, w) {
+    } else if Kind::Sets.is_of(w) {
         Masks {
             sets: with_fact_in(m.sets, block, f),
             ..m
@@ -61,7 +61,7 @@ pub fn write_masks(h: Head, part: &[u32], block: u32, area: &mut [u64])
 {
     let mut m = Masks::default();
     for w in part.iter().rev() {
-        if is_kind(KIND_STEP, *w) {
+        if Kind::Step.is_of(*w) {
             write_row(area, payload_of(*w), m);
             m = Masks::default();
         } else {
@@ -91,7 +91,7 @@ fn last_opener(part: &[u32], end: usize) -> Option<usize>
     ensures { MatchOption result (NoPlaces part.now 0 end) (LastPlace part.now end) }
 {
     for i in (0..pass_back(part, end)).rev() {
-        if is_kind(KIND_SEQUENCE, part[i]) {
+        if Kind::Sequence.is_of(part[i]) {
             return Some(i);
         }
     }

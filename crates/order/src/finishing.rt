@@ -92,6 +92,7 @@ impl Walk<'_> {
 // Writes the order of the sequences below `n` with these callers. At first all of them are fresh.
 fn finishing_order(callers: &[u64], order: &mut [usize], n: usize)
     requires { n ≤ most_sequences }
+    ensures { length order.new ≡ length order.old }
 {
     let mut walk = Walk {
         callers,

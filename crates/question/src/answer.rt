@@ -4,7 +4,7 @@ ghost use Rattle.question.specs.Answer.{chain_answer, link_count, in_room, by_ra
 
 use crate::asked::{Asked, Mark};
 use crate::words::LINK_WORDS;
-use image::answer::{Refusal, refusal_answer};
+use image::answer::Refusal;
 
 // How many links a chain has. It is a struct of its own, and the answer below an enum of its own and no `Result<Option<u32>, Refusal>`, since document 01
 // fixes their form ("Which form belongs where"): "an answer enum whose cases carry a link count struct or a refusal enum with its position".
@@ -26,9 +26,9 @@ pub fn chain_answer(found: Chained) -> u64
     ensures { result ≡ chain_answer found }
 {
     match found {
-        Chained::Shown(links) => links.count as u64,
+        Chained::Shown(links) => u64::from(links.count),
         Chained::None => 0,
-        Chained::Refused(r) => refusal_answer(r),
+        Chained::Refused(r) => u64::from(r),
     }
 }
 

@@ -6,9 +6,7 @@ ghost use Rattle.library.specs.Accepted.{HighEntry};
 ghost use Rattle.walk.specs.Walk.{entries_end, AllBefore, opener_before};
 
 use image::fours::all_four;
-use image::word::{
-    AT_ONCE, KIND_ALTERNATIVE, KIND_CHECK, KIND_STEP_ENTRY, PAYLOADS, is_entry, is_kind,
-};
+use image::word::{AT_ONCE, Kind, is_entry, kind_of};
 
 // How many alternatives a sequence has, and the index of the last one's opener.
 #[derive(Clone, Copy)]
@@ -29,7 +27,7 @@ pub fn part_entry(w: u32) -> bool
     requires { HighEntry w }
     ensures { result ≡ is_entry w }
 {
-    KIND_STEP_ENTRY <= w / PAYLOADS
+    Kind::StepEntry.number() <= kind_of(w)
 }
 
 // Whether an entry is a check: of the kinds of entries that is the greatest.
@@ -37,7 +35,7 @@ pub fn is_check(w: u32) -> bool
     requires { is_entry w ≡ true }
     ensures { result ≡ is_kind 13 w }
 {
-    KIND_CHECK <= w / PAYLOADS
+    Kind::Check.number() <= kind_of(w)
 }
 
 // How many entries the words begin with.
@@ -86,7 +84,7 @@ pub fn alternatives_of(part: &[u32], at: usize) -> Alternatives
     let mut last = at;
     for i in at..part.len() {
         let w = part[i];
-        let opens = is_kind(KIND_ALTERNATIVE, w);
+        let opens = Kind::Alternative.is_of(w);
         if !(opens | is_entry(w)) {
             break;
         }
@@ -102,7 +100,7 @@ pub fn opener_before(part: &[u32], end: usize) -> usize
     ensures { result ≡ opener_before part.now end }
 {
     for i in (0..end).rev() {
-        if is_kind(KIND_ALTERNATIVE, part[i]) {
+        if Kind::Alternative.is_of(part[i]) {
             return i;
         }
     }

@@ -4,11 +4,11 @@ use Rattle.std.proofs.Common.{◌≡◌, length, arith, sym, ◌∙◌}
 use Rattle.library.proofs.Seam.{passed_found, passed_turn, passed_end}
 use Rattle.library.proofs.parts.first_sequence.Goals as goal
 
-pub returns-then-is_kind-clause-at : goal.returns-then-is_kind-clause-at
-returns-then-is_kind-clause-at c = passed_found _ _ (omega arith) c.loop-i.invariant (sym c.is_kind.ensures ∙ c.if-is_kind.true)
+pub returns-then-is_of-clause-at : goal.returns-then-is_of-clause-at
+returns-then-is_of-clause-at c = passed_found _ _ (omega arith) c.loop-i.invariant (sym c.is_of.ensures ∙ c.if-is_of.true)
 
 pub loop-i-preserved : goal.loop-i-preserved
-loop-i-preserved c = passed_turn _ _ (omega arith) c.loop-i.invariant (sym c.is_kind.ensures ∙ c.if-is_kind.false)
+loop-i-preserved c = passed_turn _ _ (omega arith) c.loop-i.invariant (sym c.is_of.ensures ∙ c.if-is_of.false)
 
 pub returns-clause-at : goal.returns-clause-at
 returns-clause-at c =

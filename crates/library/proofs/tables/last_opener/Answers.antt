@@ -6,4 +6,4 @@ use Rattle.library.proofs.tables.last_opener.Goals as goal
 
 pub loop-i-preserved : goal.loop-i-preserved
 loop-i-preserved c =
-    none_turn _ _ _ (omega arith) (omega (arith, c.loop-i.invariant.low)) (sym c.is_kind.ensures ∙ c.if-is_kind.false) c.loop-i.invariant
+    none_turn _ _ _ (omega arith) (omega (arith, c.loop-i.invariant.low)) (sym c.is_of.ensures ∙ c.if-is_of.false) c.loop-i.invariant

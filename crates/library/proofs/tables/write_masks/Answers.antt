@@ -13,19 +13,19 @@ pub write_row-requires : goal.write_row-requires
 write_row-requires c =
     rw c.payload_of.ensures
     (left_room c.args.block c.args.part.now c.args.area.now c.args.h c.requires _ _ _ _ _ c.loop-w.invariant c.in-Some.ensures.steps
-    (sym c.is_kind.ensures ∙ c.if-is_kind.true))
+    (sym c.is_of.ensures ∙ c.if-is_of.true))
 
-pub loop-w-preserved-then-is_kind : goal.loop-w-preserved-then-is_kind
-loop-w-preserved-then-is_kind c =
-    rw (c.write_row.ensures, c.payload_of.ensures, no_masks _ c.default-m-then-is_kind.ensures)
+pub loop-w-preserved-then-is_of : goal.loop-w-preserved-then-is_of
+loop-w-preserved-then-is_of c =
+    rw (c.write_row.ensures, c.payload_of.ensures, no_masks _ c.default-m-then-is_of.ensures)
     (left_row c.args.block c.args.part.now c.args.area.now c.args.h c.requires _ _ _ _ _ c.loop-w.invariant c.in-Some.ensures.steps
-    (sym c.is_kind.ensures ∙ c.if-is_kind.true))
+    (sym c.is_of.ensures ∙ c.if-is_of.true))
 
 pub loop-w-preserved : goal.loop-w-preserved
 loop-w-preserved c =
     rw c.with_word-m.ensures
     (left_fact c.args.block c.args.part.now c.args.area.now c.args.h c.requires _ _ _ _ _ c.loop-w.invariant c.in-Some.ensures.steps
-    (sym c.is_kind.ensures ∙ c.if-is_kind.false))
+    (sym c.is_of.ensures ∙ c.if-is_of.false))
 
 pub returns : goal.returns
 returns c = left_end c.args.block c.args.part.now c.args.area.now c.args.h c.requires _ _ _ c.loop-w.invariant c.in-None.ensures.steps.0

@@ -15,13 +15,13 @@ loop-i-init c = record { before = before_start _ _ c.requires.0; opener = λ som
 pub overflow_add-count : goal.overflow_add-count
 overflow_add-count c =
     let next =
-    last_turn _ _ _ _ _ c.loop-i.invariant (either c.is_kind-opens.ensures c.is_entry.ensures c.if-not-opens-is_entry.false) in
-    omega (arith, before_few _ _ _ _ next.before, c.requires.1, c.from-count.ensures, ap bool_byte c.is_kind-opens.ensures)
+    last_turn _ _ _ _ _ c.loop-i.invariant (either c.is_of-opens.ensures c.is_entry.ensures c.if-not-opens-is_entry.false) in
+    omega (arith, before_few _ _ _ _ next.before, c.requires.1, c.from-count.ensures, ap bool_byte c.is_of-opens.ensures)
 
 pub loop-i-preserved : goal.loop-i-preserved
 loop-i-preserved c =
-    rw (c.select-last.ensures, c.from-count.ensures, c.is_kind-opens.ensures)
-    (last_turn _ _ _ _ _ c.loop-i.invariant (either c.is_kind-opens.ensures c.is_entry.ensures c.if-not-opens-is_entry.false))
+    rw (c.select-last.ensures, c.from-count.ensures, c.is_of-opens.ensures)
+    (last_turn _ _ _ _ _ c.loop-i.invariant (either c.is_of-opens.ensures c.is_entry.ensures c.if-not-opens-is_entry.false))
 
 pub returns-after-loop-i : goal.returns-after-loop-i
 returns-after-loop-i c =
@@ -30,7 +30,7 @@ returns-after-loop-i c =
 pub returns-then-not-opens-is_entry : goal.returns-then-not-opens-is_entry
 returns-then-not-opens-is_entry c =
     record {
-      all = before_out _ _ _ _ c.loop-i.invariant.before (either c.is_kind-opens.ensures c.is_entry.ensures c.if-not-opens-is_entry.true);
+      all = before_out _ _ _ _ c.loop-i.invariant.before (either c.is_of-opens.ensures c.is_entry.ensures c.if-not-opens-is_entry.true);
       end = c.loop-i.i;
       last = c.loop-i.invariant;
     }

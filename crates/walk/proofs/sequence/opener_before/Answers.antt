@@ -6,11 +6,11 @@ use Rattle.walk.specs.Walk.{opener_before}
 use Rattle.walk.proofs.Before.{opener_last}
 use Rattle.walk.proofs.sequence.opener_before.Goals as goal
 
-pub returns-then-is_kind : goal.returns-then-is_kind
-returns-then-is_kind c = opener_last _ c.loop-i.i true (omega arith) (sym c.is_kind.ensures ∙ c.if-is_kind.true) ∙ c.loop-i.invariant
+pub returns-then-is_of : goal.returns-then-is_of
+returns-then-is_of c = opener_last _ c.loop-i.i true (omega arith) (sym c.is_of.ensures ∙ c.if-is_of.true) ∙ c.loop-i.invariant
 
 pub loop-i-preserved : goal.loop-i-preserved
-loop-i-preserved c = opener_last _ c.loop-i.i false (omega arith) (sym c.is_kind.ensures ∙ c.if-is_kind.false) ∙ c.loop-i.invariant
+loop-i-preserved c = opener_last _ c.loop-i.i false (omega arith) (sym c.is_of.ensures ∙ c.if-is_of.false) ∙ c.loop-i.invariant
 
 pub returns : goal.returns
 unfolding last_index
