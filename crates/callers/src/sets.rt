@@ -1,4 +1,5 @@
-// Sets of sequences as bits, four words a set: bit c % 64 of word c / 64 says whether sequence c is in it.
+// Sets of sequences as bits, four words a set: bit c % 64 of word c / 64 says whether sequence c is in it. A sequence is a
+// plain number whose bound is in the contracts: it is an index too, of places, rows and ranks, each with a bound of its own.
 ghost use Rattle.std.specs.Prelude.{◌≡◌, ◌+◌, ◌*◌, ◌%◌, ◌≤◌, ◌<◌, ℕ, List, length, true, IfSome};
 ghost use Rattle.image.specs.Word.{most_sequences};
 ghost use Rattle.callers.specs.Callers.{set_words, in_set, is_caller, with_member, Removed, United, no_sequences, every_sequence};

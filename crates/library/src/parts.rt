@@ -42,7 +42,7 @@ fn first_sequence(words: &[u32]) -> usize
     words.len()
 }
 
-// The words between head and sum word.
+// The words between head and sum word. These three ask for two words alone, which is less than that the check accepts (`checked::Accepted`).
 fn words_between(image: &[u32]) -> &[u32]
     requires { 2 ≤ length image.now }
     ensures { result.now ≡ between image.now }

@@ -23,6 +23,7 @@ fn read_input<R: Read>(reader: &mut R, input: &mut [u8]) -> Result<usize, Failur
     ensures bytes { InputRead (R.remaining reader.old) (R.remaining reader.new) result input.new }
 {
     let mut n = 0;
+    // No `for`: a piece is as long as what comes in.
     while n < input.len() {
         match reader.read(&mut input[n..]).map_err(|_| Failure::Read)? {
             0 => return Ok(n),

@@ -13,7 +13,7 @@ const LAST_QUESTION: u64 = 5;
 const SIDE_QUESTIONS: u64 = 3;
 
 // What stands for "no rank" is so much above the number of sequences: a rank is at most that number, and one above a rank is told from "no
-// rank" too.
+// rank" too. It is a number and no `Option`, since the definitions of ranks take it as one (`rank_in`), and a table has a word a rank.
 pub const NO_RANK_ABOVE: u32 = 2;
 
 // The marks: the two touches, "untouched", and where only a rank counts.

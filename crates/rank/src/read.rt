@@ -13,6 +13,7 @@ use slot::entry::{Traits, passes, rank_of, traits_of};
 use walk::sequence::{part_entry, select};
 
 // What an alternative comes to, and the index at which the walk over its entries ended: that of the first dead one, or of the word after them.
+// `reading::read::Read` is alike: one generic type would lose the name of what each is read for, and spare two lines.
 #[derive(Clone, Copy)]
 pub struct Read {
     pub value: u32,

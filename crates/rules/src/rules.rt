@@ -149,7 +149,8 @@ pub fn sequence_right(h: Head, e: Earlier, w: u32) -> bool
     Kind::Sequence.is_of(w) & (h.steps <= e.steps) & (p == e.sequences) & (p < h.sequences)
 }
 
-// Whether a word of kind 7, 8, 9 or 13 is right after another such word. Counts below 2^28 leave a kind's payloads in one range of numbers.
+// Whether a word of kind 7, 8, 9 or 13 is right after another such word. Counts below 2^28 leave a kind's payloads in one range of numbers. That they are
+// below it is asked here and no fact of every `Head`, since a head is also what is read off any word (`head_of`).
 pub fn inside_right(h: Head, w: u32) -> bool
     requires { Counts h }
     ensures { result ≡ true → inside_right h w ≡ true }

@@ -44,6 +44,7 @@ impl Visits for RunVisits<'_> {
     }
 }
 
+// That the set can be visited is asked of each: a field of `RunVisits` can say nothing of a set that is lent to its methods.
 impl RunVisits<'_> {
     // Puts sequence `c` into the set where one of its alternatives gives a run. Answers whether that is new.
     fn find(&self, runs: &mut Set, c: usize) -> bool

@@ -1,4 +1,5 @@
-// What the tables say of an entry, for the question that is asked.
+// What the tables say of an entry, for the question that is asked. That a word is an entry, and has a place in a table, is asked of that one word: a type
+// of it would be made anew for each word that a walk reads.
 ghost use Rattle.std.specs.Prelude.{◌≡◌, true, cond, ℕ, ◌+◌, ◌*◌, ◌≤◌, ◌<◌, length};
 ghost use Rattle.library.specs.Tables.{mask_words};
 ghost use Rattle.image.specs.Word.{is_entry, most_facts};

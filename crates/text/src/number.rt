@@ -43,6 +43,7 @@ impl Text<'_> {
         ensures { Put self.old (numeral BASE n) self.new }
     {
         let mut rest = n;
+        // No `for`: how many digits a number has is seen as they go.
         while BASE <= rest {
             rest = self.put_last_digit::<BASE>(rest);
         }

@@ -1,4 +1,5 @@
-// The words of a sequence: walked from left to right, and back from one alternative to the one before it.
+// The words of a sequence: walked from left to right, and back from one alternative to the one before it. An index is a plain number whose bound is
+// in the contracts, here and in the readers above: a type for it would be made anew at each turn of a walk, to say the same.
 ghost use Rattle.std.specs.Prelude.{◌≡◌, true, cond, ◌&&◌, ◌≤◌, length, get_or};
 ghost use Rattle.std.specs.List.{take_while};
 ghost use Rattle.image.specs.Word.{most_words, is_kind, is_entry};

@@ -1,4 +1,5 @@
-// The card writer: a block of 64 facts written into the cards of an area, word by word.
+// The card writer: a block of 64 facts written into the cards of an area, word by word. A block is a plain number whose bound is in the contracts: it
+// is an index of a column's words.
 ghost use Rattle.std.specs.Prelude.{◌≡◌, ◌*◌, ◌<◌, ◌≤◌, ◌++◌, length, drop, replicate};
 ghost use Rattle.cards.specs.Layout.{column_words, card_words};
 ghost use Rattle.row.specs.Words.{row_words, words_of};
