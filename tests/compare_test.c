@@ -77,7 +77,7 @@
  *   slot, an entry behind the position is held to what is asked of one ahead
  *     (`passes(none, ahead, w)`): none, and a run has the outcome
  *   rank, entries ahead of the position may touch
- *     (`choose(t.ahead, x.floor, x.floor)`): the links are not the fewest
+ *     (`select(t.ahead, x.floor, x.floor)`): the links are not the fewest
  *   rank, with an entry that is dead an alternative comes to the depth so far,
  *     or to the fewest links so far (two breaks): a chain, and no run has the
  *     outcome; to 0: beside a link's entry another touches the fact, or has no

@@ -1,4 +1,4 @@
-// The endless call: refusals 1 to 7, 9, 16 and 17, or the list of the sequences without a run that one reaches.
+// The endless call: refusals 1 to 7, 9, 13, 16 and 17, or the list of the sequences without a run that one reaches.
 ghost use Rattle.std.specs.Prelude.{◌<◌, ◌≡◌, false, length};
 ghost use Rattle.library.specs.Library.{library_of};
 ghost use Rattle.runs.specs.Possible.{has_run};

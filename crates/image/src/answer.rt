@@ -130,7 +130,7 @@ impl Found for u32 {
     ghost number = { λ count. count };
 
     fn number(self) -> u64 {
-        self as u64
+        u64::from(self)
     }
 }
 

@@ -1,4 +1,4 @@
-// One walk over the entries of an alternative, which every reader of an alternative is.
+// One walk over the entries of an alternative, which every reader of an alternative by ranks is.
 ghost use Rattle.std.specs.Prelude.{◌≡◌, ℕ, true, ◌≤◌, ◌<◌, length, get_or};
 ghost use Rattle.image.specs.Word.{is_entry};
 ghost use Rattle.library.specs.Accepted.{HighEntry};

@@ -101,7 +101,7 @@ impl RunVisits<'_> {
         ensures { Settles (visited self.now.part.now self.now.places.now) self.now.n runs.old runs.new }
     {
         let mut left = unfound;
-        // how many passes it takes is seen as they go
+        // No `for`: how many passes it takes is seen as they go.
         'passes: loop {
             let count = self.pass(runs, forward, self.n);
             if count == 0 {
