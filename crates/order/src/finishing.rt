@@ -13,7 +13,8 @@ use image::word::MOST_SEQUENCES;
 const STACK: usize = MOST_SEQUENCES as usize;
 
 // Where the walk stands: the sequences that it has not entered, those that are entered and not finished, as many of the stack as it is deep, how many
-// are not finished, and how many it has not begun with.
+// are not finished, and how many it has not begun with. The stack is an array: the archive takes in no library and no heap, and the array and its depth
+// stand in this struct alone, with a ghost field that binds them.
 #[derive(Drop)]
 struct Walk<'a> {
     callers: &'a [u64],
@@ -40,10 +41,7 @@ impl Walk<'_> {
 
     // The sequence that was entered last and is not finished.
     fn top(&self) -> Option<usize> {
-        if self.depth == 0 {
-            return None;
-        }
-        Some(self.stack[self.depth - 1])
+        self.stack[..self.depth].last().copied()
     }
 
     // The first fresh caller of sequence `c`.

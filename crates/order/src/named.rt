@@ -21,7 +21,7 @@ fn mark(order: &[usize]) -> Set
     seen
 }
 
-// Whether each number below `n` is marked.
+// Whether each number below `n` is marked. By `(0..n).all(..)` the proof did not close: that each number of the range was asked stayed open.
 fn all_marked(seen: &Set, n: usize) -> bool
     ensures { result ≡ true → AllMarked seen.now n }
 {

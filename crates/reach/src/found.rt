@@ -13,7 +13,8 @@ use image::word::MOST_SEQUENCES;
 // The most sequences that are found.
 const MOST_FOUND: usize = MOST_SEQUENCES as usize;
 
-// What is found, of the sequences below `n` that are not among `runs`: a set, and its members in the order in which they were found.
+// What is found, of the sequences below `n` that are not among `runs`: a set, and its members in the order in which they were found. The queue is an
+// array: the archive takes in no library and no heap, and the array and its count stand in this struct alone, with a ghost field that binds them.
 #[derive(Drop)]
 pub struct Reached<'a> {
     pub runs: &'a Set,
