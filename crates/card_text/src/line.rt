@@ -76,7 +76,7 @@ pub fn put_line(text: &mut Text, sequence: u32, cards: &[u64])
 {
     text.put_byte(b'\n');
     put_numbers(text, sequence as usize, cards);
-    text.put_numeral::<DECIMAL>(sequence as u64);
+    text.put_numeral::<DECIMAL>(u64::from(sequence));
 }
 
 // Puts the lines of the first `n` sequences, whose cards stand one after the other, in front of the text.

@@ -26,7 +26,7 @@ pub fn put_answer(text: &mut Text, found: Result<u32, Refusal>, cards: &[u64])
 {
     match found {
         Ok(n) => put_lines(text, n, cards),
-        Err(r) => put_refusal(text, r.number(), r.position() as u64),
+        Err(r) => put_refusal(text, r.number(), u64::from(r.position())),
     }
 }
 
@@ -59,7 +59,7 @@ fn put_printed(text: &mut Text, bytes: &[u8])
     if bytes.len() <= MOST_BYTES && bytes.len() % WORD_BYTES == 0 {
         put_words(text, bytes);
     } else {
-        put_refusal(text, 1, 0);
+        put_answer(text, Err(Refusal::Length), &[]);
     }
 }
 

@@ -6,7 +6,7 @@ use Rattle.card_text.proofs.line.put_line.Goals as goal
 
 pub put_numeral-requires : goal.put_numeral-requires
 put_numeral-requires c =
-    decimal_asked _ _ c.ranges.sequence.fits (omega (arith, c.put_byte.ensures.front.room, c.put_numbers.ensures.within))
+    rw c.from.ensures (decimal_asked _ _ c.ranges.sequence.fits (omega (arith, c.put_byte.ensures.front.room, c.put_numbers.ensures.within)))
 
 pub returns : goal.returns
-returns c = line_put _ _ _ _ _ _ c.ranges.sequence.fits c.put_byte.ensures c.put_numbers.ensures c.put_numeral.ensures
+returns c = line_put _ _ _ _ _ _ c.ranges.sequence.fits c.put_byte.ensures c.put_numbers.ensures (rw c.from.ensures at c.put_numeral.ensures)

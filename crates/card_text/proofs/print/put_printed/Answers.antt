@@ -13,9 +13,9 @@ returns-then-bytes-eq0 c =
 pub returns-else-bytes-le-MOST_BYTES : goal.returns-else-bytes-le-MOST_BYTES
 returns-else-bytes-le-MOST_BYTES c =
     let bytes = c.args.bytes.now in
-    subst (λ t. Put c.args.text.now t c.put_refusal.new.text)
+    subst (λ t. Put c.args.text.now t c.put_answer.new.text)
     (elim c.else-bytes-le-MOST_BYTES.branch [
       | else-bytes-le-MOST_BYTES-via-then-bytes-le-MOST_BYTES+else-bytes-eq0 w ↦ printed_odd bytes w.if-bytes-le-MOST_BYTES.true w.if-bytes-eq0.false
       | else-bytes-le-MOST_BYTES-via-else-bytes-le-MOST_BYTES w ↦ printed_long bytes w.if-bytes-le-MOST_BYTES.false
     ])
-    c.put_refusal.ensures
+    c.put_answer.ensures
