@@ -12,7 +12,7 @@ use column::with_fact;
 use image::answer::{Checked, Head, Refusal};
 use image::fours::all_four;
 use image::word::{AT_ONCE, FEWEST_WORDS, Kind, MOST_WORDS, head_of, head_right, payload_of};
-use rules::rules::{Earlier, body_right, first_fault, inside_right, sequence_right, step_right};
+use rules::rules::{Earlier, inside_right};
 use sum::payload::sum_right;
 
 // A fingerprint has a bit for each remainder of a fact by this.
@@ -169,7 +169,7 @@ impl Part<'_> {
         // No `for`: the next word is the one at which another reader stopped.
         while body.next < self.words.len() {
             let w = self.words[body.next];
-            if !body_right(self.head, e, body.last, w) {
+            if !e.body_right(self.head, body.last, w) {
                 return body;
             }
             body = self.read_fours(w, body.next + 1);
@@ -194,7 +194,7 @@ impl Part<'_> {
     {
         let mut e = before;
         for i in from..self.words.len() {
-            if let Some(r) = first_fault(self.head, e, self.at, self.words, i) {
+            if let Some(r) = e.first_fault(self.head, self.at, self.words, i) {
                 return Err(r);
             }
             e = e.past(self.words[i]);
@@ -213,7 +213,7 @@ impl Part<'_> {
         // No `for`: the next opener stands where the reader of a sequence's words stopped.
         while i < self.words.len() {
             let w = self.words[i];
-            if !sequence_right(self.head, e, w) {
+            if !e.sequence_right(self.head, w) {
                 return self.read_words(e, i);
             }
             e = e.past(w);
@@ -238,7 +238,7 @@ impl Part<'_> {
         // No `for`: the next opener stands where the reader of a step's fact words stopped.
         while i < self.words.len() {
             let w = self.words[i];
-            if !step_right(self.head, e, w) {
+            if !e.step_right(self.head, w) {
                 if Kind::Sequence.is_of(w) {
                     let rest = Part {
                         head: self.head,

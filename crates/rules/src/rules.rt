@@ -31,8 +31,8 @@ impl Earlier {
         ensures { result ≡ passed self w }
     {
         Earlier {
-            steps: self.steps + Kind::Step.is_of(w) as u32,
-            sequences: self.sequences + Kind::Sequence.is_of(w) as u32,
+            steps: self.steps + u32::from(Kind::Step.is_of(w)),
+            sequences: self.sequences + u32::from(Kind::Sequence.is_of(w)),
             last: w,
         }
     }
@@ -43,45 +43,101 @@ impl Earlier {
     {
         Earlier { last, ..self }
     }
-}
 
-// Refusal 4: whether a word of this kind may stand here.
-fn may_stand(h: Head, e: Earlier, w: u32) -> bool
-    ensures { result ≡ may_stand h (seen e 0) w }
-{
-    match Kind::of(w) {
-        Some(Kind::Needs | Kind::Sets | Kind::Clears) => Kind::Step.is_of(e.last) | is_fact(e.last),
-        Some(Kind::Step) => e.sequences == 0,
-        Some(Kind::Sequence) => h.steps <= e.steps,
-        Some(Kind::Alternative) => 0 < e.sequences,
-        Some(Kind::StepEntry | Kind::SequenceEntry | Kind::Check) => {
-            Kind::Alternative.is_of(e.last) | is_entry(e.last)
+    // Refusal 4: whether a word of this kind may stand here.
+    fn may_stand(self, h: Head, w: u32) -> bool
+        ensures { result ≡ may_stand h (seen self 0) w }
+    {
+        match Kind::of(w) {
+            Some(Kind::Needs | Kind::Sets | Kind::Clears) => Kind::Step.is_of(self.last)
+                | is_fact(self.last),
+            Some(Kind::Step) => self.sequences == 0,
+            Some(Kind::Sequence) => h.steps <= self.steps,
+            Some(Kind::Alternative) => 0 < self.sequences,
+            Some(Kind::StepEntry | Kind::SequenceEntry | Kind::Check) => {
+                Kind::Alternative.is_of(self.last) | is_entry(self.last)
+            }
+            _ => false,
         }
-        _ => false,
     }
-}
 
-// Refusal 5: whether the payload keeps the rule of its kind.
-fn payload_right(h: Head, e: Earlier, w: u32) -> bool
-    ensures { result ≡ payload_right h (seen e 0) w }
-{
-    let p = payload_of(w);
-    match Kind::of(w) {
-        Some(Kind::Step) => (p == e.steps) & (p < h.steps),
-        Some(Kind::Sequence) => (p == e.sequences) & (p < h.sequences),
-        Some(Kind::StepEntry) => p < h.steps,
-        Some(Kind::SequenceEntry) => p < h.sequences,
-        Some(Kind::Needs | Kind::Sets | Kind::Clears | Kind::Check) => p < h.facts,
-        Some(Kind::Alternative) => p == 0,
-        _ => true,
+    // Refusal 5: whether the payload keeps the rule of its kind.
+    fn payload_right(self, h: Head, w: u32) -> bool
+        ensures { result ≡ payload_right h (seen self 0) w }
+    {
+        let p = payload_of(w);
+        match Kind::of(w) {
+            Some(Kind::Step) => (p == self.steps) & (p < h.steps),
+            Some(Kind::Sequence) => (p == self.sequences) & (p < h.sequences),
+            Some(Kind::StepEntry) => p < h.steps,
+            Some(Kind::SequenceEntry) => p < h.sequences,
+            Some(Kind::Needs | Kind::Sets | Kind::Clears | Kind::Check) => p < h.facts,
+            Some(Kind::Alternative) => p == 0,
+            _ => true,
+        }
     }
-}
 
-// Refusal 6: whether a fact word is greater than the fact word right before it.
-fn in_order(e: Earlier, w: u32) -> bool
-    ensures { result ≡ in_order (seen e 0) w }
-{
-    !(is_fact(w) & is_fact(e.last)) | (e.last < w)
+    // Refusal 6: whether a fact word is greater than the fact word right before it.
+    fn in_order(self, w: u32) -> bool
+        ensures { result ≡ in_order (seen self 0) w }
+    {
+        !(is_fact(w) & is_fact(self.last)) | (self.last < w)
+    }
+
+    // Whether a word of kind 7 is right.
+    fn alternative_right(self, w: u32) -> bool
+        ensures { result ≡ alternative_right self w }
+    {
+        (w == ALTERNATIVE_WORD) & (0 < self.sequences)
+    }
+
+    // Whether a word of kind 7, 8, 9 or 13 is right after a word `last`.
+    pub fn body_right(self, h: Head, last: u32, w: u32) -> bool
+        ensures { result ≡ body_right h self last w }
+    {
+        entry_right(h, last, w) | self.alternative_right(w)
+    }
+
+    // Whether a word of kind 5 is right.
+    pub fn step_right(self, h: Head, w: u32) -> bool
+        ensures { result ≡ step_right h self w }
+    {
+        let p = payload_of(w);
+        Kind::Step.is_of(w) & (self.sequences == 0) & (p == self.steps) & (p < h.steps)
+    }
+
+    // Whether a word of kind 6 is right.
+    pub fn sequence_right(self, h: Head, w: u32) -> bool
+        ensures { result ≡ sequence_right h self w }
+    {
+        let p = payload_of(w);
+        Kind::Sequence.is_of(w)
+            & (h.steps <= self.steps)
+            & (p == self.sequences)
+            & (p < h.sequences)
+    }
+
+    // The first refusal of 4, 5, 6 and 13 that the word at index `i` meets, by each rule, in a part that begins at position `at`.
+    pub fn first_fault(self, h: Head, at: usize, part: &[u32], i: usize) -> Option<Refusal>
+        requires { (i < length part.now) × (at + length part.now ≤ most_words) }
+        ensures { result ≡ fault_at h (up_to part.now self i) (at + i) (slice_index part.now i) }
+    {
+        let w = part[i];
+        let p = (at + i) as u32;
+        if !self.may_stand(h, w) {
+            return Some(Refusal::Kind(p));
+        }
+        if !self.payload_right(h, w) {
+            return Some(Refusal::Payload(p));
+        }
+        if !self.in_order(w) {
+            return Some(Refusal::FactOrder(p));
+        }
+        if !clears_unset(part, i) {
+            return Some(Refusal::SetAndCleared(p));
+        }
+        None
+    }
 }
 
 // Whether a word of the step sets the fact `f`, among these words: they are looked at from the last one back to the step's opener.
@@ -119,36 +175,6 @@ fn entry_right(h: Head, last: u32, w: u32) -> bool
             | (Kind::Check.is_of(w) & (p < h.facts)))
 }
 
-// Whether a word of kind 7 is right.
-fn alternative_right(e: Earlier, w: u32) -> bool
-    ensures { result ≡ alternative_right e w }
-{
-    (w == ALTERNATIVE_WORD) & (0 < e.sequences)
-}
-
-// Whether a word of kind 7, 8, 9 or 13 is right after a word `last`.
-pub fn body_right(h: Head, e: Earlier, last: u32, w: u32) -> bool
-    ensures { result ≡ body_right h e last w }
-{
-    entry_right(h, last, w) | alternative_right(e, w)
-}
-
-// Whether a word of kind 5 is right.
-pub fn step_right(h: Head, e: Earlier, w: u32) -> bool
-    ensures { result ≡ step_right h e w }
-{
-    let p = payload_of(w);
-    Kind::Step.is_of(w) & (e.sequences == 0) & (p == e.steps) & (p < h.steps)
-}
-
-// Whether a word of kind 6 is right.
-pub fn sequence_right(h: Head, e: Earlier, w: u32) -> bool
-    ensures { result ≡ sequence_right h e w }
-{
-    let p = payload_of(w);
-    Kind::Sequence.is_of(w) & (h.steps <= e.steps) & (p == e.sequences) & (p < h.sequences)
-}
-
 // Whether a word of kind 7, 8, 9 or 13 is right after another such word. Counts below 2^28 leave a kind's payloads in one range of numbers. That they are
 // below it is asked here and no fact of every `Head`, since a head is also what is read off any word (`head_of`).
 pub fn inside_right(h: Head, w: u32) -> bool
@@ -159,26 +185,4 @@ pub fn inside_right(h: Head, w: u32) -> bool
     let sequence = w.wrapping_add(LESS_SEQUENCE_ENTRY);
     let check = w.wrapping_add(LESS_CHECK);
     (step < h.steps) | (sequence < h.sequences) | (check < h.facts) | (w == ALTERNATIVE_WORD)
-}
-
-// The first refusal of 4, 5, 6 and 13 that the word at index `i` meets, by each rule, in a part that begins at position `at`.
-pub fn first_fault(h: Head, e: Earlier, at: usize, part: &[u32], i: usize) -> Option<Refusal>
-    requires { (i < length part.now) × (at + length part.now ≤ most_words) }
-    ensures { result ≡ fault_at h (up_to part.now e i) (at + i) (slice_index part.now i) }
-{
-    let w = part[i];
-    let p = (at + i) as u32;
-    if !may_stand(h, e, w) {
-        return Some(Refusal::Kind(p));
-    }
-    if !payload_right(h, e, w) {
-        return Some(Refusal::Payload(p));
-    }
-    if !in_order(e, w) {
-        return Some(Refusal::FactOrder(p));
-    }
-    if !clears_unset(part, i) {
-        return Some(Refusal::SetAndCleared(p));
-    }
-    None
 }

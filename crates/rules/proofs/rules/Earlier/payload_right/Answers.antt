@@ -1,8 +1,8 @@
--- `rules::rules::may_stand` meets its contract: a word of no kind may stand nowhere.
+-- `rules::rules::Earlier::payload_right` meets its contract: no rule asks anything of a word of no kind.
 -- Assumes nothing.
 use Rattle.image.specs.declared.word.Kind.TheVariants.{Needs, Sets, Clears, Step, Sequence, Alternative, StepEntry, SequenceEntry, Check}
 use Rattle.image.proofs.Words.{no_kind}
-use Rattle.rules.proofs.rules.may_stand.Goals as goal
+use Rattle.rules.proofs.rules.Earlier.payload_right.Goals as goal
 
 pub returns-in_default-2 : goal.returns-in_default-2
 returns-in_default-2 c =
