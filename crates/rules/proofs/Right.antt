@@ -2,23 +2,19 @@
 -- It has: a law for each kind of word, and what a reader needs of the words that it passes by (`Passing`). That the walk over the
 -- words is the scan of document 01 is in Checked.
 -- Assumes nothing.
-use Rattle.std.proofs.Common.{◌≡◌, ℕ, ◌+◌, ◌-◌, ◌*◌, ◌%◌, ◌^◌, ◌<◌, ◌≤◌, Bool, true, false, not, ◌&&◌, ◌||◌, eqb, ltb, ◌⊎◌, sym, ap, ◌∙◌, inl, inr, ⊎_elim, arith, lt-ltb, ne_eqb, eqb-true}
+use Rattle.std.proofs.Common.{◌≡◌, ℕ, ◌+◌, ◌<◌, ◌≤◌, true, false, not, ◌&&◌, ◌||◌, ltb, ◌⊎◌, sym, ap, ◌∙◌, inl, inr, ⊎_elim, arith, lt-ltb, ne_eqb, eqb-true}
 use Rattle.std.proofs.lemmas.Bool.Decides.{nat_tests}
 use mir.Val.{bool_byte}
 use Rattle.column.specs.Sets.{in_column}
 use Rattle.image.specs.Word.{kind, payload, is_kind, is_fact, is_entry}
 use Rattle.rules.specs.Rules.{where_kind, fault_at}
-use Rattle.rules.specs.Quick.{entry_counted, entry_right, alternative_right, body_right, inside_right, Counts, step_right, sequence_right, FactFollows, passed, with_last, seen, in_alternative}
+use Rattle.rules.specs.Quick.{entry_counted, entry_right, alternative_right, body_right, inside_right, step_right, sequence_right, FactFollows, passed, with_last, seen, in_alternative}
 use Rattle.image.specs.declared.answer.Head.{Head}
 use Rattle.rules.specs.declared.rules.Earlier.{Earlier}
-use Rattle.general.proofs.Bools.{and_left, and_right, or_left, or_right, or_cases}
+use Rattle.general.proofs.Bools.{and_left, and_right, or_cases}
 use Rattle.image.proofs.Words.{fact_of, entry_high}
 use Rattle.rules.proofs.Faultless.{Fine, none_found, kind_where}
 use Rattle.std.specs.Prelude.{None}
-
--- where each side of a disjunction gives a side of another
-or_map : (a b x y : Bool) → (a ≡ true → x ≡ true) → (b ≡ true → y ≡ true) → a || b ≡ true → x || y ≡ true
-or_map a b x y f g e = ⊎_elim (λ p. or_left x y (f p)) (λ p. or_right x y (g p)) (or_cases a b e)
 
 counted_entry : (h : Head) (w : ℕ) → entry_counted h w ≡ true → is_entry w ≡ true
 counted_entry h w = grind (arith, nat_tests)
@@ -94,21 +90,6 @@ module _ (h : Head) (e : Earlier) (last w : ℕ) (right : body_right h e last w 
 pub inside_body : (h : Head) (e : Earlier) (last w : ℕ) → 0 < e.sequences → in_alternative last ≡ true → inside_right h w ≡ true
     → body_right h e last w ≡ true
 inside_body h e last w opened follows right = grind (arith, nat_tests)
-
--- the words of a kind with a payload below a count are a range of numbers: what is left of them less the kind's first word is below the count
-in_range_lem : (k n w a : ℕ) → w < 2 ^ 32 → k ≤ 15 → n ≤ 2 ^ 28 → a ≡ (w + (16 - k) * 2 ^ 28) % 2 ^ 32 → ltb a n ≡ true → is_kind k w && ltb (payload w) n ≡ true
-in_range_lem k n w a bound few small distance tested = grind (arith, nat_tests)
-
-pub inside_ranges : (h : Head) (w a b c : ℕ) → w < 2 ^ 32 → Counts h → a ≡ (w + 8 * 2 ^ 28) % 2 ^ 32 → b ≡ (w + 7 * 2 ^ 28) % 2 ^ 32
-    → c ≡ (w + 3 * 2 ^ 28) % 2 ^ 32 → ltb a h.steps || ltb b h.sequences || ltb c h.facts || eqb w (7 * 2 ^ 28) ≡ true
-    → inside_right h w ≡ true
-inside_ranges h w a b c bound counts from_eight from_nine from_thirteen tested =
-    or_map _ _ _ _
-    (or_map _ _ _ _
-    (or_map _ _ _ _ (in_range_lem 8 h.steps w a bound (omega arith) (omega (arith, counts.steps)) from_eight)
-    (in_range_lem 9 h.sequences w b bound (omega arith) (omega (arith, counts.sequences)) from_nine))
-    (in_range_lem 13 h.facts w c bound (omega arith) (omega (arith, counts.facts)) from_thirteen))
-    (λ alternative. alternative) tested
 
 -- a fact word of kind k: it follows a word that it may follow, or another of its kind that is less
 module _ (h : Head) (k last w : ℕ) (low : 2 ≤ k) (high : k ≤ 4) (is : kind w ≡ k) (counted : payload w < h.facts)

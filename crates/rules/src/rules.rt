@@ -8,13 +8,6 @@ ghost use Rattle.rules.specs.Quick.{entry_right, alternative_right, body_right, 
 use image::answer::{Head, Refusal};
 use image::word::{ALTERNATIVE_WORD, Kind, is_entry, is_fact, payload_of};
 
-// Added with wrap, these take 8, 9 and 13 × 2^28 away: what is left of an entry is its payload.
-const LESS_STEP_ENTRY: u32 = 0x80000000;
-
-const LESS_SEQUENCE_ENTRY: u32 = 0x70000000;
-
-const LESS_CHECK: u32 = 0x30000000;
-
 // What is carried of the words before a word: how many steps and sequences they open, and the word right before it. What the step sets
 // that they opened last is looked up in its words where refusal 13 asks for it.
 #[derive(Clone, Copy)]
@@ -175,14 +168,15 @@ fn entry_right(h: Head, last: u32, w: u32) -> bool
             | (Kind::Check.is_of(w) & (p < h.facts)))
 }
 
-// Whether a word of kind 7, 8, 9 or 13 is right after another such word. Counts below 2^28 leave a kind's payloads in one range of numbers. That they are
-// below it is asked here and no fact of every `Head`, since a head is also what is read off any word (`head_of`).
+// Whether a word of kind 7, 8, 9 or 13 is right after another such word. Counts below 2^28 leave a kind's payloads in one range of numbers: less the
+// kind's first word, an entry is its payload. That they are below it is asked here and no fact of every `Head`, since a head is also what is read off any
+// word (`head_of`).
 pub fn inside_right(h: Head, w: u32) -> bool
     requires { Counts h }
     ensures { result ≡ true → inside_right h w ≡ true }
 {
-    let step = w.wrapping_add(LESS_STEP_ENTRY);
-    let sequence = w.wrapping_add(LESS_SEQUENCE_ENTRY);
-    let check = w.wrapping_add(LESS_CHECK);
+    let step = w.wrapping_sub(Kind::StepEntry.word(0));
+    let sequence = w.wrapping_sub(Kind::SequenceEntry.word(0));
+    let check = w.wrapping_sub(Kind::Check.word(0));
     (step < h.steps) | (sequence < h.sequences) | (check < h.facts) | (w == ALTERNATIVE_WORD)
 }
