@@ -53,7 +53,7 @@ fn explain(accepted: &Accepted, c: usize, area: &mut [u32]) -> Result<usize, Ref
 fn ask(accepted: &Accepted, sequence: u64, area: &mut [u32]) -> Result<usize, Refusal>
     ensures { EndlessCalled accepted.now.image.now sequence area.old result area.new }
 {
-    if accepted.head.sequences as u64 <= sequence {
+    if u64::from(accepted.head.sequences) <= sequence {
         return Err(Refusal::Sequence);
     }
     explain(accepted, sequence as usize, area)
