@@ -74,7 +74,7 @@ pub fn chosen_link(by: &Ranks, at: usize, k: u32) -> Choice
 }
 
 // The last alternative whose greatest depth is no more than `k`, among those that stand from index `at` on; where none is that shallow, the
-// number past the last one.
+// number past the last one, which definition `alternative_in` names, so that the result is no Option.
 pub fn chosen_alternative(by: &Table, at: usize, k: u32) -> u32
     requires { (at ≤ length by.now.part.now) × (length by.now.part.now ≤ most_words) }
     ensures { (result ≡ alternative_in by.now.none by.now.ranks.now k (alternatives_from (drop at by.now.part.now))) × (result ≤ most_words) }

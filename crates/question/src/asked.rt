@@ -38,7 +38,8 @@ impl Mark {
     }
 }
 
-// The question: its side, the mark asked for there, the fact, and what stands for "no rank".
+// The question: its side, the mark asked for there, the fact, and what stands for "no rank". The side is a Boolean, since definitions of theorems
+// take it as one (`question_asked`, `step_mark`, `look_in`), and each use would turn an enum of sides into it.
 #[derive(Clone, Copy)]
 pub struct Asked {
     pub first: bool,

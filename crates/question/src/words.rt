@@ -3,18 +3,20 @@ ghost use Rattle.std.specs.Prelude.{◌≡◌, ◌+◌, ◌^◌, ◌≤◌, ◌<
 ghost use Rattle.image.specs.Word.{most_words};
 ghost use Rattle.chains.specs.Link.{choice_word};
 
+use image::word::{Kind, PAYLOADS};
+
 // How many words a link has.
 pub const LINK_WORDS: usize = 2;
 
 // The first word of a link, which has the sequence from bit 0 on and the alternative from bit 8 on.
-const CHOICE_WORD: u32 = 0xa0000000;
+const CHOICE_WORD: u32 = Kind::Choice as u32 * PAYLOADS;
 
 const ALTERNATIVE_FROM: u32 = 0x100;
 
 // The second word, which has the position of an entry, or says that there is none.
-pub const POSITION_WORD: u32 = 0xb0000000;
+pub const POSITION_WORD: u32 = Kind::Position as u32 * PAYLOADS;
 
-pub const UNTOUCHED_WORD: u32 = 0xc0000000;
+pub const UNTOUCHED_WORD: u32 = Kind::Untouched as u32 * PAYLOADS;
 
 // Writes the two words of a link: "kind 10 (bits 0 to 7 the sequence, bits 8 to 20 the alternative, the rest 0)", and the word for its place.
 pub fn put_link(area: &mut [u32], at: usize, c: u32, alternative: u32, place: u32)

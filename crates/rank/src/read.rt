@@ -37,11 +37,7 @@ impl<'a> Table<'a> {
     {
         let walk = walk_entries(self.part, at, 0, |depth: u32, w| {
             let rank = rank_of(self.none, self.ranks, w);
-            if self.none <= rank {
-                None
-            } else {
-                Some(depth.max(rank))
-            }
+            (rank < self.none).then_some(depth.max(rank))
         });
         Read {
             value: walk.known.unwrap_or(self.none),
@@ -49,17 +45,14 @@ impl<'a> Table<'a> {
         }
     }
 
-    // Whether all entries that stand from index `at` on have a rank: 0 where they do. The walk ends at the first without one.
+    // Whether all entries that stand from index `at` on have a rank: 0 where they do, and `none` where not, the numbers that definition
+    // `every_in` names, since a rank is lowered by what this answers. The walk ends at the first without one.
     fn all_ranked(&self, at: usize) -> Read
         requires { at ≤ length self.now.part.now }
         ensures { AlternativeRanked (every_in self.now.none self.now.ranks.now) (lacks_in self.now.none self.now.ranks.now) self.now.part.now at result }
     {
         let walk = walk_entries(self.part, at, 0, |zero: u32, w| {
-            if passes(self.none, self.ranks, w) {
-                Some(zero)
-            } else {
-                None
-            }
+            passes(self.none, self.ranks, w).then_some(zero)
         });
         Read {
             value: walk.known.unwrap_or(self.none),
@@ -69,7 +62,7 @@ impl<'a> Table<'a> {
 }
 
 // What the positions so far come to. `best` is the fewest links after this one, `none` where no position counts. `floor` is 0 until an entry
-// fails as one ahead of those to come, and then `none`: a number in place of a test, since processors would guess it badly.
+// fails as one ahead of those to come, and then `none`: a number and no Boolean, since definition `fewest_after` takes it as one.
 #[derive(Clone, Copy)]
 pub struct Positions {
     pub best: u32,
@@ -136,21 +129,16 @@ impl<'a> Ranks<'a> {
         let none = self.q.none;
         let walk = walk_entries(self.part, at, seen, |x: Positions, w| {
             let t = self.traits(w);
-            if t.ahead | t.behind | (t.rank < none) {
-                Some(x.with_entry(none, t))
-            } else {
-                None
-            }
+            (t.ahead | t.behind | (t.rank < none)).then_some(x.with_entry(none, t))
         });
-        match walk.known {
-            Ok(x) => Read {
-                value: x.best,
-                ended: walk.ended,
-            },
-            Err(_) => Read {
-                value: none,
-                ended: walk.ended,
-            },
+        // No `map_or`: the check can't name what its closure promises where the proof needs it.
+        let value = match walk.known {
+            Ok(x) => x.best,
+            Err(_) => none,
+        };
+        Read {
+            value,
+            ended: walk.ended,
         }
     }
 
@@ -169,11 +157,7 @@ impl<'a> Ranks<'a> {
         };
         let walk = walk_entries(self.part, at, start, |x: Positions, w| {
             let t = self.traits(w);
-            if (first & t.behind) | (!first & t.ahead) {
-                Some(x.with_entry(none, t))
-            } else {
-                None
-            }
+            ((first & t.behind) | (!first & t.ahead)).then_some(x.with_entry(none, t))
         });
         match walk.known {
             Ok(x) => Read {

@@ -1,5 +1,5 @@
-// What the tables say of an entry, for the question that is asked. That a word is an entry, and has a place in a table, is asked of that one word: a type
-// of it would be made anew for each word that a walk reads.
+// What the tables say of an entry, for the question that is asked. An entry is a plain word: the walks test in `part_entry` whether a word is one, and
+// their closures take words, so that the fact is asked of each word where it is used, and a type of entries would be unwrapped there again.
 ghost use Rattle.std.specs.Prelude.{◌≡◌, true, cond, ℕ, ◌+◌, ◌*◌, ◌≤◌, ◌<◌, length};
 ghost use Rattle.library.specs.Tables.{mask_words};
 ghost use Rattle.image.specs.Word.{is_entry, most_facts};
@@ -84,9 +84,9 @@ pub fn write_item_ranks(all: bool, q: Asked, masks: &[u64], ranks: &mut [u32])
     write_step_ranks(all, q, masks, ranks);
 }
 
-// Where the rank of an entry stands in a table: the sequences come first, then the checks, then the steps. There is no branch here, since
-// processors would guess it badly, and the place is the same in all tables, so that it is worked out once where three are read. Of the kinds of
-// entries that of steps is the least and that of checks the greatest.
+// Where the rank of an entry stands in a table: the sequences come first, then the checks, then the steps. Definition `slot_of` adds a base to
+// the payload, so that the base is chosen as a number and nothing branches. The place is the same in all tables, so that it is worked out once
+// where three are read. Of the kinds of entries that of steps is the least and that of checks the greatest.
 fn slot_of(none: u32, w: u32) -> usize
     requires { is_entry w ≡ true }
     ensures { result ≡ slot_of none w }
