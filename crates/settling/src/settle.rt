@@ -1,7 +1,9 @@
 // A table that visits change, one number at a time, and its settling: visits until none changes it.
-ghost use Rattle.std.specs.Prelude.{ℕ, ◌<◌, List};
-ghost use Rattle.callers.specs.Callers.{calls};
+ghost use Rattle.std.specs.Prelude.{ℕ, ◌*◌, ◌≤◌, ◌<◌, ◌≡◌, Bool, List, length};
+ghost use Rattle.image.specs.Word.{most_sequences};
+ghost use Rattle.callers.specs.Callers.{set_words, calls};
 ghost use Rattle.settling.specs.Settling.{Visit, VisitLaws, Scheduled, Swept, Settles};
+ghost use Rattle.settling.specs.Turns.{to_visit, StaleAfter};
 
 use crate::turns::{Turns, after_visit};
 use callers::sets::Set;
@@ -44,6 +46,23 @@ pub struct Schedule<'a> {
 }
 
 impl Schedule<'_> {
+    // Whether a number is one of the sequences, and stale.
+    pub(crate) fn to_visit(&self, stale: &Set, c: usize) -> bool
+        requires { self.now.n ≤ most_sequences }
+        ensures { result ≡ to_visit self.now.n stale.now c }
+    {
+        c < self.n && stale.contains(c)
+    }
+
+    // Visits sequence `c`, which is then no longer stale, and its callers are where that changed the table.
+    fn visit<V: Visits>(&self, visits: &V, table: &mut [V::Word], stale: &mut Set, c: usize)
+        requires { V.asked visits.now self.now.n (V.value table.old) × (c < self.now.n) × (self.now.n ≤ most_sequences) × (set_words * self.now.n ≤ length self.now.callers.now) }
+        ensures { (changed : Bool) × Visit (V.visited visits.now) V.weight (V.value table.old) c (V.value table.new) changed × StaleAfter self.now.callers.now c stale.old stale.new changed }
+    {
+        let changed = visits.visit(table, c);
+        after_visit(stale, self.callers, c, changed);
+    }
+
     // Visits each sequence that the order names once. At first every sequence is stale, and afterwards those that a visit may still change.
     fn sweep<V: Visits>(&self, visits: &V, table: &mut [V::Word], stale: &mut Set)
         requires { VisitLaws (V.visited visits.now) V.weight (calls (V.part visits.now) (V.places visits.now)) self.now.n (V.asked visits.now self.now.n) (V.value table.old) × Scheduled self.now.n (V.part visits.now) (V.places visits.now) self.now.callers.now self.now.order.now × Swept (V.visited visits.now) self.now.n (V.value table.old) (V.value table.old) stale.old }
@@ -51,8 +70,7 @@ impl Schedule<'_> {
     {
         for c in self.order {
             if *c < self.n {
-                let changed = visits.visit(table, *c);
-                after_visit(stale, self.callers, *c, changed);
+                self.visit(visits, table, stale, *c);
             }
         }
     }
@@ -65,9 +83,9 @@ impl Schedule<'_> {
         let mut stale = Set::all();
         self.sweep(visits, table, &mut stale);
         let mut turns = Turns::after_all();
-        while let Some(c) = turns.next(self.order, &stale, self.n) {
-            let changed = visits.visit(table, c);
-            after_visit(&mut stale, self.callers, c, changed);
+        // No `for`: which turn is next goes by what is stale, and that each visit changes.
+        while let Some(c) = turns.next(self, &stale) {
+            self.visit(visits, table, &mut stale, c);
         }
     }
 }

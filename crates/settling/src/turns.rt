@@ -3,8 +3,9 @@ ghost use Rattle.std.specs.Prelude.{◌+◌, ◌*◌, ◌≤◌, ◌<◌, ◌≡
 ghost use Rattle.image.specs.Word.{most_sequences};
 ghost use Rattle.general.specs.Numbers.{Complete};
 ghost use Rattle.callers.specs.Callers.{set_words};
-ghost use Rattle.settling.specs.Turns.{place_of, to_visit, Looked, NextTurn, StaleAfter};
+ghost use Rattle.settling.specs.Turns.{place_of, Looked, NextTurn, StaleAfter};
 
+use crate::settle::Schedule;
 use callers::sets::Set;
 
 // Where the turns stand: the place from which the next stale number is looked for, and whether the order is gone through first to last.
@@ -25,14 +26,6 @@ pub fn place_of(forward: bool, len: usize, i: usize) -> usize
     len - 1 - i
 }
 
-// Whether a number below `n` is stale.
-fn to_visit(stale: &Set, n: usize, c: usize) -> bool
-    requires { n ≤ most_sequences }
-    ensures { result ≡ to_visit n stale.now c }
-{
-    c < n && stale.contains(c)
-}
-
 impl Turns {
     // The first turn after all numbers were visited in the order: against it.
     pub fn after_all() -> Turns {
@@ -42,15 +35,16 @@ impl Turns {
         }
     }
 
-    // The first stale number below `n` from the turns' place on, in their direction.
-    fn look(&mut self, order: &[usize], stale: &Set, n: usize) -> Option<usize>
-        requires { n ≤ most_sequences }
-        ensures { Looked n order.now stale.now self.old.forward self.old.place result }
+    // The first stale number from the turns' place on, in their direction.
+    fn look(&mut self, schedule: &Schedule, stale: &Set) -> Option<usize>
+        requires { schedule.now.n ≤ most_sequences }
+        ensures { Looked schedule.now.n schedule.now.order.now stale.now self.old.forward self.old.place result }
     {
         let Turns { place, forward } = *self;
+        let order = schedule.order;
         for i in place..order.len() {
             let c = order[place_of(forward, order.len(), i)];
-            if to_visit(stale, n, c) {
+            if schedule.to_visit(stale, c) {
                 self.place = i + 1;
                 return Some(c);
             }
@@ -58,18 +52,18 @@ impl Turns {
         None
     }
 
-    // The next turn: the first stale number below `n` from the turns' place on, or else the first one against their direction.
-    pub fn next(&mut self, order: &[usize], stale: &Set, n: usize) -> Option<usize>
-        requires { (n ≤ most_sequences) × Complete order.now n }
-        ensures { NextTurn n stale.now result }
+    // The next turn: the first stale number from the turns' place on, or else the first one against their direction.
+    pub fn next(&mut self, schedule: &Schedule, stale: &Set) -> Option<usize>
+        requires { (schedule.now.n ≤ most_sequences) × Complete schedule.now.order.now schedule.now.n }
+        ensures { NextTurn schedule.now.n stale.now result }
     {
-        let here = self.look(order, stale, n);
+        let here = self.look(schedule, stale);
         if here.is_some() {
             return here;
         }
         self.forward = !self.forward;
         self.place = 0;
-        self.look(order, stale, n)
+        self.look(schedule, stale)
     }
 }
 

@@ -10,18 +10,19 @@ sweep-requires g c = (c.requires.0, c.requires.1, rw c.all-stale.ensures (swept_
 pub loop-c-init : goal.loop-c-init
 loop-c-init g c = swept_on c.sweep.ensures
 
-pub visit-changed-requires : goal.visit-changed-requires
-visit-changed-requires g c = (c.args.self.now.n, c.requires.0.kept _ (swept_twice c.requires.0.lowers c.sweep.ensures c.loop-c.invariant), c.in-Some.ensures.0)
+pub visit-requires : goal.visit-requires
+visit-requires g c =
+    (c.requires.0.kept _ (swept_twice c.requires.0.lowers c.sweep.ensures c.loop-c.invariant), c.in-Some.ensures.0, c.requires.1.few, c.requires.1.room)
 
 pub loop-c-smaller : goal.loop-c-smaller
 loop-c-smaller g c =
-    settling_less _ c.loop-c.stale c.in-Some.c c.args.self.now.callers.now _ _ c.visit-changed.result (omega (arith, c.in-Some.ensures.0, c.requires.1.few))
-    c.in-Some.ensures.1 c.visit-changed.ensures c.after_visit.ensures
+    settling_less _ c.loop-c.stale c.in-Some.c c.args.self.now.callers.now _ _ c.visit.ensures.0 (omega (arith, c.in-Some.ensures.0, c.requires.1.few))
+    c.in-Some.ensures.1 c.visit.ensures.1 c.visit.ensures.2
 
 pub loop-c-preserved : goal.loop-c-preserved
 loop-c-preserved g c =
-    swept_turn c.requires.0.local c.requires.1 _ _ c.loop-c.stale c.in-Some.c _ _ c.visit-changed.result
-    (omega (arith, swept_twice c.requires.0.lowers c.sweep.ensures c.loop-c.invariant, c.requires.0.long)) c.in-Some.ensures.0 c.loop-c.invariant c.visit-changed.ensures c.after_visit.ensures
+    swept_turn c.requires.0.local c.requires.1 _ _ c.loop-c.stale c.in-Some.c _ _ c.visit.ensures.0
+    (omega (arith, swept_twice c.requires.0.lowers c.sweep.ensures c.loop-c.invariant, c.requires.0.long)) c.in-Some.ensures.0 c.loop-c.invariant c.visit.ensures.1 c.visit.ensures.2
 
 pub returns : goal.returns
 returns g c = settling_end c.sweep.ensures c.loop-c.invariant c.in_default.ensures
