@@ -17,7 +17,7 @@ use Rattle.settling.specs.Settling.{Visit}
 use Rattle.settling.specs.Settling.{Lowers}
 use Rattle.settling.specs.Settling.{Local}
 use Rattle.running.specs.Runs.{gives_by, runs_by}
-use Rattle.running.specs.Visited.{lacking, RunsVisitable, visited}
+use Rattle.running.specs.Visited.{lacking, visited}
 
 -- a set with one more lacks less
 lacking_falls : (t : List ℕ) (c : ℕ) → c / 64 < length t → c < 256 → in_set t c ≡ false → lacking (with_member t c) < lacking t
@@ -133,13 +133,3 @@ module _ (part places : List ℕ) where
           → visited part places (cond b (with_member t c) t) c ≡ cond b (with_member t c) t
       again t c true e room = none_still (with_member t c) c (ap (λ (y : Bool). not y && gives (with_member t c) c) (member_same t c room))
       again t c false e room = none_still t c e
-
--- a set of the same length can be visited too
-pub visitable_at : {n : ℕ} {part places t : List ℕ} (s : List ℕ) → length s ≡ length t → RunsVisitable n part places t → RunsVisitable n part places s
-visitable_at s e v =
-    record {
-      readable = record { four = e ∙ v.readable.four; words = v.readable.words };
-      few = v.few;
-      placed = v.placed;
-      within = v.within;
-    }

@@ -20,12 +20,11 @@ module _ {h : Head} (image : List ℕ) {places₀ runs₀ : List ℕ} (accepted 
   few : h.sequences ≤ 256
   few = few_sequences image h accepted
 
-  pub visits_asked : length places ≡ length places₀ → RunsVisitable h.sequences part places runs₀
+  pub visits_asked : length places ≡ length places₀ → RunsVisitable h.sequences part places
   visits_asked long =
       record {
         readable =
             record {
-              four = asked.four;
               words = λ i l.
                   let w = all_at (SequenceWord h) part (subst (All (SequenceWord h)) (sym sequences) (parts image h accepted).sequences) 0 i l in
                   record { high = sequence_entry _ w; sequence = λ k. omega (arith, w.sequence k, few) };

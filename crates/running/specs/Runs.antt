@@ -6,7 +6,7 @@ use Rattle.image.specs.Word.{kind, payload, is_entry, most_sequences}
 use Rattle.library.specs.Library.{Entry, Alternative, entries_from}
 use Rattle.library.specs.Accepted.{HighEntry}
 use Rattle.walk.specs.Walk.{names_none, walk_end}
-use Rattle.callers.specs.Callers.{set_words, in_set}
+use Rattle.callers.specs.Callers.{in_set}
 
 -- "names a sequence not found to have one by then": a sequence that is not in the set
 abbrev pub is_dead : List ℕ → Entry → Bool
@@ -25,9 +25,8 @@ pub record RunWithin (w : ℕ) : Type 0 where
   pub high : HighEntry w
   pub sequence : kind w ≡ 9 → payload w < most_sequences
 
--- each of the words is one, and the set has its words
-pub record RunsReadable (runs part : List ℕ) : Type 0 where
-  pub four : length runs ≡ set_words
+-- each of the words is one
+pub record RunsReadable (part : List ℕ) : Type 0 where
   pub words : (i : ℕ) → i < length part → RunWithin (slice_index part i)
 
 -- what a walk over the entries promises that stand from an index on: where it ended, and that they give a run where no entry stands there

@@ -11,9 +11,9 @@ unfoldable pub lacking : List ℕ → ℕ
 unfolding passing
 lacking runs = length (passing (λ c. not (in_set runs c)) most_sequences)
 
--- what a visit of the sequences below n asks of the areas
-pub record RunsVisitable (n : ℕ) (part places runs : List ℕ) : Type 0 where
-  pub readable : RunsReadable runs part
+-- what visits of the sequences below n go by: the words of the sequences' part, and a place in it for each
+pub record RunsVisitable (n : ℕ) (part places : List ℕ) : Type 0 where
+  pub readable : RunsReadable part
   pub few : n ≤ most_sequences
   pub placed : n ≤ length places
   pub within : (c : ℕ) → c < n → slice_index places c < length part

@@ -19,7 +19,7 @@ fn is_dead(runs: &Set, w: u32) -> bool
 
 // Walks the entries that stand from index `at` on. Answers the index of the first dead one, or of the word after them.
 fn live_end(runs: &Set, part: &[u32], at: usize) -> usize
-    requires { RunsReadable runs.now part.now × (at ≤ length part.now) }
+    requires { RunsReadable part.now × (at ≤ length part.now) }
     ensures { AlternativeWalked runs.now part.now at result }
 {
     for i in at..part.len() {
@@ -33,7 +33,7 @@ fn live_end(runs: &Set, part: &[u32], at: usize) -> usize
 
 // Whether one of the alternatives that stand from index `at` on gives a run: the walk over its entries meets no dead one.
 pub fn gives_run(runs: &Set, part: &[u32], at: usize) -> bool
-    requires { RunsReadable runs.now part.now × (at ≤ length part.now) }
+    requires { RunsReadable part.now × (at ≤ length part.now) }
     ensures { result ≡ runs_by (in_set runs.now) (alternatives_from (drop at part.now)) }
 {
     let mut i = at;

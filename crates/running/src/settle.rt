@@ -1,6 +1,7 @@
 // The set of the sequences that have a run, settled: sequences are visited until no visit finds another one. Passes over all of them are enough for
 // most images, and need no table; where a pass finds too few, a sequence is visited again only after one that it calls was found.
-ghost use Rattle.std.specs.Prelude.{ℕ, ◌<◌, ◌≤◌, [], get_or};
+ghost use Rattle.std.specs.Prelude.{◌≡◌, ◌<◌, ◌≤◌, [], length, get_or};
+ghost use Rattle.callers.specs.Callers.{set_words};
 ghost use Rattle.settling.specs.Settling.{Scheduled, Visit, Pass, Settles};
 ghost use Rattle.running.specs.Visited.{lacking, RunsVisitable, visited};
 
@@ -21,6 +22,7 @@ pub struct RunVisits<'a> {
     pub part: &'a [u32],
     pub places: &'a [u32],
     pub n: usize,
+    pub ghost visitable: { RunsVisitable n part.now places.now },
 }
 
 // A set is settled as a table of one word, the set: a trait's table is a slice, since no type parameter stands for an unsized type.
@@ -33,7 +35,7 @@ impl Visits for RunVisits<'_> {
 
     ghost places = { λ v. v.places.now };
 
-    ghost asked = { λ v n t. RunsVisitable n v.part.now v.places.now t };
+    ghost asked = { λ v n t. (n ≤ v.n) × (length t ≡ set_words) };
 
     ghost visited = { λ v. visited v.part.now v.places.now };
 
@@ -44,11 +46,11 @@ impl Visits for RunVisits<'_> {
     }
 }
 
-// That the set can be visited is asked of each: a field of `RunVisits` can say nothing of a set that is lent to its methods.
+// That the set has its words is asked of each: the type `Set` shows the list of its words, and says nothing of its length.
 impl RunVisits<'_> {
     // Puts sequence `c` into the set where one of its alternatives gives a run. Answers whether that is new.
     fn find(&self, runs: &mut Set, c: usize) -> bool
-        requires { (n : ℕ) × RunsVisitable n self.now.part.now self.now.places.now runs.old × (c < n) }
+        requires { (length runs.old ≡ set_words) × (c < self.now.n) }
         ensures { Visit (visited self.now.part.now self.now.places.now) lacking runs.old c runs.new result }
     {
         if runs.contains(c) {
@@ -64,20 +66,20 @@ impl RunVisits<'_> {
 
     // Visits so many sequences, each once, from the first on or from the last. Answers how many were found.
     fn pass(&self, runs: &mut Set, forward: bool, turns: usize) -> usize
-        requires { RunsVisitable self.now.n self.now.part.now self.now.places.now runs.old × (turns ≤ self.now.n) }
+        requires { (length runs.old ≡ set_words) × (turns ≤ self.now.n) }
         ensures { Pass (visited self.now.part.now self.now.places.now) lacking self.now.n turns runs.old runs.new result }
     {
         let mut count = 0;
         for i in 0..turns {
             let new = self.find(runs, place_of(forward, self.n, i));
-            count += new as usize;
+            count += usize::from(new);
         }
         count
     }
 
     // Settles the set by way of the callers of each sequence and an order of visits.
     fn settle_by_callers(&self, runs: &mut Set)
-        requires { RunsVisitable self.now.n self.now.part.now self.now.places.now runs.old }
+        requires { length runs.old ≡ set_words }
         ensures { Settles (visited self.now.part.now self.now.places.now) self.now.n runs.old runs.new }
     {
         let mut callers = [0u64; MOST_CALLERS];
@@ -97,7 +99,7 @@ impl RunVisits<'_> {
     // Settles the set, in which so many are left to be found: by passes, as long as each finds as many as it leaves, so that what is left halves and
     // there are few of them; otherwise by way of the callers.
     fn settle_from(&self, runs: &mut Set, forward: bool, unfound: usize)
-        requires { RunsVisitable self.now.n self.now.part.now self.now.places.now runs.old }
+        requires { length runs.old ≡ set_words }
         ensures { Settles (visited self.now.part.now self.now.places.now) self.now.n runs.old runs.new }
     {
         let mut left = unfound;
@@ -117,7 +119,7 @@ impl RunVisits<'_> {
     // Settles the set. Some sequences are visited from the last on, and as many from the first on: where more are found, there sequences mostly come
     // after those that they call, and passes go that way.
     pub fn settle(&self, runs: &mut Set)
-        requires { RunsVisitable self.now.n self.now.part.now self.now.places.now runs.old }
+        requires { length runs.old ≡ set_words }
         ensures { Settles (visited self.now.part.now self.now.places.now) self.now.n runs.old runs.new }
     {
         let some = self.n / TRIED;

@@ -10,9 +10,12 @@ write_places-requires c =
     let a = c.args.accepted.now in
     places_asked a.image.now a.head a.accepted c.sequences_part-part.ensures c.requires.room
 
+pub invariant_of-visits : goal.invariant_of-visits
+invariant_of-visits c =
+    record { visitable = visits_asked c.args.accepted.now.image.now c.args.accepted.now.accepted c.requires c.sequences_part-part.ensures c.write_places.ensures (omega (arith, c.write_places.auto)) }
+
 pub settle-requires : goal.settle-requires
-settle-requires c =
-    visits_asked c.args.accepted.now.image.now c.args.accepted.now.accepted c.requires c.sequences_part-part.ensures c.write_places.ensures (omega (arith, c.write_places.auto))
+settle-requires c = c.requires.four
 
 pub returns : goal.returns
 returns c =

@@ -10,16 +10,16 @@ pass-back-requires c = (c.requires, omega arith)
 
 pub pass-forth-requires : goal.pass-forth-requires
 pass-forth-requires c =
-    let laws = run_laws _ _ _ _ c.requires in
-    (laws.kept c.pass-back.new.runs (reached_length laws.lowers c.pass-back.ensures.reached), omega arith)
+    let laws = run_laws c.args.self.now.part.now c.args.self.now.places.now _ _ c.args.self.now.visitable.few c.requires in
+    (omega (arith, reached_length laws.lowers c.pass-back.ensures.reached, c.requires), omega arith)
 
 pub overflow_add-left : goal.overflow_add-left
-overflow_add-left c = let start = c in omega (arith, c.pass-back.ensures.few, c.pass-forth.ensures.few, start.requires.few)
+overflow_add-left c = omega (arith, c.pass-back.ensures.few, c.pass-forth.ensures.few, c.args.self.now.visitable.few)
 
 pub settle_from-requires : goal.settle_from-requires
 settle_from-requires c =
-    let laws = run_laws _ _ _ _ c.requires in
-    laws.kept c.pass-forth.new.runs (reached_length laws.lowers (reached_then c.pass-back.ensures.reached c.pass-forth.ensures.reached))
+    let laws = run_laws c.args.self.now.part.now c.args.self.now.places.now _ _ c.args.self.now.visitable.few c.requires in
+    omega (arith, reached_length laws.lowers (reached_then c.pass-back.ensures.reached c.pass-forth.ensures.reached), c.requires)
 
 pub returns : goal.returns
 returns c =

@@ -6,15 +6,18 @@ use Rattle.running.proofs.Laws.{run_laws}
 use Rattle.running.proofs.settle.RunVisits.settle_by_callers.Goals as goal
 
 pub write_callers-requires : goal.write_callers-requires
-write_callers-requires c = record { few = c.requires.few; placed = c.requires.placed; within = c.requires.within; zeros = zeros 1024 }
+write_callers-requires c =
+    let asked = c.args.self.now.visitable in
+    record { few = asked.few; placed = asked.placed; within = asked.within; zeros = zeros 1024 }
 
 pub settle-requires : goal.settle-requires
-settle-requires c = (
-  run_laws _ _ _ _ c.requires,
-  record {
-    few = c.requires.few;
-    room = omega (arith, c.write_callers.auto, c.requires.few);
-    written = c.write_callers.ensures;
-    complete = c.visiting_order.ensures;
-  },
-)
+settle-requires c =
+    let few = c.args.self.now.visitable.few in (
+      run_laws c.args.self.now.part.now c.args.self.now.places.now _ _ few c.requires,
+      record {
+        few = few;
+        room = omega (arith, c.write_callers.auto, few);
+        written = c.write_callers.ensures;
+        complete = c.visiting_order.ensures;
+      },
+    )

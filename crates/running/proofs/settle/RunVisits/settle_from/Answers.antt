@@ -11,8 +11,8 @@ passes-init c = here
 
 pub pass-count-requires : goal.pass-count-requires
 pass-count-requires c =
-    let laws = run_laws _ _ _ _ c.requires in
-    (laws.kept c.passes.runs (reached_length laws.lowers c.passes.invariant), omega arith)
+    let laws = run_laws c.args.self.now.part.now c.args.self.now.places.now _ _ c.args.self.now.visitable.few c.requires in
+    (omega (arith, reached_length laws.lowers c.passes.invariant, c.requires), omega arith)
 
 pub returns-then-count-eq0 : goal.returns-then-count-eq0
 returns-then-count-eq0 c =
@@ -20,8 +20,8 @@ returns-then-count-eq0 c =
 
 pub settle_by_callers-requires : goal.settle_by_callers-requires
 settle_by_callers-requires c =
-    let laws = run_laws _ _ _ _ c.requires in
-    laws.kept c.pass-count.new.runs (reached_length laws.lowers (reached_then c.passes.invariant c.pass-count.ensures.reached))
+    let laws = run_laws c.args.self.now.part.now c.args.self.now.places.now _ _ c.args.self.now.visitable.few c.requires in
+    omega (arith, reached_length laws.lowers (reached_then c.passes.invariant c.pass-count.ensures.reached), c.requires)
 
 pub returns-then-count-left : goal.returns-then-count-left
 returns-then-count-left c =
