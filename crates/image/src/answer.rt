@@ -101,7 +101,7 @@ impl From<Refusal> for u64 {
     ghost from_gives = { λ refusal n. n ≡ refusal_answer refusal };
 
     fn from(refusal: Refusal) -> u64 {
-        refusal.number() * POSITIONS + refusal.position() as u64
+        refusal.number() * POSITIONS + u64::from(refusal.position())
     }
 }
 
@@ -147,9 +147,9 @@ impl Found for Head {
     ghost number = { head_payload };
 
     fn number(self) -> u64 {
-        self.facts as u64
-            + self.steps as u64 * STEPS_FROM as u64
-            + self.sequences as u64 * SEQUENCES_FROM as u64
+        u64::from(self.facts)
+            + u64::from(self.steps) * u64::from(STEPS_FROM)
+            + u64::from(self.sequences) * u64::from(SEQUENCES_FROM)
     }
 }
 

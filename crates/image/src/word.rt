@@ -76,7 +76,7 @@ impl Kind {
 }
 
 // An alternative's opener: its payload is 0.
-pub const ALTERNATIVE_WORD: u32 = 0x70000000;
+pub const ALTERNATIVE_WORD: u32 = Kind::Alternative as u32 * PAYLOADS;
 
 // How many words are looked at at once, where they can be.
 pub const AT_ONCE: usize = 4;
@@ -124,7 +124,9 @@ pub fn is_fact(w: u32) -> bool
 }
 
 // The kinds of entries, a bit a kind: 8, 9 and 13.
-const ENTRY_KINDS: u32 = 0x2300;
+const ENTRY_KINDS: u32 = (1 << Kind::StepEntry as u32)
+    | (1 << Kind::SequenceEntry as u32)
+    | (1 << Kind::Check as u32);
 
 // An entry: kind 8, 9 or 13. One look at a bit, since every walk over entries asks it of each word.
 pub fn is_entry(w: u32) -> bool

@@ -10,7 +10,7 @@ use column::with_fact_in;
 pub const ROW_WORDS: usize = 10;
 
 // A word of which every bit is set.
-pub const ALL_BITS: u64 = 0xffffffffffffffff;
+pub const ALL_BITS: u64 = u64::MAX;
 
 // The outcomes on one side. On the last side `present` is "sets" and `absent` is "clears"; on the first side `present` is "needs" and
 // `absent` is "sets".

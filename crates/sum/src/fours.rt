@@ -23,10 +23,10 @@ fn joined(a: Sums, b: Sums, c: Sums, d: Sums) -> Sums
     ensures { Joined a b c d result }
 {
     let values = added(a.values, b.values, c.values, d.values);
-    let less = b.running as u64 + 2 * (c.running as u64) + 3 * (d.running as u64);
+    let less = u64::from(b.running) + 2 * u64::from(c.running) + 3 * u64::from(d.running);
     Sums {
         running: added(a.running, b.running, c.running, d.running),
-        values: ((4 * (values as u64) + 6 * WRAP - less) % WRAP) as u32,
+        values: ((4 * u64::from(values) + 6 * WRAP - less) % WRAP) as u32,
     }
 }
 

@@ -9,7 +9,7 @@ use image::word::{AT_ONCE, Kind, PAYLOADS};
 pub fn sum_of(words: &[u32]) -> u32
     ensures { result ≡ ordered_sum words.now }
 {
-    let rest = &words[words.len() / AT_ONCE * AT_ONCE..];
+    let (_, rest) = words.as_chunks::<AT_ONCE>();
     sums_in_fours(words).with_words(rest).values % PAYLOADS
 }
 

@@ -4,7 +4,4 @@ use Rattle.sum.proofs.Lanes.{lanes_joined}
 use Rattle.sum.proofs.fours.joined.Goals as goal
 
 pub returns : goal.returns
-returns c =
-    let g = c in
-    let lanes = g.args in
-    lanes_joined lanes.a lanes.b lanes.c lanes.d c.added.result g.added-values.result c.added.ensures g.added-values.ensures
+returns c lanes = cc (lanes_joined c.args.a c.args.b c.args.c c.args.d c.added.result c.added-values.result c.added.ensures c.added-values.ensures lanes, c.from.ensures, c.from-2.ensures, c.from-3.ensures, c.from-4.ensures)
