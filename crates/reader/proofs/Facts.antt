@@ -32,9 +32,6 @@ pub record KindLoop (h : Head) (part : List ℕ) (k at fingerprint low i : ℕ) 
   pub above : at < i → low ≡ get_or part (i - 1) 0
 
 module _ (h : Head) (part : List ℕ) (k at : ℕ) where
-  pub kind_start : at ≤ length part → 1 ≤ k → KindLoop h part k at 0 (k * 2 ^ 28 - 1) at
-  kind_start l low = grind arith
-
   pub kind_turn : (fingerprint low i : ℕ) → Counts h → i < length part → low < get_or part i 0 → get_or part i 0 < k * 2 ^ 28 + h.facts
       → KindLoop h part k at fingerprint low i
       → KindLoop h part k at (with_fact fingerprint (get_or part i 0 % 64)) (get_or part i 0) (i + 1)

@@ -2,6 +2,7 @@
 -- Assumes nothing.
 use Prim.Native.Nat.{ℕ, suc, ◌+◌, ◌-◌, ◌≤◌, ◌<◌}
 use native.Mathlib.Omega.{arith}
+use Rattle.std.proofs.lemmas.Bool.Decides.{nat_tests}
 use native.Mathlib.Numerals.{add-one}
 use mathlib.Core.Path.{◌≡◌, refl, sym, ap, ap₂, ◌∙◌, subst}
 use mathlib.Core.List.{List}
@@ -21,7 +22,7 @@ use Rattle.image.specs.declared.answer.Refusal.{Refusal}
 use Rattle.rules.specs.declared.rules.Earlier.{Earlier}
 use Rattle.general.proofs.Bools.{byte_le}
 use Rattle.general.proofs.Numbers.{whole_rest}
-use Rattle.rules.proofs.Right.{Passing, body_passing, body_follows, inside_body}
+use Rattle.rules.proofs.Right.{Passing, body_passing, inside_body}
 use Rattle.rules.proofs.Sets.{sets_next}
 use Rattle.rules.proofs.Faultless.{fine, none_found}
 use Rattle.rules.proofs.Middle.{from_middle}
@@ -49,7 +50,7 @@ walk_word h part e p i l =
 
 module _ (h : Head) (part : List ℕ) (e : Earlier) (at : ℕ) where
   pub read_start : at ≤ length part → Read h part e at e at
-  read_start l = record { low = omega arith; within = l; same = λ p. refl }
+  read_start l = grind arith
 
   module _ (now : Earlier) (i : ℕ) (here : Read h part e at now i) where
     abbrev rest : ℕ → Checked
@@ -114,28 +115,16 @@ pub record Reading (p : ℕ) (h : Head) (part : List ℕ) (e₀ : Earlier) (at :
   pub steps : e.steps ≤ p + i
   pub sequences : e.sequences ≤ p + i
 
-pub reading_start : (p : ℕ) (h : Head) (part : List ℕ) (e : Earlier) (at : ℕ) → at ≤ length part → e.steps ≤ p + at → e.sequences ≤ p + at
-    → Reading p h part e at e at
-reading_start p h part e at l steps sequences = record { read = read_start h part e at l; steps = steps; sequences = sequences }
-
 module _ (p : ℕ) (h : Head) (part : List ℕ) (e₀ : Earlier) (at : ℕ) (e : Earlier) (i : ℕ) (here : Reading p h part e₀ at e i) where
   pub reading_turn : (fault : Option Refusal) → i < length part → fault ≡ None → fault ≡ fault_at h (up_to part e i) (p + i) (get_or part i 0)
       → Reading p h part e₀ at (passed e (get_or part i 0)) (i + 1)
   reading_turn fault l none judged =
       let w = get_or part i 0 in
-      record {
-        read = read_turn h part e₀ at e i here.read l (λ q. none_found h (up_to part e i) q w (fine h (up_to part e i) (p + i) w (sym judged ∙ none)));
-        steps = omega (arith, here.steps, byte_le (is_kind 5 (get_or part i 0)));
-        sequences = omega (arith, here.sequences, byte_le (is_kind 6 (get_or part i 0)));
-      }
+      let turn = read_turn h part e₀ at e i here.read l (λ q. none_found h (up_to part e i) q w (fine h (up_to part e i) (p + i) w (sym judged ∙ none))) in
+      grind (arith, byte_le (is_kind 5 w), byte_le (is_kind 6 w))
 
   pub reading_on : (last next : ℕ) → Read h part e i (with_last e last) next → Reading p h part e₀ at (with_last e last) next
-  reading_on last next more =
-      record {
-        read = read_on h part e₀ at e i here.read (with_last e last) next more;
-        steps = omega (arith, here.steps, more.low);
-        sequences = omega (arith, here.sequences, more.low);
-      }
+  reading_on last next more = grind (arith, read_on h part e₀ at e i here.read (with_last e last) next more)
 
 -- ---- a sequence's words
 
@@ -150,12 +139,11 @@ module _ (h : Head) (part : List ℕ) (last at : ℕ) where
   one_turn l i j lt next right here =
       let w = get_or part i 0 in
       let body : (e : Earlier) → 0 < e.sequences → body_right h e l w ≡ true = λ e opened. inside_body h e l w opened here.follows right in
-      let one : Earlier = record { steps = 0; sequences = 1; last = l } in
       record {
         read = λ e opened.
             subst (Read h part (with_last e last) at (with_last e w)) next
             (read_pass h part (with_last e last) at (with_last e l) i (here.read e opened) (with_last e w) lt (body_passing h e l w (body e opened) (sets_of 0 (take i part))));
-        follows = body_follows h one l w (body one (omega arith));
+        follows = grind (arith, nat_tests);
       }
 
   pub fours_turn : (l i : ℕ) → i + 4 ≤ length part → FourRight h part i → Fours h part last at l i
@@ -168,5 +156,4 @@ module _ (h : Head) (part : List ℕ) (last at : ℕ) where
 
 -- where one has stopped, another reads on
 pub fours_on : (h : Head) (part : List ℕ) (last at l i : ℕ) (r : Body) → Fours h part last at l i → FoursRead h part l i r → FoursRead h part last at r
-fours_on h part last at l i r here rest e opened =
-    read_on h part (with_last e last) at (with_last e l) i (here.read e opened) (with_last e r.last) r.next (rest e opened)
+fours_on h part last at l i r here rest e opened = read_on _ _ _ _ _ _ (here.read e opened) _ _ (rest e opened)
