@@ -41,8 +41,7 @@ fn explain(accepted: &Accepted, c: usize, area: &mut [u32]) -> Result<usize, Ref
     ensures { Explains (library_of accepted.now.image.now) c area.old result area.new }
 {
     let mut places = [0u32; MOST_PLACES];
-    let mut runs = Set::default();
-    write_running(accepted, &mut places, &mut runs);
+    let runs = write_running(accepted, &mut places);
     if runs.contains(c) {
         return Err(Refusal::HasRun);
     }

@@ -1,7 +1,8 @@
 -- The places of an accepted image are what the visits ask, and the set that they settle is that of the sequences with a run.
 -- Assumes nothing.
-use Rattle.std.proofs.Common.{◌≡◌, ℕ, ◌≤◌, List, ◌++◌, length, drop, sym, ap, ◌∙◌, subst, arith}
+use Rattle.std.proofs.Common.{◌≡◌, ℕ, ◌≤◌, List, ◌++◌, length, drop, refl, sym, ap, ◌∙◌, subst, arith}
 use Rattle.general.specs.Tests.{All}
+use Rattle.general.proofs.Numbers.{zeros}
 use Rattle.image.specs.declared.answer.Head.{Head}
 use Rattle.rules.specs.Checked.{Accepts}
 use Rattle.library.specs.Library.{sequences_part, library_of}
@@ -9,13 +10,14 @@ use Rattle.library.specs.Accepted.{SequenceWord}
 use Rattle.library.specs.Tables.{places_from}
 use Rattle.library.proofs.Accepted.{parts, counted, sequence_entry}
 use Rattle.library.proofs.Rows.{all_at}
+use Rattle.callers.specs.Callers.{no_sequences}
 use Rattle.settling.specs.Settling.{Settles}
 use Rattle.tables.proofs.Tables.{few_sequences, place_in, reads_in}
 use Rattle.running.specs.Visited.{RunsVisitable, visited}
 use Rattle.running.specs.Written.{RunningAsked, RunningWritten}
 use Rattle.running.proofs.Exact.{Given, settled_exact}
 
-module _ {h : Head} (image : List ℕ) {places₀ runs₀ : List ℕ} (accepted : Accepts image h) (asked : RunningAsked h places₀ runs₀) {part : List ℕ} (sequences : part ≡ sequences_part image) {places : List ℕ}
+module _ {h : Head} (image : List ℕ) {places₀ : List ℕ} (accepted : Accepts image h) (asked : RunningAsked h places₀) {part : List ℕ} (sequences : part ≡ sequences_part image) {places : List ℕ}
     (placed : places ≡ places_from 0 part ++ drop h.sequences places₀) where
   few : h.sequences ≤ 256
   few = few_sequences image h accepted
@@ -42,9 +44,9 @@ module _ {h : Head} (image : List ℕ) {places₀ runs₀ : List ℕ} (accepted 
         reads = reads_in image h accepted sequences (drop h.sequences places₀) placed;
       }
 
-  pub running_written : (runs : List ℕ) → Settles (visited part places) h.sequences runs₀ runs → RunningWritten h image places₀ places runs
+  pub running_written : (runs : List ℕ) → Settles (visited part places) h.sequences no_sequences runs → RunningWritten h image places₀ places runs
   running_written runs settled =
       record {
         placed = placed ∙ ap (λ (x : List ℕ). places_from 0 x ++ drop h.sequences places₀) sequences;
-        exact = settled_exact (library_of image) h.sequences part places image_given runs₀ runs asked.four asked.blank settled;
+        exact = settled_exact (library_of image) h.sequences part places image_given no_sequences runs refl (zeros 4) settled;
       }

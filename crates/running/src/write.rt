@@ -6,10 +6,10 @@ use callers::sets::Set;
 use library::checked::Accepted;
 use library::tables::write_places;
 
-// Writes where each sequence of an accepted image stands, and the set of those that have a run, which is lent blank.
-pub fn write_running(accepted: &Accepted, places: &mut [u32], runs: &mut Set)
-    requires { RunningAsked accepted.now.head places.old runs.old }
-    ensures { RunningWritten accepted.now.head accepted.now.image.now places.old places.new runs.new }
+// Writes where each sequence of an accepted image stands. Answers the set of those that have a run.
+pub fn write_running(accepted: &Accepted, places: &mut [u32]) -> Set
+    requires { RunningAsked accepted.now.head places.old }
+    ensures { RunningWritten accepted.now.head accepted.now.image.now places.old places.new result }
 {
     let part = accepted.sequences_part();
     write_places(accepted.head, part, places);
@@ -18,5 +18,7 @@ pub fn write_running(accepted: &Accepted, places: &mut [u32], runs: &mut Set)
         places,
         n: accepted.head.sequences as usize,
     };
-    visits.settle(runs);
+    let mut runs = Set::default();
+    visits.settle(&mut runs);
+    runs
 }
