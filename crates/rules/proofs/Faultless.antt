@@ -1,6 +1,6 @@
 -- What a word without a fault keeps: each of the four rules, and the rule for its payload by its kind.
 -- Assumes nothing.
-use Rattle.std.proofs.Common.{◌≡◌, ℕ, ◌<◌, Bool, true, false, cond, refl, arith}
+use Rattle.std.proofs.Common.{◌≡◌, ℕ, ◌<◌, Bool, true, cond, arith}
 use Rattle.std.proofs.lemmas.Bool.Decides.{nat_tests}
 use Rattle.image.specs.Word.{kind, payload, is_fact}
 use Rattle.rules.specs.Rules.{Before, may_stand, where_kind, payload_right, in_order, clears_unset, fault_at}
@@ -34,8 +34,7 @@ pub where_kind_lem : (b r : Bool) → where_kind b r ≡ true → b ≡ true →
 where_kind_lem b r e q = grind (arith, nat_tests)
 
 pub kind_where : (b r : Bool) → (b ≡ true → r ≡ true) → where_kind b r ≡ true
-kind_where true r holds = holds refl
-kind_where false r holds = refl
+kind_where b r holds = grind (arith, nat_tests)
 
 pub record Payloads (h : Head) (e : Before) (w : ℕ) : Type 0 where
   pub step : kind w ≡ 5 → (payload w ≡ e.steps) × (payload w < h.steps)
@@ -46,12 +45,4 @@ pub record Payloads (h : Head) (e : Before) (w : ℕ) : Type 0 where
   pub fact : is_fact w ≡ true → payload w < h.facts
 
 pub payloads : (h : Head) (e : Before) (w : ℕ) → payload_right h e w ≡ true → Payloads h e w
-payloads h e w s =
-    record {
-      step = λ k. grind (arith, nat_tests);
-      sequence = λ k. grind (arith, nat_tests);
-      names_step = λ k. grind (arith, nat_tests);
-      names_sequence = λ k. grind (arith, nat_tests);
-      names_fact = λ k. grind (arith, nat_tests);
-      fact = λ k. grind (arith, nat_tests);
-    }
+payloads h e w s = grind (arith, nat_tests)

@@ -3,7 +3,6 @@
 -- Assumes nothing.
 use Rattle.std.proofs.Common.{◌≡◌, ℕ, suc, Bool, true, false, cond, ◌||◌, List, [], ◌∷◌, refl, ap, ◌∙◌, arith}
 use Rattle.std.proofs.lemmas.Bool.Decides.{nat_tests}
-use Rattle.general.proofs.Bools.{nor_left, nor_right}
 use Rattle.image.specs.Word.{is_kind, is_fact}
 use Rattle.image.proofs.Words.{fact_kind}
 use Rattle.rules.specs.Rules.{sets_after, fault_at}
@@ -39,7 +38,7 @@ module _ (h : Head) (e : Earlier) (p w : ℕ) where
       ∙ ap (at_word (fault_at h (seen e t) p w)) (rw three (go (is_kind 5 w) refl))
     where
       three : is_kind 3 w ≡ false
-      three = nor_right (is_kind 2 w) (is_kind 3 w) (nor_left (is_kind 2 w || is_kind 3 w) (is_kind 4 w) other)
+      three = grind (arith, nat_tests)
 
       go : (b : Bool) → is_kind 5 w ≡ b
           → walk h (seen (passed e w) (cond b 0 s)) (suc p) ws ≡ walk h (seen (passed e w) (cond b 0 t)) (suc p) ws

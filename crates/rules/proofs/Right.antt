@@ -2,7 +2,7 @@
 -- It has: a law for each kind of word, and what a reader needs of the words that it passes by (`Passing`). That the walk over the
 -- words is the scan of document 01 is in Checked.
 -- Assumes nothing.
-use Rattle.std.proofs.Common.{◌≡◌, ℕ, ◌+◌, ◌<◌, ◌≤◌, true, false, not, ◌&&◌, ◌||◌, ltb, ◌⊎◌, sym, ap, ◌∙◌, inl, inr, ⊎_elim, arith, lt-ltb, ne_eqb, eqb-true}
+use Rattle.std.proofs.Common.{◌≡◌, ℕ, ◌+◌, ◌<◌, ◌≤◌, true, false, ◌&&◌, ◌||◌, ltb, ◌⊎◌, ap, inl, inr, ⊎_elim, arith, ne_eqb}
 use Rattle.std.proofs.lemmas.Bool.Decides.{nat_tests}
 use mir.Val.{bool_byte}
 use Rattle.column.specs.Sets.{in_column}
@@ -13,7 +13,7 @@ use Rattle.image.specs.declared.answer.Head.{Head}
 use Rattle.rules.specs.declared.rules.Earlier.{Earlier}
 use Rattle.general.proofs.Bools.{and_left, and_right, or_cases}
 use Rattle.image.proofs.Words.{fact_of, entry_high}
-use Rattle.rules.proofs.Faultless.{Fine, none_found, kind_where}
+use Rattle.rules.proofs.Faultless.{Fine, none_found}
 use Rattle.std.specs.Prelude.{None}
 
 counted_entry : (h : Head) (w : ℕ) → entry_counted h w ≡ true → is_entry w ≡ true
@@ -68,11 +68,8 @@ opens_nothing e w five six =
 
 -- a word of a sequence's body
 module _ (h : Head) (e : Earlier) (last w : ℕ) (right : body_right h e last w ≡ true) where
-  body_kind : (kind w ≡ 7) ⊎ (is_entry w ≡ true)
-  body_kind = grind (arith, nat_tests)
-
   body_high : 7 ≤ kind w
-  body_high = grind (arith, nat_tests, body_kind, entry_high w)
+  body_high = grind (arith, nat_tests, entry_high w)
 
   pub body_passing : (sets : ℕ) → Passing h (with_last e last) sets w (with_last e w)
   body_passing sets =
@@ -107,9 +104,6 @@ module _ (h : Head) (k last w : ℕ) (low : 2 ≤ k) (high : k ≤ 4) (is : kind
   in_order_lem : where_kind (is_fact w && is_fact last) (ltb last w) ≡ true
   in_order_lem = grind (arith, nat_tests)
 
-  other : (j : ℕ) → 5 ≤ j → is_kind j w ≡ false
-  other j more = ne_eqb (kind w) j (λ same. omega arith)
-
   pub fact_passing : (e : Earlier) (sets : ℕ) → (k ≡ 4 → in_column sets (payload w) ≡ false)
       → Passing h (with_last e last) sets w (with_last e w)
   fact_passing e sets unset =
@@ -122,17 +116,7 @@ module _ (h : Head) (k last w : ℕ) (low : 2 ≤ k) (high : k ≤ 4) (is : kind
       fine =
           record {
             stands = rw (fact, may_stand_lem);
-            pays =
-                rw (
-                  fact,
-                  other 5 (omega arith),
-                  other 6 (omega arith),
-                  other 7 (omega arith),
-                  other 8 (omega arith),
-                  other 9 (omega arith),
-                  other 13 (omega arith),
-                  lt-ltb (payload w) h.facts counted,
-                );
+            pays = grind (arith, nat_tests);
             follows = in_order_lem;
-            unset = kind_where (is_kind 4 w) (not (in_column sets (payload w))) (λ four. ap not (unset (sym is ∙ eqb-true (kind w) 4 four)));
+            unset = grind (arith, nat_tests, unset);
           }

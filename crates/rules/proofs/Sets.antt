@@ -1,17 +1,15 @@
 -- What the column of the facts that a step sets says: a fact is in it exactly where an earlier word of the same step sets it.
 -- Assumes nothing.
-use Rattle.std.proofs.Common.{◌≡◌, ℕ, ◌+◌, ◌<◌, Bool, true, false, cond, ◌&&◌, eqb, ◌⊎◌, ◌↔◌, List, [], ◌∷◌, ◌++◌, length, get_or, take, sym, refl, ap, ◌∙◌, inl, inr, ⊎_elim, add-one, arith, take-suc, eq-eqb, eqb-true}
+use Rattle.std.proofs.Common.{◌≡◌, ℕ, ◌+◌, ◌<◌, true, false, ◌&&◌, eqb, ◌⊎◌, ◌↔◌, List, [], ◌∷◌, ◌++◌, length, get_or, take, sym, refl, ap, ◌∙◌, inl, inr, ⊎_elim, add-one, arith, take-suc, eqb-true}
 use Rattle.std.proofs.lemmas.Bool.Decides.{nat_tests}
 use mathlib.Core.Bool.{false≢true}
-use mir.Val.{bool_byte}
-use Rattle.column.specs.Column.{with_fact}
 use Rattle.column.specs.Sets.{in_column}
 use Rattle.column.proofs.Operations.{in_with, in_own, in_more, in_none}
 use Rattle.image.specs.Word.{kind, payload, is_kind}
 use Rattle.rules.specs.Rules.{opened, sets_after, sets_of, SetBefore, earlier}
 use Rattle.std.specs.List.{push}
 use Rattle.std.proofs.lemmas.Bool.{eqb-false}
-use Rattle.general.proofs.Bools.{and_parts, both_ways}
+use Rattle.general.proofs.Bools.{and_parts}
 
 -- ---- one word
 
@@ -26,12 +24,7 @@ set_word sets w three = rw three (in_own sets (payload w))
 
 -- a fact that is set stays so, but for a word that opens a step
 pub set_stays : (sets f w : ℕ) → (kind w ≡ 5 → ⊥) → in_column sets f ≡ true → in_column (sets_after sets w) f ≡ true
-set_stays sets f w other e = go (is_kind 3 w) (is_kind 5 w) refl
-  where
-    go : (b c : Bool) → is_kind 5 w ≡ c → in_column (cond b (with_fact sets (payload w)) (cond c 0 sets)) f ≡ true
-    go true c five = in_more sets (payload w) f e
-    go false true five = absurd (other (eqb-true (kind w) 5 five))
-    go false false five = e
+set_stays sets f w other e = grind (arith, nat_tests, in_more sets (payload w) f)
 
 -- after a step's opener nothing is set
 pub set_none : (sets f w : ℕ) → kind w ≡ 5 → in_column (sets_after sets w) f ≡ false
@@ -39,11 +32,7 @@ set_none sets f w five = grind (arith, nat_tests, in_none f)
 
 -- a word that neither sets the fact nor opens a step changes nothing
 pub set_same : (sets f w : ℕ) → is_kind 3 w && eqb (payload w) f ≡ false → (kind w ≡ 5 → ⊥) → in_column (sets_after sets w) f ≡ in_column sets f
-set_same sets f w other no_step =
-    both_ways _ _ (λ e. ⊎_elim (λ own. absurd (false≢true (sym other ∙ named own))) (λ old. old.0) (set_by sets f w e)) (set_stays sets f w no_step)
-  where
-    named : (kind w ≡ 3) × (payload w ≡ f) → is_kind 3 w && eqb (payload w) f ≡ true
-    named own = rw (eq-eqb (kind w) 3 own.0, eq-eqb (payload w) f own.1)
+set_same sets f w other no_step = grind (arith, nat_tests, in_with sets (payload w) f)
 
 -- ---- all the words
 
@@ -83,11 +72,7 @@ module _ (ws until : List ℕ) (w f : ℕ) (stands : ws ≡ push until w) where
 
 opens_no_step : (w : ℕ) (ws : List ℕ) → (opened 5 (w ∷ ws) ≡ 0) ↔ ((kind w ≡ 5 → ⊥) × (opened 5 ws ≡ 0))
 unfolding opened
-opens_no_step w ws = go (is_kind 5 w) refl
-  where
-    go : (b : Bool) → is_kind 5 w ≡ b → (bool_byte b + opened 5 ws ≡ 0) ↔ ((kind w ≡ 5 → ⊥) × (opened 5 ws ≡ 0))
-    go true five = ((λ e. absurd (omega arith)), λ p. absurd (p.0 (eqb-true (kind w) 5 five)))
-    go false five = ((λ e. ((λ q. false≢true (sym five ∙ eq-eqb (kind w) 5 q)), omega arith)), λ p. omega (arith, p.1))
+opens_no_step w ws = (λ e. grind (arith, nat_tests), λ p. grind (arith, nat_tests))
 
 all_stay : (sets f : ℕ) (ws : List ℕ) → opened 5 ws ≡ 0 → in_column sets f ≡ true → in_column (sets_of sets ws) f ≡ true
 unfolding sets_of
