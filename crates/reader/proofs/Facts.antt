@@ -119,20 +119,18 @@ module _ (h : Head) (part : List ℕ) (opener : ℕ) (needs sets clears : Facts)
   facts_read m from to none e =
       let n = needs.next in
       let s = sets.next in
-      let at = opener + 1 in
-      let last : ℕ → Earlier = λ i. with_last e (get_or part (i - 1) 0) in
       let back : opener + 1 - 1 ≡ opener = omega arith in
-      let after_opener : FactFollows (get_or part (at - 1) 0) 2 = inl (ap (λ (i : ℕ). kind (get_or part i 0)) back ∙ five) in
-      let after_needs = run_follows h part 2 at n (omega arith) (omega arith) needs_read.run needs_read.counted (omega arith) after_opener in
+      let after_opener : FactFollows (get_or part (opener + 1 - 1) 0) 2 = inl (ap (λ (i : ℕ). kind (get_or part i 0)) back ∙ five) in
+      let after_needs = run_follows h part 2 (opener + 1) n (omega arith) (omega arith) needs_read.run needs_read.counted (omega arith) after_opener in
       let after_sets =
       run_follows h part 3 n s (omega arith) (omega arith) sets_read.run sets_read.counted (omega (arith, needs_read.run.low)) after_needs in
-      subst (λ (i : ℕ). Read h part (with_last e (get_or part i 0)) at (last m) m) back
-      (read_on h part (last at) at (last n) n
-      (run_read h part 2 at n (omega arith) (omega arith) needs_read.run needs_read.counted (omega arith) after_opener e n needs_read.run.low (omega arith)
-      (λ q. absurd (omega arith))) (last m) m
-      (read_on h part (last n) n (last s) s
+      subst (λ (i : ℕ). Read h part (with_last e (get_or part i 0)) (opener + 1) (with_last e (get_or part (m - 1) 0)) m) back
+      (read_on _ _ _ _ _ _
+      (run_read h part 2 _ n (omega arith) (omega arith) needs_read.run needs_read.counted (omega arith) after_opener e n needs_read.run.low (omega arith)
+      (λ q. absurd (omega arith))) _ _
+      (read_on _ _ _ _ _ _
       (run_read h part 3 n s (omega arith) (omega arith) sets_read.run sets_read.counted (omega (arith, needs_read.run.low)) after_needs e s sets_read.run.low
-      (omega arith) (λ q. absurd (omega arith))) (last m) m
+      (omega arith) (λ q. absurd (omega arith))) _ _
       (run_read h part 4 s clears.next (omega arith) (omega arith) clears_read.run clears_read.counted (omega (arith, needs_read.run.low, sets_read.run.low))
       after_sets e m from to
       (λ q j less low. unset part opener n s clears.next five needs_read.run sets_read.run clears_read.run j (omega arith) low (none j less low)))))

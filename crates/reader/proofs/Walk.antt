@@ -96,7 +96,7 @@ begun first = record { steps = 0; sequences = 0; last = first }
 pub whole_answer : (h : Head) (part : List ℕ) (e : Earlier) (p : ℕ) (r : Checked) → r ≡ walk h (up_to part e 0) (p + 0) (drop 0 part)
     → r ≡ walk h (seen e 0) p part
 unfolding sets_of
-whole_answer h part e p r same = let place : p + 0 ≡ p = omega arith in same ∙ ap (λ (q : ℕ). walk h (seen e 0) q part) place
+whole_answer h part e p r same = let place : p + 0 ≡ p = omega arith in rw place at same
 
 -- and from a sequence's opener on, where a part begins anew
 pub middle_answer : (h : Head) (part : List ℕ) (e : Earlier) (p i : ℕ) (r : Checked) → i < length part → is_kind 6 (get_or part i 0) ≡ true

@@ -51,24 +51,11 @@ scan_walk h before (w ∷ ws) =
 not_kind : (k j w : ℕ) → is_kind k w ≡ true → (k ≡ j → ⊥) → is_kind j w ≡ false
 not_kind k j w e d = grind (arith, nat_tests)
 
-opens_none : (k w : ℕ) → is_kind k w ≡ false → opened k (w ∷ []) ≡ 0
-unfolding opened
-opens_none k w e = simp e
-
-sets_none : (w : ℕ) → is_kind 3 w ≡ false → is_kind 5 w ≡ false → sets_of 0 (w ∷ []) ≡ 0
-unfolding sets_of
-sets_none w three five = rw (three, five)
-
 head_opens : (w : ℕ) → head_right w ≡ true → earlier (w ∷ []) ≡ opening w
-unfolding last_of
-head_opens w e i =
+unfolding last_of opened sets_of
+head_opens w e =
     let one = (head_rule w e).first in
-    record {
-      steps = opens_none 5 w (not_kind 1 5 w one (omega arith)) i;
-      sequences = opens_none 6 w (not_kind 1 6 w one (omega arith)) i;
-      last = w;
-      sets = sets_none w (not_kind 1 3 w one (omega arith)) (not_kind 1 5 w one (omega arith)) i;
-    }
+    rw (not_kind 1 5 w one (omega arith), not_kind 1 6 w one (omega arith), not_kind 1 3 w one (omega arith))
 
 take_one : (image : List ℕ) → 1 ≤ length image → take 1 image ≡ first_word image ∷ []
 take_one [] l = absurd (omega arith)

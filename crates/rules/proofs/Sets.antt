@@ -1,6 +1,6 @@
 -- What the column of the facts that a step sets says: a fact is in it exactly where an earlier word of the same step sets it.
 -- Assumes nothing.
-use Rattle.std.proofs.Common.{◌≡◌, ℕ, ◌+◌, ◌<◌, true, false, ◌&&◌, eqb, ◌⊎◌, ◌↔◌, List, [], ◌∷◌, ◌++◌, length, get_or, take, sym, refl, ap, ◌∙◌, inl, inr, ⊎_elim, add-one, arith, take-suc, eqb-true}
+use Rattle.std.proofs.Common.{◌≡◌, ℕ, ◌+◌, ◌<◌, true, false, ◌&&◌, eqb, ◌⊎◌, ◌↔◌, List, [], ◌∷◌, ◌++◌, length, get_or, take, sym, refl, ap, ◌∙◌, inl, inr, ⊎_elim, add-one, arith, take-suc}
 use Rattle.std.proofs.lemmas.Bool.Decides.{nat_tests}
 use mathlib.Core.Bool.{false≢true}
 use Rattle.column.specs.Sets.{in_column}
@@ -8,8 +8,6 @@ use Rattle.column.proofs.Operations.{in_with, in_own, in_more, in_none}
 use Rattle.image.specs.Word.{kind, payload, is_kind}
 use Rattle.rules.specs.Rules.{opened, sets_after, sets_of, SetBefore, earlier}
 use Rattle.std.specs.List.{push}
-use Rattle.std.proofs.lemmas.Bool.{eqb-false}
-use Rattle.general.proofs.Bools.{and_parts}
 
 -- ---- one word
 
@@ -59,16 +57,13 @@ module _ (ws until : List ℕ) (w f : ℕ) (stands : ws ≡ push until w) where
   sets_last = ap (λ (x : List ℕ). in_column (sets_of 0 x) f) stands ∙ ap (λ (s : ℕ). in_column s f) (sets_append 0 until (w ∷ []))
 
   pub back_found : is_kind 3 w && eqb (payload w) f ≡ true → in_column (sets_of 0 ws) f ≡ true
-  back_found own =
-      let both = and_parts (is_kind 3 w) (eqb (payload w) f) own in
-      sets_last
-      ∙ ap (in_column (sets_after (sets_of 0 until) w)) (sym (eqb-true (payload w) f both.1)) ∙ set_word (sets_of 0 until) w (eqb-true (kind w) 3 both.0)
+  back_found own = sets_last ∙ grind (arith, nat_tests, set_word (sets_of 0 until) w)
 
   pub back_opened : is_kind 5 w ≡ true → in_column (sets_of 0 ws) f ≡ false
-  back_opened five = sets_last ∙ set_none (sets_of 0 until) f w (eqb-true (kind w) 5 five)
+  back_opened five = sets_last ∙ grind (arith, nat_tests, set_none (sets_of 0 until) f w)
 
   pub back_passed : is_kind 3 w && eqb (payload w) f ≡ false → is_kind 5 w ≡ false → in_column (sets_of 0 until) f ≡ in_column (sets_of 0 ws) f
-  back_passed other no_step = sym (sets_last ∙ set_same (sets_of 0 until) f w other (eqb-false (kind w) 5 no_step))
+  back_passed other no_step = sym (sets_last ∙ grind (arith, nat_tests, set_same (sets_of 0 until) f w other))
 
 opens_no_step : (w : ℕ) (ws : List ℕ) → (opened 5 (w ∷ ws) ≡ 0) ↔ ((kind w ≡ 5 → ⊥) × (opened 5 ws ≡ 0))
 unfolding opened
