@@ -91,9 +91,7 @@ impl RunVisits<'_> {
             callers: &callers,
             order: &order[..self.n],
         };
-        let mut table = [*runs];
-        schedule.settle(self, &mut table);
-        *runs = table[0];
+        schedule.settle(self, std::slice::from_mut(runs));
     }
 
     // Settles the set, in which so many are left to be found: by passes, as long as each finds as many as it leaves, so that what is left halves and
