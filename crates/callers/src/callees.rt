@@ -3,7 +3,7 @@ ghost use Rattle.std.specs.Prelude.{ℕ, ◌≡◌, ◌||◌, ◌≤◌, length,
 ghost use Rattle.image.specs.Word.{is_kind};
 ghost use Rattle.library.specs.Calls.{calls_of};
 ghost use Rattle.library.specs.Library.{alternatives_from};
-ghost use Rattle.callers.specs.Callees.{calls_left, NextCall};
+ghost use Rattle.callers.specs.Callees.{calls_left};
 
 use image::word::{Kind, payload_of};
 use walk::sequence::entries_end;
@@ -35,12 +35,19 @@ impl<'a> Callees<'a> {
             at: entries_end(part, at),
         }
     }
+}
+
+impl Iterator for Callees<'_> {
+    ghost use Rattle.callers.specs.Callees.{NextCallee, words_left};
+
+    type Item = u32;
+
+    ghost next_gives = { NextCallee };
+
+    ghost remaining = { words_left };
 
     // The next call's sequence.
-    pub fn next(&mut self) -> Option<u32>
-        ensures same { self.new.part.now ≡ self.old.part.now }
-        ensures call { NextCall self.old.part.now self.old.at self.new.at result }
-    {
+    fn next(&mut self) -> Option<u32> {
         let part = self.part;
         for i in self.at..part.len() {
             let w = part[i];

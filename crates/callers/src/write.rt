@@ -25,8 +25,7 @@ fn add_calls(part: &[u32], at: usize, callers: &mut [u64], c: usize)
     requires { (c < most_sequences) × (at ≤ length part.now) }
     ensures { Put c (λ d. calls_of (alternatives_from (drop at part.now)) d) callers.old callers.new }
 {
-    let mut callees = Callees::of(part, at);
-    while let Some(d) = callees.next() {
+    for d in Callees::of(part, at) {
         add(callers, d, c);
     }
 }

@@ -62,8 +62,7 @@ impl<'a> Reached<'a> {
         requires { NamesWithin self.old.n part.now × (at ≤ length part.now) }
         ensures { Noted (calls_of (alternatives_from (drop at part.now))) self.old self.new }
     {
-        let mut callees = Callees::of(part, at);
-        while let Some(d) = callees.next() {
+        for d in Callees::of(part, at) {
             self.note(d as usize);
         }
     }

@@ -1,7 +1,7 @@
 -- `reach::found::Reached::note` meets its contract.
 -- Assumes nothing.
 use Rattle.std.proofs.Common.{◌||◌, sym, ap₂, ◌∙◌, refl, arith}
-use Rattle.reach.proofs.Queue.{noted_before, new_room, new_queued, noted_new}
+use Rattle.reach.proofs.Queue.{new_room, new_queued, noted_new}
 use Rattle.reach.proofs.found.Reached.note.Goals as goal
 
 pub offset_bounds-self-self : goal.offset_bounds-self-self

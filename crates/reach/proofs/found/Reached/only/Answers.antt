@@ -1,7 +1,6 @@
 -- `reach::found::Reached::only` meets its contract.
 -- Assumes nothing.
-use Rattle.std.proofs.Common.{refl}
-use Rattle.reach.proofs.Queue.{queued_one, one_found}
+use Rattle.reach.proofs.Queue.{queued_one}
 use Rattle.reach.proofs.found.Reached.only.Goals as goal
 
 pub invariant_of-result : goal.invariant_of-result
