@@ -11,7 +11,7 @@ use Rattle.image.specs.Word.{is_entry}
 use Rattle.library.specs.Library.{Entry, entry_of, entries_from}
 use Rattle.walk.specs.Walk.{walk_end}
 use Rattle.walk.proofs.Walking.{entries_at, walk_out, walk_dead, walk_next}
-use Rattle.rank.specs.Entries.{Walked, out, left, on}
+use Rattle.walk.specs.Entries.{Walked, out, left, on}
 use Rattle.rank.specs.Tables.{AlternativeRanked}
 
 -- at the end, by how the walk ended: after the last entry, or at one that fails the test

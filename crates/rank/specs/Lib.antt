@@ -1,4 +1,3 @@
-pub mod Entries
 pub mod Walk
 pub mod Visits
 pub mod Tables

@@ -11,7 +11,7 @@ use Rattle.rank.specs.Walk.{lowered_from, depth_from, fewest_from}
 use Rattle.question.specs.Asked.{by_mark}
 use Rattle.question.specs.declared.asked.Asked.{Asked}
 use Rattle.rank.specs.declared.read.Positions.{Positions}
-use Rattle.rank.specs.declared.read.Read.{Read}
+use Rattle.walk.specs.declared.entries.Ended.{Ended}
 
 -- ---- what an alternative comes to
 
@@ -61,7 +61,7 @@ pub record RanksReadable (none : ℕ) (ahead behind ranks part : List ℕ) : Typ
 -- ---- the alternatives of a sequence
 
 -- what a reader of an alternative promises, whose entries stand from an index on: what it comes to, and where it ended
-pub record AlternativeRanked (worth : Alternative → ℕ) (dead : Entry → Bool) (part : List ℕ) (at : ℕ) (r : Read) : Type 0 where
+pub record AlternativeRanked (worth : Alternative → ℕ) (dead : Entry → Bool) (part : List ℕ) (at : ℕ) (r : Ended ℕ) : Type 0 where
   pub value : r.value ≡ worth (entries_from (drop at part))
   pub ended : r.ended ≡ walk_end dead part at
 

@@ -2,6 +2,5 @@
 // them.
 #![tactic(auto)]
 
-pub mod entries;
 pub mod read;
 pub mod settle;

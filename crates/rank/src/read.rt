@@ -6,19 +6,14 @@ ghost use Rattle.slot.specs.Slots.{traits_in, RankWithin};
 ghost use Rattle.rank.specs.Walk.{lowered_from};
 ghost use Rattle.rank.specs.Tables.{depth_in, every_in, fewest_after, fewest_in, look_in, lacks_in, lost_in, dead_in, RanksReadable, Rankable, AlternativeRanked};
 
-use crate::entries::walk_entries;
 use image::word::Kind;
 use question::asked::{Asked, Mark};
 use slot::entry::{Traits, passes, rank_of, traits_of};
+use walk::entries::{Ended, walk_entries};
 use walk::sequence::{part_entry, select};
 
 // What an alternative comes to, and the index at which the walk over its entries ended: that of the first dead one, or of the word after them.
-// `reading::read::Read` is alike: one generic type would lose the name of what each is read for, and spare two lines.
-#[derive(Clone, Copy)]
-pub struct Read {
-    pub value: u32,
-    pub ended: usize,
-}
+pub type Read = Ended<u32>;
 
 // A table of ranks with the words that it has ranks for, and what stands for "no rank" in it.
 #[derive(Clone, Copy)]
@@ -39,8 +34,8 @@ impl<'a> Table<'a> {
             let rank = rank_of(self.none, self.ranks, w);
             (rank < self.none).then_some(depth.max(rank))
         });
-        Read {
-            value: walk.known.unwrap_or(self.none),
+        Ended {
+            value: walk.value.unwrap_or(self.none),
             ended: walk.ended,
         }
     }
@@ -54,8 +49,8 @@ impl<'a> Table<'a> {
         let walk = walk_entries(self.part, at, 0, |zero: u32, w| {
             passes(self.none, self.ranks, w).then_some(zero)
         });
-        Read {
-            value: walk.known.unwrap_or(self.none),
+        Ended {
+            value: walk.value.unwrap_or(self.none),
             ended: walk.ended,
         }
     }
@@ -132,11 +127,11 @@ impl<'a> Ranks<'a> {
             (t.ahead | t.behind | (t.rank < none)).then_some(x.with_entry(none, t))
         });
         // No `map_or`: the check can't name what its closure promises where the proof needs it.
-        let value = match walk.known {
+        let value = match walk.value {
             Ok(x) => x.best,
             Err(_) => none,
         };
-        Read {
+        Ended {
             value,
             ended: walk.ended,
         }
@@ -159,8 +154,8 @@ impl<'a> Ranks<'a> {
             let t = self.traits(w);
             ((first & t.behind) | (!first & t.ahead)).then_some(x.with_entry(none, t))
         });
-        match walk.known {
-            Ok(x) => Read {
+        match walk.value {
+            Ok(x) => Ended {
                 value: x.best,
                 ended: walk.ended,
             },

@@ -9,7 +9,7 @@ use Rattle.walk.specs.Walk.{names_none, walk_end}
 use Rattle.row.specs.Words.{row_words, no_row, start_row, step_row, check_row, join_rows, or_rows, row_in}
 use Rattle.row.specs.declared.words.Row.{Row}
 use Rattle.reading.specs.declared.read.Block.{Block}
-use Rattle.reading.specs.declared.read.Read.{Read}
+use Rattle.walk.specs.declared.entries.Ended.{Ended}
 use Rattle.library.specs.Tables.{mask_words}
 
 -- a word of the sequences' part; an entry that is no check names a row of the steps' table, in which a run is found, or one of the table of
@@ -51,8 +51,8 @@ module _ (b : Block) (steps table : List ℕ) where
   united_from X (es ∷ alts) = united_from (or_rows X (alternative_in es)) alts
 
   -- what the reader of an alternative promises, whose entries stand from an index on: its row, and where it ended
-  pub record AlternativeFolded (part : List ℕ) (at : ℕ) (r : Read) : Type 0 where
-    pub row : r.row ≡ alternative_in (entries_from (drop at part))
+  pub record AlternativeFolded (part : List ℕ) (at : ℕ) (r : Ended Row) : Type 0 where
+    pub row : r.value ≡ alternative_in (entries_from (drop at part))
     pub ended : r.ended ≡ walk_end (is_dead table) part at
 
 -- where the alternatives without entries that stand from an index on end: each is one word

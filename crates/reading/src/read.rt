@@ -10,6 +10,7 @@ ghost use Rattle.reading.specs.Walks.{RowWithin, RowsReadable, entry_in, united_
 use image::word::{Kind, is_entry, payload_of};
 use row::words::Row;
 use rows::table::row_at;
+use walk::entries::Ended;
 use walk::sequence::{is_check, part_entry, rest_end, word_at};
 
 // A block of facts: its number, and the column of those of its facts that there are.
@@ -20,11 +21,7 @@ pub struct Block {
 }
 
 // The row of an alternative, and the index at which the walk over its entries ended: that of the first dead one, or of the word after them.
-#[derive(Clone, Copy)]
-pub struct Read {
-    pub row: Row,
-    pub ended: usize,
-}
+pub type Read = Ended<Row>;
 
 // What the words of the sequences are read by: a block of facts, the rows of its steps, and the table of the rows found so far.
 #[derive(Clone, Copy)]
@@ -75,23 +72,26 @@ impl<'a> Reader<'a> {
         for i in at..self.part.len() {
             let w = self.part[i];
             if !part_entry(w) {
-                return Read { row, ended: i };
+                return Ended {
+                    value: row,
+                    ended: i,
+                };
             }
             if is_check(w) {
                 row = row.joined(Row::of_check(self.block.number, payload_of(w)));
             } else {
                 let named = self.named_row(w);
                 if named.run == 0 {
-                    return Read {
-                        row: Row::default(),
+                    return Ended {
+                        value: Row::default(),
                         ended: i,
                     };
                 }
                 row = row.joined(named);
             }
         }
-        Read {
-            row,
+        Ended {
+            value: row,
             ended: self.part.len(),
         }
     }
@@ -114,7 +114,7 @@ impl<'a> Reader<'a> {
                 return row;
             } else if is_entry(word_at(self.part, i)) {
                 let read = self.read_alternative(i);
-                row = row.united(read.row);
+                row = row.united(read.value);
                 i = read.ended;
             } else {
                 row = row.united(Row::start(self.block.all));

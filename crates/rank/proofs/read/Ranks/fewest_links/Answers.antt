@@ -11,7 +11,7 @@ use Rattle.rank.proofs.read.Ranks.fewest_links.Goals.{After-walk_entries-walk}
 
 read : (c : After-walk_entries-walk) → let T = c.args.self.now in
     Ended T.part.now (beside T.q.none T.ahead.now T.behind.now T.ranks.now c.args.first) (fewest_after T.q.none T.ahead.now T.behind.now T.ranks.now)
-    (lost_in T.q.none T.ahead.now T.behind.now T.ranks.now) (record { best = T.q.none; floor = 0 }) c.args.at c.walk_entries-walk.result.known c.walk_entries-walk.result.ended
+    (lost_in T.q.none T.ahead.now T.behind.now T.ranks.now) (record { best = T.q.none; floor = 0 }) c.args.at c.walk_entries-walk.result.value c.walk_entries-walk.result.ended
 read c =
     let T = c.args.self.now in
     let none = T.q.none in

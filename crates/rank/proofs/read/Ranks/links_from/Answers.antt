@@ -9,7 +9,7 @@ use Rattle.rank.proofs.read.Ranks.links_from.Goals.{After-walk_entries-walk}
 
 read : (c : After-walk_entries-walk) → let T = c.args.self.now in
     AlternativeRanked (fewest_after T.q.none T.ahead.now T.behind.now T.ranks.now c.args.seen) (lost_in T.q.none T.ahead.now T.behind.now T.ranks.now) T.part.now c.args.at
-    (record { value = best_or T.q.none c.walk_entries-walk.result.known; ended = c.walk_entries-walk.result.ended })
+    (record { value = best_or T.q.none c.walk_entries-walk.result.value; ended = c.walk_entries-walk.result.ended })
 read c =
     let T = c.args.self.now in
     let none = T.q.none in

@@ -1,11 +1,11 @@
--- `rank::entries::walk_entries` meets its contract: what the walk comes to from here on, it comes to from its start on.
+-- `walk::entries::walk_entries` meets its contract: what the walk comes to from here on, it comes to from its start on.
 -- Assumes nothing.
 use Rattle.std.proofs.Common.{refl, sym, ◌∙◌, arith}
 use lib.ListN.{get_or-eq_default}
 use mathlib.Core.Path.{ap}
 use Rattle.image.specs.Word.{is_entry}
-use Rattle.rank.specs.Entries.{out, left, on}
-use Rattle.rank.proofs.entries.walk_entries.Goals as goal
+use Rattle.walk.specs.Entries.{out, left, on}
+use Rattle.walk.proofs.entries.walk_entries.Goals as goal
 
 pub returns-then-not-part_entry : goal.returns-then-not-part_entry
 returns-then-not-part_entry g c = c.loop-i.invariant _ _ (out (sym c.part_entry.ensures ∙ c.if-not-part_entry.true) refl refl)

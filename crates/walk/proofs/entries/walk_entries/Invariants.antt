@@ -1,8 +1,8 @@
--- `rank::entries::walk_entries` meets its contract: what the walk comes to from here on, it comes to from its start on.
+-- `walk::entries::walk_entries` meets its contract: what the walk comes to from here on, it comes to from its start on.
 -- Assumes nothing.
 use Rattle.std.proofs.Common.{ℕ, Result}
-use Rattle.rank.specs.Entries.{Walked}
-use Rattle.rank.proofs.entries.walk_entries.Given as goal
+use Rattle.walk.specs.Entries.{Walked}
+use Rattle.walk.proofs.entries.walk_entries.Given as goal
 
 abbrev pub invariant-loop-i : goal.invariant-loop-i
 invariant-loop-i g l =
