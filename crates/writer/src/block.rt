@@ -1,5 +1,6 @@
 // The card writer: a block of 64 facts written into the cards of an area, word by word. A block is a plain number whose bound is in the contracts: it
-// is an index of a column's words.
+// is an index of a column's words, and a type of it would be turned into that index at each use. Places in a card and in the area are worked out: of
+// what is written through the parts that `chunks_mut` and the like lend only the length is known afterwards.
 ghost use Rattle.std.specs.Prelude.{◌≡◌, ◌*◌, ◌<◌, ◌≤◌, ◌++◌, length, drop, replicate};
 ghost use Rattle.cards.specs.Layout.{column_words, card_words};
 ghost use Rattle.row.specs.Words.{row_words, words_of};
