@@ -1,6 +1,8 @@
 -- What follows for each of four words.
 -- Assumes nothing.
-use Rattle.std.proofs.Common.{◌≡◌, ℕ, ◌+◌, ◌-◌, ◌<◌, ◌≤◌, List, ◌++◌, length, get_or, drop, sym, ap, ◌∙◌, subst, arith, length-append, length-drop}
+use Rattle.std.proofs.Common.{◌≡◌, ℕ, ◌+◌, ◌-◌, ◌<◌, ◌≤◌, List, ◌++◌, length, get_or, drop, refl, sym, ap, ◌∙◌, subst, arith, length-append, length-drop}
+use native.Mathlib.Nat.{eq-or-lt_of_le}
+use mathlib.Core.Logic.{⊎_elim}
 use lib.ListN.{get_or-append, take}
 use Rattle.std.proofs.lemmas.List.{get_or-append_right, get_or-take, length-take-le, take-take}
 use lib.Seq.{get_or-drop, drop-drop, drop-append_seam, take-append_seam}
@@ -67,3 +69,16 @@ module _ (ws four next : List ℕ) (i : ℕ) (within : i ≤ length ws) (cut : t
         third = subst P (last_word 2 (omega arith)) all.third;
         fourth = subst P (last_word 3 (omega arith)) all.fourth;
       }
+
+-- the words below an index, and four more
+module _ (P : ℕ → Type 0) (ws : List ℕ) where
+  pub below_one : (n j : ℕ) → n + 1 ≡ j → ((i : ℕ) → i < n → P (get_or ws i 0)) → P (get_or ws n 0) → (i : ℕ) → i < j → P (get_or ws i 0)
+  below_one n j e below p i l =
+      ⊎_elim (λ (same : i ≡ n). subst (λ (k : ℕ). P (get_or ws k 0)) (sym same) p) (λ lt. below i lt) (eq-or-lt_of_le (omega arith))
+
+  pub below_four : (n : ℕ) → ((i : ℕ) → i < n → P (get_or ws i 0)) → AllFour P ws n → (i : ℕ) → i < n + 4 → P (get_or ws i 0)
+  below_four n below all =
+      below_one (n + 3) (n + 4) (omega arith)
+      (below_one (n + 2) (n + 3) (omega arith)
+      (below_one (n + 1) (n + 2) (omega arith)
+      (below_one n (n + 1) refl below all.first) all.second) all.third) all.fourth

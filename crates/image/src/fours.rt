@@ -1,6 +1,8 @@
 // Words looked at four at a time.
-ghost use Rattle.std.specs.Prelude.{◌≡◌, ℕ, true, false, ◌+◌, ◌≤◌, length, get_or};
+ghost use Rattle.std.specs.Prelude.{◌≡◌, ℕ, true, false, ◌+◌, ◌<◌, ◌≤◌, length, get_or};
 ghost use Rattle.image.specs.Fours.{AllFour, SomeOfFour};
+
+use crate::word::AT_ONCE;
 
 // Whether each of the four words from index `at` on passes a test. All four are tested, with no way out between them, so that it compiles to
 // vector code.
@@ -15,4 +17,20 @@ pub fn all_four<F: Fn(u32) -> bool>(words: &[u32], at: usize, test: F) -> bool
     let c = test(words[at + 2]);
     let d = test(words[at + 3]);
     a & b & c & d
+}
+
+// How many words stand in the fours at the front that pass a test, each word of them.
+pub fn fours_ahead<F: Fn(u32) -> bool>(words: &[u32], test: F) -> usize
+    requires callable { F.IsAlwaysCallable test }
+    ensures within { result ≤ length words.now }
+    ensures pass { (i : ℕ) → i < result → F.post test (get_or words.now i 0) true }
+{
+    let mut passed = 0;
+    for four in words.chunks_exact(AT_ONCE) {
+        if !all_four(four, 0, &test) {
+            break;
+        }
+        passed += AT_ONCE;
+    }
+    passed
 }

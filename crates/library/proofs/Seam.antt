@@ -1,17 +1,17 @@
 -- Where the two parts of the words between head and sum word meet, and a loop that looks for it.
 -- Assumes nothing.
-use Prim.Native.Nat.{ℕ, suc, ◌+◌, ◌-◌, ◌≤◌, ◌<◌}
+use Prim.Native.Nat.{ℕ, zero, suc, ◌+◌, ◌-◌, ◌≤◌, ◌<◌}
 use native.Mathlib.Omega.{arith}
 use native.Mathlib.Numerals.{add-one}
 use mathlib.Core.Path.{◌≡◌, refl, sym, ap, ◌∙◌, subst}
-use mathlib.Core.Bool.{Bool, true, false, cond}
+use mathlib.Core.Bool.{Bool, true, false, cond, not, false≢true}
 use mathlib.Core.List.{List, [], ◌∷◌}
 use lib.ListN.{length, get_or, take, drop, length-append, length-take, length-drop}
 use lib.Seq.{drop-cons, drop-length, take-append_seam, drop-append_seam}
 use Rattle.image.specs.Word.{is_kind}
 use Rattle.rules.specs.Checked.{between}
 use Rattle.library.specs.Library.{before_sequences, from_sequences, steps_part, sequences_part}
-use Rattle.library.specs.Seam.{Passed, NoneOpens}
+use Rattle.library.specs.Seam.{Passed}
 use Rattle.general.proofs.Numbers.{whole_rest}
 use Rattle.library.proofs.Decode.{parts_joined}
 
@@ -47,14 +47,14 @@ module _ (ws : List ℕ) (i : ℕ) (l : i < length ws) (passed : Passed ws i) wh
             (omega (arith, passed.before, ap (λ (x : List ℕ). length (before_sequences x)) (drop-cons ws i 0 l), ap length (before_cons (get_or ws i 0) (drop (suc i) ws) false e)));
       }
 
-pub passed_four : (ws : List ℕ) (i : ℕ) → i + 4 ≤ length ws → NoneOpens ws i → Passed ws i → Passed ws (i + 4)
-passed_four ws i l none passed =
-    let next : (j k : ℕ) → j < length ws → j + 1 ≡ k → is_kind 6 (get_or ws j 0) ≡ false → Passed ws j → Passed ws k
-    = λ j k lt e shut p. subst (Passed ws) e (passed_turn ws j lt p shut) in
-    next (i + 3) (i + 4) (omega arith) (omega arith) none.fourth
-    (next (i + 2) (i + 3) (omega arith) (omega arith) none.third
-    (next (i + 1) (i + 2) (omega arith) (omega arith) none.second
-    (next i (i + 1) (omega arith) refl none.first passed)))
+pub not_true : (b : Bool) → not b ≡ true → b ≡ false
+not_true false e = refl
+not_true true e = absurd (false≢true e)
+
+pub passed_below : (ws : List ℕ) (n : ℕ) → n ≤ length ws → ((i : ℕ) → i < n → is_kind 6 (get_or ws i 0) ≡ false) → Passed ws n
+passed_below ws zero l shut = passed_start ws
+passed_below ws (suc n) l shut =
+    subst (Passed ws) (add-one n) (passed_turn ws n (omega arith) (passed_below ws n (omega arith) (λ i lt. shut i (omega arith))) (shut n (omega arith)))
 
 pub passed_end : (ws : List ℕ) (i : ℕ) → i ≡ length ws → Passed ws i → i ≡ length (before_sequences ws)
 unfolding before_sequences

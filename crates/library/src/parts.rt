@@ -1,40 +1,34 @@
 // The two parts of an accepted image: the steps' part and the sequences' part, each a slice that begins where they begin.
-ghost use Rattle.std.specs.Prelude.{◌≡◌, true, ◌+◌, ◌≤◌, length};
+ghost use Rattle.std.specs.Prelude.{◌≡◌, true, not, ◌+◌, ◌≤◌, length};
+ghost use Rattle.image.specs.Word.{is_kind};
 ghost use Rattle.rules.specs.Checked.{between};
 ghost use Rattle.library.specs.Library.{before_sequences, steps_part, sequences_part};
-ghost use Rattle.library.specs.Seam.{Passed, NoneOpens};
+ghost use Rattle.library.specs.Seam.{NoneOpens};
 
-use image::fours::all_four;
-use image::word::{AT_ONCE, Kind};
+use image::fours::{all_four, fours_ahead};
+use image::word::Kind;
+
+// Whether a word opens no sequence.
+fn opens_none(w: u32) -> bool
+    ensures { result ≡ not (is_kind 6 w) }
+{
+    !Kind::Sequence.is_of(w)
+}
 
 // Whether none of the four words from index `at` on opens a sequence.
 pub fn none_opens(words: &[u32], at: usize) -> bool
     requires { at + 4 ≤ length words.now }
     ensures { result ≡ true → NoneOpens words.now at }
 {
-    all_four(words, at, |w| !Kind::Sequence.is_of(w))
+    all_four(words, at, opens_none)
 }
 
-// Passes words by fours, none of which opens a sequence.
-fn pass_fours(words: &[u32]) -> usize
-    ensures { Passed words.now result }
-{
-    let mut passed = 0;
-    for four in words.chunks_exact(AT_ONCE) {
-        if !none_opens(four, 0) {
-            break;
-        }
-        passed += AT_ONCE;
-    }
-    passed
-}
-
-// How many words stand before the first sequence.
+// How many words stand before the first sequence. By fours, and then one by one.
 fn first_sequence(words: &[u32]) -> usize
     ensures at { result ≡ length (before_sequences words.now) }
     ensures within { result ≤ length words.now }
 {
-    for i in pass_fours(words)..words.len() {
+    for i in fours_ahead(words, opens_none)..words.len() {
         if Kind::Sequence.is_of(words[i]) {
             return i;
         }

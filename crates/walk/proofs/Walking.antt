@@ -11,12 +11,11 @@ use mathlib.Core.Path.{◌≡◌, refl, sym, ap, ap₂, ◌∙◌}
 use mathlib.Core.Bool.{Bool, true, false, cond, false≢true}
 use mathlib.Core.List.{List, [], ◌∷◌}
 use lib.ListN.{length, get_or, drop, length-drop, drop_of_length-le, get_or-eq_default}
-use lib.Seq.{drop-cons, drop-nil, drop-drop}
+use lib.Seq.{drop-cons, drop-nil, drop-drop, get_or-drop}
 use Rattle.std.specs.List.{take_while}
 use Rattle.std.proofs.lemmas.List.Sums.{take_while-cons}
 use Rattle.general.specs.Scan.{first_index}
 use Rattle.general.proofs.Scan.{first_le}
-use Rattle.image.specs.Fours.{AllFour}
 use Rattle.image.specs.Word.{is_kind, is_entry}
 use Rattle.library.specs.Library.{Entry, entry_of, Alternative, entry_at, entries_from, alternatives_from}
 use Rattle.walk.specs.Walk.{entries_end, walk_end}
@@ -169,23 +168,13 @@ entries_long (w ∷ ws) = go (is_entry w) (entries_long ws) ∙ ap length (sym (
     go true rest = ap (λ (n : ℕ). suc n) rest
     go false rest = refl
 
--- the words from index `at` up to i are entries, passed by fours
-pub record EntriesPassed (part : List ℕ) (at i : ℕ) : Type 0 where
-  pub within : i ≤ length part
-  pub ends : entries_end part i ≡ entries_end part at
-
-pub passed_start : {part : List ℕ} {at : ℕ} → at ≤ length part → EntriesPassed part at at
-passed_start l = record { within = l; ends = refl }
-
-pub passed_four : {part : List ℕ} {at i : ℕ} → EntriesPassed part at i → i + 4 ≤ length part → AllFour (λ w. is_entry w ≡ true) part i
-    → EntriesPassed part at (i + 4)
-passed_four {part} {at} {i} here room all =
-    record {
-      within = room;
-      ends =
-          end_next part (i + 3) all.fourth (i + 4) (omega arith) ∙ end_next part (i + 2) all.third (i + 3) (omega arith)
-          ∙ end_next part (i + 1) all.second (i + 2) (omega arith) ∙ end_next part i all.first (i + 1) refl ∙ here.ends;
-    }
+-- the n words from index `at` on are entries
+pub passed_below : (part : List ℕ) (at n : ℕ) → ((i : ℕ) → i < n → is_entry (get_or (drop at part) i 0) ≡ true)
+    → entries_end part (at + n) ≡ entries_end part at
+passed_below part at zero each = ap (entries_end part) (omega arith)
+passed_below part at (suc n) each =
+    end_next part (at + n) (ap is_entry (sym (get_or-drop at part n 0)) ∙ each n (omega arith)) (at + suc n) (omega arith)
+    ∙ passed_below part at n (λ i l. each i (omega arith))
 
 -- ---- a loop over the entries of an alternative, which stand from index `at` on
 

@@ -6,8 +6,8 @@ ghost use Rattle.image.specs.Word.{most_words, is_kind, is_entry};
 ghost use Rattle.library.specs.Accepted.{HighEntry};
 ghost use Rattle.walk.specs.Walk.{entries_end, AllBefore, opener_before};
 
-use image::fours::all_four;
-use image::word::{AT_ONCE, Kind, is_entry, kind_of};
+use image::fours::fours_ahead;
+use image::word::{Kind, is_entry, kind_of};
 
 // How many alternatives a sequence has, and the index of the last one's opener.
 #[derive(Clone, Copy)]
@@ -59,14 +59,7 @@ pub fn rest_end(part: &[u32], at: usize) -> usize
     requires { at ≤ length part.now }
     ensures { result ≡ entries_end part.now at }
 {
-    let mut end = at;
-    for four in part[at..].chunks_exact(AT_ONCE) {
-        if !all_four(four, 0, is_entry) {
-            break;
-        }
-        end += AT_ONCE;
-    }
-    entries_end(part, end)
+    entries_end(part, at + fours_ahead(&part[at..], is_entry))
 }
 
 // The value where the test holds, otherwise the other one. No way out and no work in either, so that it compiles to no branch.
