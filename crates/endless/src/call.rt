@@ -27,7 +27,8 @@ fn list_reached(
     ensures { Explains (library_of accepted.now.image.now) c area.old result area.new }
 {
     let n = accepted.head.sequences as usize;
-    let reached = reach(accepted.sequences_part(), places, runs, n, c);
+    let mut queue = [0usize; MOST_PLACES];
+    let reached = reach(accepted.sequences_part(), places, runs, &mut queue, n, c);
     if area.len() < reached.count {
         return Err(Refusal::ListArea);
     }

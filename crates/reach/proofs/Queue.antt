@@ -13,7 +13,6 @@ use lib.Seq.{get_or-set_same, get_or-set_other}
 use borrow.Author.Tests.{eqb-true, eqb-false, eq-eqb, ne_eqb}
 use Rattle.general.specs.Numbers.{Zeros}
 use Rattle.general.proofs.Numbers.{zeros}
-use Rattle.std.proofs.Common.{replicate}
 use Rattle.general.proofs.Bools.{or_cases, nor_left, nor_right}
 use Rattle.general.proofs.Scan.{count_passing, count_all, count_none, count_one}
 use Rattle.general.proofs.Rising.{passing_length, passing_short}
@@ -86,10 +85,10 @@ module _ {n : ℕ} {found queue : List ℕ} {count : ℕ} (here : Queued n found
 
 -- sequence c alone is found
 module _ (n c : ℕ) (few : n ≤ 256) (low : c < n) where
-  pub queued_one : Queued n (with_member no_sequences c) (replicate 256 c) 1
-  queued_one =
+  pub queued_one : (queue : List ℕ) → n ≤ length queue → Queued n (with_member no_sequences c) (set queue 0 c) 1
+  queued_one queue room =
       let blank = zeros 4 in
-      queued_more (queued_none n no_sequences (replicate 256 c) few refl few blank) c low (none_member no_sequences blank c)
+      queued_more (queued_none n no_sequences queue few refl room blank) c low (none_member no_sequences blank c)
 
   pub one_found : (e : ℕ) → in_set (with_member no_sequences c) e ≡ eqb e c
   one_found e =
@@ -129,20 +128,20 @@ module _ (before : Reached) (d : ℕ) where
     out = nor_right (in_set before.runs.now d) (in_set before.set d) new
 
     -- it is new, and there is room for it
-    pub new_room : before.count < length before.queue
+    pub new_room : before.count < length before.queue.now
     new_room = queue_room before.queued d low out
 
-    pub new_queued : Queued before.n (with_member before.set d) (set before.queue before.count d) (before.count + 1)
+    pub new_queued : Queued before.n (with_member before.set d) (set before.queue.now before.count d) (before.count + 1)
     new_queued = queued_more before.queued d low out
 
     pub noted_new : (after : Reached) → after.runs.now ≡ before.runs.now → after.n ≡ before.n → after.set ≡ with_member before.set d
-        → after.queue ≡ set before.queue before.count d → after.count ≡ before.count + 1 → Noted (λ e. eqb d e) before after
+        → after.queue.now ≡ set before.queue.now before.count d → after.count ≡ before.count + 1 → Noted (λ e. eqb d e) before after
     noted_new after runs bound members queue count =
         record {
           runs_same = runs;
           bound = bound;
           same = λ e. ap (λ (s : List ℕ). in_set s e) members ∙ go e (eqb d e) refl;
-          kept = λ j l. ap (λ (q : List ℕ). get_or q j 0) queue ∙ get_or-set_other before.queue before.count j d 0 (λ q. omega arith);
+          kept = λ j l. ap (λ (q : List ℕ). get_or q j 0) queue ∙ get_or-set_other before.queue.now before.count j d 0 (λ q. omega arith);
           more = omega arith;
         }
       where
@@ -165,7 +164,7 @@ pub record Noting (part : List ℕ) (at : ℕ) (before here : Reached) (i : ℕ)
   pub bound : here.n ≡ before.n
   pub same : (e : ℕ) → (in_set here.set e || (calls_left part i e && not (in_set before.runs.now e)))
       ≡ (in_set before.set e || (calls_of (alternatives_from (drop at part)) e && not (in_set before.runs.now e)))
-  pub kept : (j : ℕ) → j < before.count → get_or here.queue j 0 ≡ get_or before.queue j 0
+  pub kept : (j : ℕ) → j < before.count → get_or here.queue.now j 0 ≡ get_or before.queue.now j 0
   pub more : before.count ≤ here.count
 
 pub noting_start : (part : List ℕ) (at : ℕ) (before : Reached) (i : ℕ)

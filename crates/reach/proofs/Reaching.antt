@@ -26,7 +26,7 @@ pub record Reaching (n : ℕ) (part places runs : List ℕ) (c : ℕ) (found : R
   pub bound : found.n ≡ n
   pub asked : in_set found.set c ≡ true
   pub sound : (e : ℕ) → in_set found.set e ≡ true → FromAsked part places runs c e
-  pub walked : (j e : ℕ) → j < done → calls part places (get_or found.queue j 0) e ≡ true → in_set runs e ≡ false → in_set found.set e ≡ true
+  pub walked : (j e : ℕ) → j < done → calls part places (get_or found.queue.now j 0) e ≡ true → in_set runs e ≡ false → in_set found.set e ≡ true
 
 -- the asked one alone is found
 pub reaching_start : {n : ℕ} {part places runs : List ℕ} {c : ℕ} {found : Reached} → Alone runs n c found → Reaching n part places runs c found 0
@@ -44,11 +44,11 @@ module _ {n : ℕ} {part places runs : List ℕ} {c : ℕ} {found : Reached} {do
   pub reached_few : found.count ≤ n
   reached_few = omega (arith, queued_few found.queued, here.bound)
 
-  pub reached_low : done < found.count → get_or found.queue done 0 < n
+  pub reached_low : done < found.count → get_or found.queue.now done 0 < n
   reached_low l = let queued = found.queued in omega (arith, queued.low _ (queued.members done l), here.bound)
 
   -- the next of the queue
-  pub reaching_turn : done < found.count → (after : Reached) → Noted (calls_of (alternatives_at part places (get_or found.queue done 0))) found after
+  pub reaching_turn : done < found.count → (after : Reached) → Noted (calls_of (alternatives_at part places (get_or found.queue.now done 0))) found after
       → Reaching n part places runs c after (done + 1)
   reaching_turn l after noted =
       record {
@@ -64,7 +64,7 @@ module _ {n : ℕ} {part places runs : List ℕ} {c : ℕ} {found : Reached} {do
         walked = λ j e k called none.
             elim (ℕ_discrete j done) [
               | yes now ↦
-                  let at : get_or after.queue j 0 ≡ d = noted.kept j (omega arith) ∙ ap (λ (m : ℕ). get_or found.queue m 0) now in
+                  let at : get_or after.queue.now j 0 ≡ d = noted.kept j (omega arith) ∙ ap (λ (m : ℕ). get_or found.queue.now m 0) now in
                   same e
                   ∙ or_right (in_set found.set e) (calls part places d e && not (in_set runs e))
                   (ap₂ (λ (x y : Bool). x && not y) (sym (ap (λ (b : ℕ). calls part places b e) at) ∙ called) none)
@@ -73,7 +73,7 @@ module _ {n : ℕ} {part places runs : List ℕ} {c : ℕ} {found : Reached} {do
       }
     where
       d : ℕ
-      d = get_or found.queue done 0
+      d = get_or found.queue.now done 0
 
       same : (e : ℕ) → in_set after.set e ≡ (in_set found.set e || (calls part places d e && not (in_set runs e)))
       same e =

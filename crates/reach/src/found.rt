@@ -8,38 +8,35 @@ ghost use Rattle.reach.specs.Queue.{NamesWithin, ReachAsked, Queued, Found};
 
 use callers::callees::Callees;
 use callers::sets::Set;
-use image::word::MOST_SEQUENCES;
 
-// The most sequences that are found.
-const MOST_FOUND: usize = MOST_SEQUENCES as usize;
-
-// What is found, of the sequences below `n` that are not among `runs`: a set, and its members in the order in which they were found. The queue is an
-// array: the archive takes in no library and no heap, and the array and its count stand in this struct alone, with a ghost field that binds them.
+// What is found, of the sequences below `n` that are not among `runs`: a set, and its members in the order in which they were found. The queue is lent
+// with its count beside it: there is no heap, and an array of so many words would be copied whenever the struct is handed on.
 #[derive(Drop)]
 pub struct Reached<'a> {
     pub runs: &'a Set,
     pub n: usize,
     pub set: Set,
-    pub queue: [usize; MOST_FOUND],
+    pub queue: &'a mut [usize],
     pub count: usize,
-    ghost queued: { Queued n set queue count },
+    ghost queued: { Queued n set queue.now count },
 }
 
 impl<'a> Reached<'a> {
     ghost use Rattle.reach.specs.Found.{Alone, Noted};
 
     // Sequence `c` alone is found.
-    fn only(runs: &'a Set, n: usize, c: usize) -> Reached<'a>
-        requires { (n ≤ most_sequences) × (c < n) }
+    fn only(runs: &'a Set, queue: &'a mut [usize], n: usize, c: usize) -> Reached<'a>
+        requires { (n ≤ most_sequences) × (n ≤ length queue.old) × (c < n) }
         ensures { Alone runs.now n c result }
     {
         let mut set = Set::default();
         set.insert(c);
+        queue[0] = c;
         Reached {
             runs,
             n,
             set,
-            queue: [c; MOST_FOUND],
+            queue,
             count: 1,
         }
     }
@@ -52,8 +49,8 @@ impl<'a> Reached<'a> {
         if self.runs.contains(d) | self.set.contains(d) {
             return;
         }
-        self.set.insert(d);
         self.queue[self.count] = d;
+        self.set.insert(d);
         self.count += 1;
     }
 
@@ -69,11 +66,18 @@ impl<'a> Reached<'a> {
 }
 
 // Finds what sequence `c` reaches, which has no run.
-pub fn reach<'a>(part: &[u32], places: &[u32], runs: &'a Set, n: usize, c: usize) -> Reached<'a>
-    requires { ReachAsked n part.now places.now runs.now × (c < n) }
+pub fn reach<'a>(
+    part: &[u32],
+    places: &[u32],
+    runs: &'a Set,
+    queue: &'a mut [usize],
+    n: usize,
+    c: usize,
+) -> Reached<'a>
+    requires { ReachAsked n part.now places.now runs.now × (n ≤ length queue.old) × (c < n) }
     ensures { Found n part.now places.now runs.now c result.set result.count }
 {
-    let mut reached = Reached::only(runs, n, c);
+    let mut reached = Reached::only(runs, queue, n, c);
     let mut done = 0;
     // The queue grows while it is gone through.
     while done < reached.count {
