@@ -17,7 +17,7 @@ pub struct Callees<'a> {
 
 // Whether a word that is no call belongs to the sequence: an alternative's opener, a step or a check. It is one test, since these follow each
 // other in no order that processors could guess.
-fn goes_on(w: u32) -> bool
+pub fn goes_on(w: u32) -> bool
     ensures { result ≡ (is_kind 7 w || is_kind 8 w || is_kind 13 w) }
 {
     Kind::Alternative.is_of(w) | Kind::StepEntry.is_of(w) | Kind::Check.is_of(w)

@@ -34,6 +34,23 @@ impl Model for Set {
     ghost inverse = { λ v. record { words = v } };
 }
 
+// Any four words are a set, and a set gives them back.
+impl From<[u64; SET_WORDS]> for Set {
+    ghost from_gives = { λ words set. set ≡ words };
+
+    fn from(words: [u64; SET_WORDS]) -> Set {
+        Set { words }
+    }
+}
+
+impl From<Set> for [u64; SET_WORDS] {
+    ghost from_gives = { λ set words. words ≡ set };
+
+    fn from(set: Set) -> [u64; SET_WORDS] {
+        set.words
+    }
+}
+
 impl Default for Set {
     // No sequence is in it.
     fn default() -> Set

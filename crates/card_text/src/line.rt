@@ -41,7 +41,7 @@ fn put_low(text: &mut Text, words: &[u64])
     ensures { Put text.old (digits_below words.now (length words.now)) text.new }
 {
     for w in words {
-        text.put_digits::<HEXADECIMAL>(WORD_DIGITS, *w);
+        text.put_digits(HEXADECIMAL, WORD_DIGITS, *w);
     }
 }
 
@@ -52,7 +52,7 @@ fn put_number(text: &mut Text, words: &[u64])
 {
     let top = highest(words);
     put_low(text, &words[..top]);
-    text.put_numeral::<HEXADECIMAL>(words[top]);
+    text.put_numeral(HEXADECIMAL, words[top]);
     text.put_byte(b' ');
 }
 
@@ -76,7 +76,7 @@ pub fn put_line(text: &mut Text, sequence: u32, cards: &[u64])
 {
     text.put_byte(b'\n');
     put_numbers(text, sequence as usize, cards);
-    text.put_numeral::<DECIMAL>(u64::from(sequence));
+    text.put_numeral(DECIMAL, u64::from(sequence));
 }
 
 // Puts the lines of the first `n` sequences, whose cards stand one after the other, in front of the text.
@@ -95,8 +95,8 @@ pub fn put_refusal(text: &mut Text, number: u64, position: u64)
     ensures { Put text.old (refusal_line number position) text.new }
 {
     text.put_byte(b'\n');
-    text.put_numeral::<DECIMAL>(position);
+    text.put_numeral(DECIMAL, position);
     text.put_bytes(b" at ");
-    text.put_numeral::<DECIMAL>(number);
+    text.put_numeral(DECIMAL, number);
     text.put_bytes(b"refused ");
 }

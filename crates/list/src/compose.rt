@@ -60,9 +60,10 @@ fn kept_row(x: Row, all: u64) -> Row
     }
 }
 
-// Writes a block of a card, by its row, of the facts in `all`. The flags are those of the row where `all` is empty too.
-fn write_row(x: Row, all: u64, block: u32, card: &mut [u64; CARD_WORDS])
-    requires { block < column_words }
+// Writes a block of a card, by its row, of the facts in `all`. A card is a slice here, with its length in the contracts, so that a caller can lend a part
+// of an area. The flags are those of the row where `all` is empty too.
+fn write_row(x: Row, all: u64, block: u32, card: &mut [u64])
+    requires { (length card.old ≡ card_words) × (block < column_words) }
     ensures { card.new ≡ with_block block (row_written x all) card.old }
 {
     let kept = kept_row(x, all);
@@ -93,8 +94,8 @@ impl<'a> Members<'a> {
     }
 
     // Adds a block to the card of the list. Where a member has no run the card stays.
-    fn add_block(&self, facts: u64, block: u32, card: &mut [u64; CARD_WORDS])
-        requires { block < column_words }
+    fn add_block(&self, facts: u64, block: u32, card: &mut [u64])
+        requires { (length card.old ≡ card_words) × (block < column_words) }
         ensures { card.new ≡ row_added facts block (list_row self.now.cards.now block self.now.list.now) card.old }
     {
         let x = self.row(block);
@@ -104,7 +105,8 @@ impl<'a> Members<'a> {
     }
 
     // Writes the card of the list: blank where a member has no run. The first block is written for the flags, and each other that has facts.
-    pub fn compose(&self, facts: u64, card: &mut [u64; CARD_WORDS])
+    pub fn compose(&self, facts: u64, card: &mut [u64])
+        requires { length card.old ≡ card_words }
         ensures { card.new ≡ list_card facts self.now.cards.now self.now.list.now }
     {
         let blocks = facts

@@ -132,6 +132,15 @@ module _ (none : ℕ) (ahead behind ranks : List ℕ) where
       let lost : lost_in none ahead behind ranks e ≡ true = ap not fails in
       (lost, fewest_lost none (rank_in none none ranks) (pass_in none ahead) (pass_in none behind) x.floor x.best e es lost)
 
+  -- with one entry more that is not dead, with which the positions come to y
+  pub links_turn : (x y : Positions) (e : Entry) (es : List Entry) → lost_in none ahead behind ranks e ≡ false
+      → (y.best ≡ min (cond (pass_in none behind e) x.best none) (max (rank_in none none ranks e) x.floor)) × (y.floor ≡ cond (pass_in none ahead e) x.floor none)
+      → fewest_after none ahead behind ranks x (e ∷ es) ≡ fewest_after none ahead behind ranks y es
+  unfolding fewest_from
+  links_turn x y e es alive more =
+      sym
+      (ap₂ (λ (floor best : ℕ). fewest_from none (rank_in none none ranks) (pass_in none ahead) (pass_in none behind) floor best es) more.1 more.0)
+
   pub links_out : (x : Positions) → fewest_after none ahead behind ranks x [] ≡ x.best
   unfolding fewest_from
   links_out x = refl

@@ -1,5 +1,5 @@
 // Turns: which stale number is visited next, in an order and against it in turn, and what is stale after its visit.
-ghost use Rattle.std.specs.Prelude.{◌+◌, ◌*◌, ◌≤◌, ◌<◌, ◌≡◌, length};
+ghost use Rattle.std.specs.Prelude.{false, ◌+◌, ◌*◌, ◌≤◌, ◌<◌, ◌≡◌, length};
 ghost use Rattle.image.specs.Word.{most_sequences};
 ghost use Rattle.general.specs.Numbers.{Complete};
 ghost use Rattle.callers.specs.Callers.{set_words};
@@ -28,7 +28,9 @@ pub fn place_of(forward: bool, len: usize, i: usize) -> usize
 
 impl Turns {
     // The first turn after all numbers were visited in the order: against it.
-    pub fn after_all() -> Turns {
+    pub fn after_all() -> Turns
+        ensures { (result.place ≡ 0) × (result.forward ≡ false) }
+    {
         Turns {
             place: 0,
             forward: false,

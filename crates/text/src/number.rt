@@ -28,36 +28,36 @@ fn digit_of(d: u64) -> u8
 
 impl Text<'_> {
     // Puts the last digit of `n` in front of the text, and answers the number that the digits before it are.
-    fn put_last_digit<const BASE: u64>(&mut self, n: u64) -> u64
-        requires { DigitsAsked self.old BASE 1 }
-        ensures put { Put self.old (digit (n % BASE) ∷ []) self.new }
-        ensures rest { result ≡ n / BASE }
+    fn put_last_digit(&mut self, base: u64, n: u64) -> u64
+        requires { DigitsAsked self.old base 1 }
+        ensures put { Put self.old (digit (n % base) ∷ []) self.new }
+        ensures rest { result ≡ n / base }
     {
-        self.put_byte(digit_of(n % BASE));
-        n / BASE
+        self.put_byte(digit_of(n % base));
+        n / base
     }
 
     // Puts the numeral of `n` in front of the text.
-    pub fn put_numeral<const BASE: u64>(&mut self, n: u64)
-        requires { DigitsAsked self.old BASE (length (numeral BASE n)) }
-        ensures { Put self.old (numeral BASE n) self.new }
+    pub fn put_numeral(&mut self, base: u64, n: u64)
+        requires { DigitsAsked self.old base (length (numeral base n)) }
+        ensures { Put self.old (numeral base n) self.new }
     {
         let mut rest = n;
         // No `for`: how many digits a number has is seen as they go.
-        while BASE <= rest {
-            rest = self.put_last_digit::<BASE>(rest);
+        while base <= rest {
+            rest = self.put_last_digit(base, rest);
         }
-        self.put_last_digit::<BASE>(rest);
+        self.put_last_digit(base, rest);
     }
 
     // Puts the last `count` digits of `n` in front of the text, zeros too.
-    pub fn put_digits<const BASE: u64>(&mut self, count: usize, n: u64)
-        requires { DigitsAsked self.old BASE count }
-        ensures { Put self.old (digits_in BASE count n) self.new }
+    pub fn put_digits(&mut self, base: u64, count: usize, n: u64)
+        requires { DigitsAsked self.old base count }
+        ensures { Put self.old (digits_in base count n) self.new }
     {
         let mut rest = n;
         for _ in 0..count {
-            rest = self.put_last_digit::<BASE>(rest);
+            rest = self.put_last_digit(base, rest);
         }
     }
 }

@@ -8,11 +8,11 @@ use Rattle.text.specs.Text.{Put}
 use Rattle.text.proofs.area.Text.put_digits.Goals as goal
 
 pub loop-preserved : goal.loop-preserved
-loop-preserved g c =
+loop-preserved c =
     (omega (arith, c.put_last_digit-rest.ensures.put.front.room), λ after p. c.loop.invariant.1 after (put_digit_more _ _ _ _ _ _ _ _ (omega arith) c.put_last_digit-rest.ensures.put c.put_last_digit-rest.ensures.rest p))
 
 pub returns : goal.returns
 unfolding digits_in
-returns g c =
+returns c =
     let none : c.args.count - c.loop.counter ≡ 0 = omega arith in
-    c.loop.invariant.1 _ (subst (λ n. Put c.loop.self (digits_in g.row.BASE n c.loop.rest) c.loop.self) (sym none) (put_none c.loop.self))
+    c.loop.invariant.1 _ (subst (λ n. Put c.loop.self (digits_in c.args.base n c.loop.rest) c.loop.self) (sym none) (put_none c.loop.self))

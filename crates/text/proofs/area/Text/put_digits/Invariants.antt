@@ -7,6 +7,6 @@ use Rattle.text.specs.declared.area.Text.{Text}
 use Rattle.text.proofs.area.Text.put_digits.Given as goal
 
 abbrev pub invariant-loop : goal.invariant-loop
-invariant-loop g l =
+invariant-loop l =
     (l.count ≤ l.self.begin + l.counter)
-    × ((after : Text) → Put l.self (digits_in g.row.BASE (l.count - l.counter) l.rest) after → Put l.initial.self (digits_in g.row.BASE l.count l.n) after)
+    × ((after : Text) → Put l.self (digits_in l.base (l.count - l.counter) l.rest) after → Put l.initial.self (digits_in l.base l.count l.n) after)

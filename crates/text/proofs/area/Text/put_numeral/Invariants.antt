@@ -7,9 +7,9 @@ use Rattle.text.specs.declared.area.Text.{Text}
 use Rattle.text.proofs.area.Text.put_numeral.Given as goal
 
 abbrev pub invariant-loop-rest : goal.invariant-loop-rest
-invariant-loop-rest g l =
-    (length (numeral g.row.BASE l.rest) ≤ l.self.begin)
-    × ((after : Text) → Put l.self (numeral g.row.BASE l.rest) after → Put l.initial.self (numeral g.row.BASE l.n) after)
+invariant-loop-rest l =
+    (length (numeral l.base l.rest) ≤ l.self.begin)
+    × ((after : Text) → Put l.self (numeral l.base l.rest) after → Put l.initial.self (numeral l.base l.n) after)
 
 abbrev pub decreases-loop-rest : goal.decreases-loop-rest
-decreases-loop-rest g l = l.rest
+decreases-loop-rest l = l.rest
