@@ -7,7 +7,9 @@ use Rattle.endless.proofs.Explaining.{reach_asked, reached_listed, explains_shor
 use Rattle.endless.proofs.call.list_reached.Goals as goal
 
 pub reach-reached-requires : goal.reach-reached-requires
-reach-reached-requires c = (reach_asked c.args.accepted.now.accepted c.requires.0 c.sequences_part.ensures, c.requires.1)
+reach-reached-requires c =
+    let a = c.args.accepted.now in
+    (reach_asked a.accepted c.requires.0 c.sequences_part.ensures, few_sequences a.image.now a.head a.accepted, c.requires.1)
 
 pub returns-then-area-reached : goal.returns-then-area-reached
 returns-then-area-reached c =
