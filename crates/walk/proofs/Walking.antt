@@ -159,9 +159,9 @@ module _ (part : List ℕ) (at : ℕ) where
 
 -- as many entries stand at the head of words as words that are entries
 pub entries_long : (ws : List ℕ) → length (entries_from ws) ≡ length (take_while is_entry ws)
-unfolding entries_from
-entries_long [] = refl
-entries_long (w ∷ ws) = go (is_entry w) (entries_long ws) ∙ ap length (sym (take_while-cons is_entry w ws))
+entries_long [] = ap length entries_nil
+entries_long (w ∷ ws) =
+    ap length (entries_cons w ws (is_entry w) refl) ∙ go (is_entry w) (entries_long ws) ∙ ap length (sym (take_while-cons is_entry w ws))
   where
     go : (b : Bool) → length (entries_from ws) ≡ length (take_while is_entry ws)
         → length (cond b (entry_of w ∷ entries_from ws) []) ≡ length (cond b (w ∷ take_while is_entry ws) [])
