@@ -11,8 +11,8 @@ use callers::sets::Set;
 // Where the turns stand: the place from which the next stale number is looked for, and whether the order is gone through first to last.
 #[derive(Clone, Copy)]
 pub struct Turns {
-    place: usize,
-    forward: bool,
+    pub place: usize,
+    pub forward: bool,
 }
 
 // The place in an order of `len` numbers that comes at turn `i`: first to last, or last to first.

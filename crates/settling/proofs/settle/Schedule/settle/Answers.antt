@@ -14,15 +14,15 @@ pub visit-requires : goal.visit-requires
 visit-requires g c =
     (c.requires.0.kept _ (swept_twice c.requires.0.lowers c.sweep.ensures c.loop-c.invariant), c.in-Some.ensures.0, c.requires.1.few, c.requires.1.room)
 
-pub loop-c-smaller : goal.loop-c-smaller
-loop-c-smaller g c =
-    settling_less _ c.loop-c.stale c.in-Some.c c.args.self.now.callers.now _ _ c.visit.ensures.0 (omega (arith, c.in-Some.ensures.0, c.requires.1.few))
-    c.in-Some.ensures.1 c.visit.ensures.1 c.visit.ensures.2
-
 pub loop-c-preserved : goal.loop-c-preserved
 loop-c-preserved g c =
     swept_turn c.requires.0.local c.requires.1 _ _ c.loop-c.stale c.in-Some.c _ _ c.visit.ensures.0
     (omega (arith, swept_twice c.requires.0.lowers c.sweep.ensures c.loop-c.invariant, c.requires.0.long)) c.in-Some.ensures.0 c.loop-c.invariant c.visit.ensures.1 c.visit.ensures.2
+
+pub loop-c-smaller : goal.loop-c-smaller
+loop-c-smaller g c =
+    settling_less _ c.loop-c.stale c.in-Some.c c.args.self.now.callers.now _ _ c.visit.ensures.0 (omega (arith, c.in-Some.ensures.0, c.requires.1.few))
+    c.in-Some.ensures.1 c.visit.ensures.1 c.visit.ensures.2
 
 pub returns : goal.returns
 returns g c = settling_end c.sweep.ensures c.loop-c.invariant c.in_default.ensures
