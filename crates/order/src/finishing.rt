@@ -1,7 +1,7 @@
 // The order of visits: a walk along the callers, from each sequence to those that call it, finishes a sequence after all that it leads to,
 // and the order is written from its end: a sequence comes after those that it calls, unless they call it in turn. What is proved of the table
 // holds for every order that names all sequences, and that is tested: the walk promises little, and each index is tested where it is used.
-ghost use Rattle.std.specs.Prelude.{◌≡◌, ◌<◌, ◌≤◌, length, take, IfSome};
+ghost use Rattle.std.specs.Prelude.{◌≡◌, ◌<◌, ◌≤◌, length, take, slice_set, IfSome};
 ghost use Rattle.image.specs.Word.{most_sequences};
 ghost use Rattle.general.specs.Numbers.{Complete};
 
@@ -67,11 +67,13 @@ impl Walk<'_> {
     }
 
     // Sequence `c`, on top, is finished: it is the next from the end of the order.
-    fn finish(&mut self, order: &mut [usize], c: usize) {
+    fn finish(&mut self, order: &mut [usize], c: usize)
+        ensures { order.new ≡ slice_set order.old self.new.left c }
+    {
         self.depth = self.depth.saturating_sub(1);
-        self.left = self.left.saturating_sub(1);
-        if let Some(place) = order.get_mut(self.left) {
-            *place = c;
+        self.left = self.left.wrapping_sub(1);
+        if self.left < order.len() {
+            order[self.left] = c;
         }
     }
 
