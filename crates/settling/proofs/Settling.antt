@@ -43,9 +43,10 @@ none_left n order stale forward complete passed c low =
     ∙ subst (λ (d : ℕ). to_visit n stale d ≡ false) number (passed _ (omega arith) within within)
 
 -- a look from place 0 on
-pub next_turn : (n : ℕ) (order stale : List ℕ) (forward : Bool) (found : Option ℕ) → Complete order n → Looked n order stale forward 0 found → NextTurn n stale found
-next_turn n order stale forward (Some c) complete found = found
-next_turn n order stale forward None complete passed = none_left n order stale forward complete passed
+pub next_turn : (n : ℕ) (order stale : List ℕ) (forward : Bool) (next : ℕ) (found : Option ℕ) → Complete order n → Looked n order stale forward 0 next found
+    → NextTurn n stale found
+next_turn n order stale forward next (Some c) complete found = (found.low, found.chosen)
+next_turn n order stale forward next None complete passed = none_left n order stale forward complete passed
 
 -- ---- after a visit
 

@@ -40,7 +40,7 @@ impl Turns {
     // The first stale number from the turns' place on, in their direction.
     fn look(&mut self, schedule: &Schedule, stale: &Set) -> Option<usize>
         requires { schedule.now.n ≤ most_sequences }
-        ensures { Looked schedule.now.n schedule.now.order.now stale.now self.old.forward self.old.place result }
+        ensures { Looked schedule.now.n schedule.now.order.now stale.now self.old.forward self.old.place self.new.place result }
     {
         let Turns { place, forward } = *self;
         let order = schedule.order;
