@@ -1,9 +1,10 @@
 // The order of visits: a walk along the callers, from each sequence to those that call it, finishes a sequence after all that it leads to,
 // and the order is written from its end: a sequence comes after those that it calls, unless they call it in turn. What is proved of the table
 // holds for every order that names all sequences, and that is tested: the walk promises little, and each index is tested where it is used.
-ghost use Rattle.std.specs.Prelude.{◌≡◌, ◌<◌, ◌≤◌, length, take, slice_set, IfSome};
+ghost use Rattle.std.specs.Prelude.{◌≡◌, ◌+◌, ◌-◌, ◌<◌, ◌≤◌, length, take, slice_index, slice_set, IfSome, MatchOption};
 ghost use Rattle.image.specs.Word.{most_sequences};
 ghost use Rattle.general.specs.Numbers.{Complete};
+ghost use Rattle.callers.specs.Callers.{Removed};
 
 use crate::named::{complete, write_numbers};
 use callers::sets::{SET_WORDS, Set};
@@ -31,6 +32,10 @@ impl Walk<'_> {
     // Enters sequence `d`: it is no longer one of the fresh ones.
     fn enter(&mut self, d: usize)
         requires { d < most_sequences }
+        ensures fresh { Removed d self.old.fresh self.new.fresh }
+        ensures stack { self.new.stack ≡ slice_set self.old.stack self.old.depth d }
+        ensures depth { self.old.depth < most_sequences → self.new.depth ≡ self.old.depth + 1 }
+        ensures rest { (self.new.left ≡ self.old.left) × (self.new.roots ≡ self.old.roots) }
     {
         self.fresh.remove(d);
         if self.depth < STACK {
@@ -40,7 +45,9 @@ impl Walk<'_> {
     }
 
     // The sequence that was entered last and is not finished.
-    fn top(&self) -> Option<usize> {
+    fn top(&self) -> Option<usize>
+        ensures { MatchOption result (self.now.depth ≡ 0) (λ c. (0 < self.now.depth) × (c ≡ slice_index self.now.stack (self.now.depth - 1))) }
+    {
         self.stack[..self.depth].last().copied()
     }
 
@@ -55,7 +62,10 @@ impl Walk<'_> {
     }
 
     // No sequence is entered: the walk begins with the next one, the last sequence first, if it is fresh.
-    fn begin(&mut self) {
+    fn begin(&mut self)
+        ensures roots { self.new.roots ≡ self.old.roots - 1 }
+        ensures fresh { 0 < self.old.roots → Removed self.new.roots self.old.fresh self.new.fresh }
+    {
         if self.roots == 0 {
             return;
         }
@@ -78,7 +88,9 @@ impl Walk<'_> {
     }
 
     // One turn: a sequence is begun with, entered or finished.
-    fn turn(&mut self, order: &mut [usize]) {
+    fn turn(&mut self, order: &mut [usize])
+        ensures { order.new ≡ slice_set order.old self.new.left (slice_index order.new self.new.left) }
+    {
         let Some(c) = self.top() else {
             return self.begin();
         };
