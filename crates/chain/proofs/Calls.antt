@@ -2,11 +2,10 @@
 use Prim.Native.Nat.{ℕ, zero, suc, ◌+◌, ◌%◌, ◌≤◌, ◌<◌}
 use mathlib.Core.Path.{◌≡◌, refl, sym, ◌∙◌, ap}
 use mathlib.Core.Bool.{Bool, true, false, cond, ◌&&◌, true≢false}
-use mathlib.Core.List.{List}
+use mathlib.Core.List.{List, [], ◌∷◌}
 use native.Mathlib.Omega.{arith}
-use lib.ListN.{length}
+use lib.ListN.{length, get_or}
 use lib.Dec.{eqb, leb, ltb}
-use mathlib.Core.Logic.{◌≢◌}
 use Rattle.std.specs.Prelude.{Result, Ok, Err}
 use borrow.Author.Tests.{leb-true, ltb-true}
 use Rattle.rules.specs.Checked.{checked}
@@ -14,15 +13,16 @@ use Rattle.library.specs.Library.{library_of}
 use Rattle.image.specs.declared.answer.Head.{Head}
 use Rattle.image.specs.declared.answer.Refusal.{Refusal}
 use Rattle.image.specs.declared.answer.Refusal.TheVariants.{Sequence, Question, Fact}
-use Rattle.runs.specs.Touch.{question_of}
+use Rattle.runs.specs.Touch.{present, absent, untouched, question_of}
 use Rattle.runs.specs.Touch as touch
 use Rattle.general.proofs.Bools.{and_parts}
 use Rattle.question.specs.Answer.{by_rank}
-use Rattle.question.specs.Asked.{in_range, out_of_range, range_told, question_mark, question_asked}
+use Rattle.question.proofs.Marks.{mark_above}
+use Rattle.question.specs.Asked.{in_range, out_of_range, range_told, mark_number, mark_from, question_mark, question_asked}
 use Rattle.question.specs.declared.asked.Asked.{Asked}
-use Rattle.question.specs.declared.asked.Mark.TheVariants.{Present, Absent, Untouched, Run}
+use Rattle.question.specs.declared.asked.Mark.TheVariants.{Present, Absent, Untouched}
 use Rattle.chains.specs.Answer.{answer}
-use Rattle.chain.specs.Described.{question_by}
+use Rattle.chain.specs.Described.{mark_by, question_by}
 use Rattle.question.specs.Reply.{Answered, ChainCalled, chained_as}
 use Rattle.question.specs.declared.answer.Chained.{Chained}
 use Rattle.chains.specs.Call.{Reply, refused, in_area, after_check, chained, area_after}
@@ -45,13 +45,21 @@ question_by_lem (suc (suc (suc (suc zero)))) fact no_rank l = refl
 question_by_lem (suc (suc (suc (suc (suc zero))))) fact no_rank l = refl
 question_by_lem (suc (suc (suc (suc (suc (suc q)))))) fact no_rank l = absurd (omega arith)
 
-question_touch : (q : ℕ) → question_mark q ≢ Run
+question_touch : (q : ℕ) → mark_number (question_mark q) ≤ 2
 question_touch q = go (eqb (q % 3) 0) (eqb (q % 3) 1)
   where
-    go : (a b : Bool) → cond a Present (cond b Absent Untouched) ≢ Run
-    go true b e = cc
-    go false true e = cc
-    go false false e = cc
+    go : (a b : Bool) → mark_number (cond a Present (cond b Absent Untouched)) ≤ 2
+    go true b = omega arith
+    go false true = omega arith
+    go false false = omega arith
+
+-- the mark that a number stands for, as the library's: each number above 1 is taken for "untouched"
+pub mark_by_number : (n : ℕ) → mark_by (mark_from n) ≡ get_or (present ∷ absent ∷ untouched ∷ []) n untouched
+mark_by_number zero = refl
+mark_by_number (suc zero) = refl
+mark_by_number (suc (suc zero)) = refl
+mark_by_number (suc (suc (suc zero))) = refl
+mark_by_number (suc (suc (suc (suc n)))) = ap mark_by (mark_above n)
 
 -- what the tests told
 abbrev told : Bool → Refusal → Result (Unit {0}) Refusal

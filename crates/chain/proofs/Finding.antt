@@ -38,10 +38,10 @@ use Rattle.slot.specs.Slots.{first_step, in_ranks, item_rank, pass_in}
 use Rattle.rank.specs.Tables.{look_in, Rankable, Ranked}
 use Rattle.link.specs.Choice.{answer_in}
 use Rattle.chain.specs.Described.{Asks, Masked, Placed, ItemsBy, Described, FindAsked, ranks_length, AreasAsked, Findable, EntriesMarked, for_untouched, for_run, is_first, mark_as, side_by, mark_by, question_by}
-use Rattle.question.specs.Asked.{fact_block}
+use Rattle.question.specs.Asked.{mark_number, fact_block}
 use Rattle.question.specs.declared.asked.Asked.{Asked}
 use Rattle.question.specs.declared.asked.Mark as code
-use Rattle.question.specs.declared.asked.Mark.TheVariants.{Present, Absent, Untouched, Run}
+use Rattle.question.specs.declared.asked.Mark.TheVariants.{Present, Absent, Untouched, Run, Other}
 use Rattle.chains.proofs.Entries.{stays_run, any_run}
 use Rattle.chains.proofs.Passing.{Passable, pass_reached, pass_exact}
 use Rattle.chains.proofs.Ranks.{start_unranked}
@@ -143,12 +143,14 @@ untouched_or Present = no (λ e. cc)
 untouched_or Absent = no (λ e. cc)
 untouched_or Untouched = yes refl
 untouched_or Run = no (λ e. cc)
+untouched_or Other = no (λ e. cc)
 
-touch_asked : (k : code.Mark) → k ≢ Run → k ≢ Untouched → mark_by k ≢ untouched
+touch_asked : (k : code.Mark) → mark_number k ≤ 2 → k ≢ Untouched → mark_by k ≢ untouched
 touch_asked Present r t = present≢untouched
 touch_asked Absent r t = absent≢untouched
 touch_asked Untouched r t = absurd (t refl)
-touch_asked Run r t = absurd (r refl)
+touch_asked Run r t = absurd (omega arith)
+touch_asked Other r t = absurd (omega arith)
 
 module _ (image : List ℕ) (h : Head) (accepted : Accepts image h) (ms ps part : List ℕ)
     (places_are : Placed (library_of image) part ps) where
@@ -156,17 +158,18 @@ module _ (image : List ℕ) (h : Head) (accepted : Accepts image h) (ms ps part 
   L = library_of image
 
   -- the question that the code is asked
-  mark_as_lem : (m : code.Mark) → m ≢ Run → m ≡ mark_as (mark_by m)
+  mark_as_lem : (m : code.Mark) → mark_number m ≤ 2 → m ≡ mark_as (mark_by m)
   mark_as_lem Present r = refl
   mark_as_lem Absent r = refl
   mark_as_lem Untouched r = refl
-  mark_as_lem Run r = absurd (r refl)
+  mark_as_lem Run r = absurd (omega arith)
+  mark_as_lem Other r = absurd (omega arith)
 
   first_is : (b : Bool) → b ≡ is_first (side_by b)
   first_is false = refl
   first_is true = refl
 
-  pub asks_by : (q : Asked) → q.mark ≢ Run → q.fact < h.facts → q.none ≡ h.sequences + 2 → Asks L q (question_by q)
+  pub asks_by : (q : Asked) → mark_number q.mark ≤ 2 → q.fact < h.facts → q.none ≡ h.sequences + 2 → Asks L q (question_by q)
   asks_by q low fact no_rank =
       let has = counted image h accepted in
       record {
@@ -248,7 +251,7 @@ module _ (image : List ℕ) (h : Head) (accepted : Accepts image h) (ms ps part 
     no_rank = omega (arith, asked.none, (counted image h accepted).sequences)
 
     stays_asks : Asks L (for_untouched q) (question_by (for_untouched q))
-    stays_asks = asks_by (for_untouched q) (λ e. cc) asked.fact asked.none
+    stays_asks = asks_by (for_untouched q) (omega arith) asked.fact asked.none
 
     stays_items : (r : Asked) (ahead behind before ranks : List ℕ) → length before ≡ ranks_length h q
         → (ranked : Ranked false (for_untouched q) r h.sequences ms ahead behind part ps before ranks)

@@ -15,11 +15,12 @@ use Rattle.slot.specs.Slots.{first_step, item_rank, pass_in, ItemsRankable}
 use Rattle.rank.specs.Tables.{Rankable, Ranked}
 use Rattle.link.specs.Choice.{Opened, answer_in}
 use Rattle.question.specs.Answer.{by_rank}
+use Rattle.question.specs.Asked.{mark_number}
 use Rattle.question.specs.Reply.{Answered}
 use Rattle.chains.specs.Answer.{answer}
 use Rattle.question.specs.declared.asked.Asked.{Asked}
 use Rattle.question.specs.declared.asked.Mark as code
-use Rattle.question.specs.declared.asked.Mark.TheVariants.{Present, Absent, Untouched, Run}
+use Rattle.question.specs.declared.asked.Mark.TheVariants.{Present, Absent, Untouched, Run, Other}
 
 -- a side and a mark as the code has them
 abbrev pub is_first : Side → Bool
@@ -69,6 +70,7 @@ mark_by Present = present
 mark_by Absent = absent
 mark_by Untouched = untouched
 mark_by Run = untouched
+mark_by Other = untouched
 
 abbrev pub question_by : Asked → Question
 question_by q = record { side = side_by q.first; mark = mark_by q.mark }
@@ -76,7 +78,7 @@ question_by q = record { side = side_by q.first; mark = mark_by q.mark }
 -- what the search for an answer asks beside an accepted image: a sequence, a mark and a fact that there are
 pub record FindAsked (h : Head) (q : Asked) (c : ℕ) : Type 0 where
   pub sequence : c < h.sequences
-  pub mark : q.mark ≢ Run
+  pub mark : mark_number q.mark ≤ 2
   pub fact : q.fact < h.facts
   pub none : q.none ≡ h.sequences + 2
 

@@ -26,7 +26,7 @@ use Rattle.question.specs.Reply.{Answered}
 use Rattle.question.specs.Asked.{by_mark}
 use Rattle.question.specs.declared.answer.Chained.{Chained}
 use Rattle.question.specs.declared.asked.Mark.{Mark}
-use Rattle.question.specs.declared.asked.Mark.TheVariants.{Present, Absent, Untouched, Run}
+use Rattle.question.specs.declared.asked.Mark.TheVariants.{Present, Absent, Untouched, Run, Other}
 use Rattle.general.proofs.Scan.{get_d_inside}
 use Rattle.general.proofs.Tests.{all_default}
 use Rattle.library.proofs.Decode.{alternatives_all}
@@ -228,3 +228,4 @@ module _ (q : Asked) (ahead behind ranks part places : List ℕ) (c rank count :
       by Present mark = by_mark_lem Present mark (answered (count_by Present mark))
       by Absent mark = by_mark_lem Absent mark (answered (count_by Absent mark))
       by Run mark = by_mark_lem Run mark (answered (count_by Run mark))
+      by Other mark = by_mark_lem Other mark (answered (count_by Other mark))

@@ -5,7 +5,7 @@ use Rattle.image.specs.declared.answer.Refusal.{Refusal}
 use Rattle.image.specs.declared.answer.Refusal.TheVariants.{Sequence, Question, Fact}
 use Rattle.question.specs.declared.asked.Asked.{Asked}
 use Rattle.question.specs.declared.asked.Mark.{Mark}
-use Rattle.question.specs.declared.asked.Mark.TheVariants.{Present, Absent, Untouched, Run}
+use Rattle.question.specs.declared.asked.Mark.TheVariants.{Present, Absent, Untouched, Run, Other}
 
 abbrev pub in_range : Head → ℕ → ℕ → ℕ → Bool
 in_range h c q f = (ltb c h.sequences && leb q 5) && ltb f h.facts
@@ -18,23 +18,29 @@ out_of_range h c q = cond (ltb c h.sequences) (cond (leb q 5) Fact Question) Seq
 abbrev pub range_told : Head → ℕ → ℕ → ℕ → Result Unit Refusal
 range_told h c q f = cond (in_range h c q f) (Ok tt) (Err (out_of_range h c q))
 
--- a mark's number: 0 and 1 for the two touches, 2 for "untouched", 3 where only a rank counts
+-- a mark's number: 0 and 1 for the two touches, 2 for "untouched", 3 where only a rank counts, 4 for any other
 abbrev pub mark_number : Mark → ℕ
 mark_number Present = 0
 mark_number Absent = 1
 mark_number Untouched = 2
 mark_number Run = 3
+mark_number Other = 4
+
+-- the mark that a number stands for
+abbrev pub mark_from : ℕ → Mark
+mark_from n = cond (eqb n 0) Present (cond (eqb n 1) Absent (cond (eqb n 2) Untouched (cond (eqb n 3) Run Other)))
 
 -- whether two marks are the same one
 abbrev pub same_mark : Mark → Mark → Bool
 same_mark m n = eqb (mark_number m) (mark_number n)
 
--- one of three by a mark: for "untouched", where only a rank counts, and for a touch
+-- one of three by a mark: for "untouched", where only a rank counts, and for a touch, as which any other mark is asked for
 abbrev pub by_mark : {A : Type 0} → Mark → A → A → A → A
 by_mark Untouched untouched run touch = untouched
 by_mark Run untouched run touch = run
 by_mark Present untouched run touch = touch
 by_mark Absent untouched run touch = touch
+by_mark Other untouched run touch = touch
 
 -- the mark that a question asks for: each side has three questions, a mark each
 abbrev pub question_mark : ℕ → Mark

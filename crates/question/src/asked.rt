@@ -1,7 +1,7 @@
 // What the chain call is asked: a question of the library, or refusal 9, 10 or 11.
 ghost use Rattle.std.specs.Prelude.{◌≡◌, ◌≤◌, ◌<◌};
 ghost use Rattle.image.specs.Word.{most_sequences};
-ghost use Rattle.question.specs.Asked.{range_told, question_asked, question_mark, fact_block, fact_bit};
+ghost use Rattle.question.specs.Asked.{range_told, question_asked, question_mark, mark_from, fact_block, fact_bit};
 
 use column::BLOCK_FACTS;
 use image::answer::{Head, Refusal};
@@ -16,13 +16,14 @@ const SIDE_QUESTIONS: u64 = 3;
 // rank" too. It is a number and no `Option`, since the definitions of ranks take it as one (`rank_in`), and a table has a word a rank.
 pub const NO_RANK_ABOVE: u32 = 2;
 
-// The marks: the two touches, "untouched", and where only a rank counts.
+// The marks: the two touches, "untouched", where only a rank counts, and any other: no item has that mark, and it is asked for as a touch is.
 #[derive(Clone, Copy, PartialEq, Eq)]
 pub enum Mark {
     Present,
     Absent,
     Untouched,
     Run,
+    Other,
 }
 
 impl Mark {
@@ -34,6 +35,21 @@ impl Mark {
             0 => Mark::Present,
             1 => Mark::Absent,
             _ => Mark::Untouched,
+        }
+    }
+}
+
+// The mark that a number stands for. Each number has one.
+impl From<u32> for Mark {
+    ghost from_gives = { λ n mark. mark ≡ mark_from n };
+
+    fn from(n: u32) -> Mark {
+        match n {
+            0 => Self::Present,
+            1 => Self::Absent,
+            2 => Self::Untouched,
+            3 => Self::Run,
+            _ => Self::Other,
         }
     }
 }
