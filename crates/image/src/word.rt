@@ -71,8 +71,15 @@ impl Kind {
     pub fn is_of(self, w: u32) -> bool
         ensures { result ≡ is_kind (kind_number self) w }
     {
-        w / PAYLOADS == self.number()
+        is_kind(self.number(), w)
     }
+}
+
+// Whether a word is of kind `k`.
+pub fn is_kind(k: u32, w: u32) -> bool
+    ensures { result ≡ is_kind k w }
+{
+    w / PAYLOADS == k
 }
 
 // An alternative's opener: its payload is 0.
