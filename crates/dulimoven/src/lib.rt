@@ -63,5 +63,5 @@ pub fn dulimoven_endless(image: &[u32], sequence: u64, area: &mut [u32]) -> u64
 pub fn dulimoven_seal(image: &mut [u32]) -> u64
     ensures { returned result image.new ≡ sealer image.old }
 {
-    image::answer::answer_number(seal::call::seal(image))
+    seal::answer::seal_answer(seal::call::seal(image))
 }

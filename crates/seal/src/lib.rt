@@ -1,4 +1,5 @@
 // The seal call: the sum word of an image, written into its last place.
 #![tactic(auto)]
 
+pub mod answer;
 pub mod call;

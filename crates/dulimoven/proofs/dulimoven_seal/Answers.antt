@@ -8,4 +8,4 @@ use Rattle.dulimoven.proofs.dulimoven_seal.Goals as goal
 pub returns : goal.returns
 returns c =
     let called = c.seal.ensures in
-    ap₂ returned (c.answer_number.ensures ∙ ap seal_answer called.answer) called.image
+    ap₂ returned (c.seal_answer.ensures ∙ ap seal_answer called.answer) called.image
