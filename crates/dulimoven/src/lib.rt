@@ -56,7 +56,7 @@ pub fn dulimoven_list(
 pub fn dulimoven_endless(image: &[u32], sequence: u64, area: &mut [u32]) -> u64
     ensures { returned result area.new ≡ engine.endless image.now sequence area.old }
 {
-    image::answer::answer_number(endless::call::endless(image, sequence, area))
+    endless::answer::endless_answer(endless::call::endless(image, sequence, area))
 }
 
 // The sum word for an author's image: 0 with the sum word of the words before it in the last place, or 2^32 for refusal 1 with the image as it was.
