@@ -33,7 +33,9 @@ fn fill_block<const MASKS: usize, const STEP_ROWS: usize, const ROWS: usize>(
     write_blocks(tables.accepted.head.sequences as usize, &table, block, area);
 }
 
-// Fills the cards of an accepted image, block by block, by way of the tables that all blocks have in common. Each is made in an area of its size.
+// Fills the cards of an accepted image, block by block, by way of the tables that all blocks have in common. Each is made in an area of its size. It stays
+// a function of its own in the compiled code, so that a call that is refused takes no stack for these areas.
+#[inline(never)]
 fn fill_in<
     const PLACES: usize,
     const CALLERS: usize,
