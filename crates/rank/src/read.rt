@@ -1,5 +1,5 @@
 // What an alternative comes to by the ranks as they stand, and the rank of a sequence lowered by its alternatives.
-ghost use Rattle.std.specs.Prelude.{◌≡◌, true, cond, ℕ, ◌+◌, ◌≤◌, min, max, length, drop};
+ghost use Rattle.std.specs.Prelude.{◌≡◌, true, cond, ℕ, ◌+◌, ◌≤◌, min, max, [], length, drop};
 ghost use Rattle.image.specs.Word.{is_entry};
 ghost use Rattle.library.specs.Library.{entry_of, alternatives_from};
 ghost use Rattle.slot.specs.Slots.{traits_in, RankWithin};
@@ -10,7 +10,7 @@ use image::word::Kind;
 use question::asked::{Asked, Mark};
 use slot::entry::{Traits, passes, rank_of, traits_of};
 use walk::entries::{Ended, walk_entries};
-use walk::sequence::{part_entry, select};
+use walk::sequence::{part_entry, select, word_at};
 
 // What an alternative comes to, and the index at which the walk over its entries ended: that of the first dead one, or of the word after them.
 pub type Read = Ended<u32>;
@@ -176,12 +176,39 @@ impl<'a> Ranks<'a> {
         }
     }
 
+    // What an alternative without entries comes to.
+    fn nothing(&self) -> u32
+        ensures { result ≡ look_in self.now.q self.now.ahead.now self.now.behind.now self.now.ranks.now [] }
+    {
+        match self.q.mark {
+            Mark::Untouched => 0,
+            Mark::Run => 0,
+            _ => self.q.none,
+        }
+    }
+
+    // What the alternative comes to whose entries stand from index `at` on. One without entries comes to `nothing`, and is not walked: a sequence may have
+    // thousands of them.
+    fn read_after(&self, nothing: u32, at: usize) -> Read
+        requires { (at ≤ length self.now.part.now) × (nothing ≡ look_in self.now.q self.now.ahead.now self.now.behind.now self.now.ranks.now []) }
+        ensures { AlternativeRanked (look_in self.now.q self.now.ahead.now self.now.behind.now self.now.ranks.now) (dead_in self.now.q self.now.ahead.now self.now.behind.now self.now.ranks.now) self.now.part.now at result }
+    {
+        if part_entry(word_at(self.part, at)) {
+            return self.read_alternative(at);
+        }
+        Ended {
+            value: nothing,
+            ended: at,
+        }
+    }
+
     // The rank lowered by the alternatives that stand from index `at` on, up to the next sequence, past the entries that a walk has left. A
     // sequence has no rank below 1.
     pub fn lowered_rank(&self, at: usize, rank: u32) -> u32
         requires { at ≤ length self.now.part.now }
         ensures { result ≡ lowered_from (look_in self.now.q self.now.ahead.now self.now.behind.now self.now.ranks.now) rank (alternatives_from (drop at self.now.part.now)) }
     {
+        let nothing = self.nothing();
         let mut r = rank;
         let mut i = at;
         // Each turn goes on where a walk over entries ended, so that no range or iterator counts the turns.
@@ -192,7 +219,7 @@ impl<'a> Ranks<'a> {
                 if (r <= 1) | !Kind::Alternative.is_of(w) {
                     return r;
                 }
-                let found = self.read_alternative(i);
+                let found = self.read_after(nothing, i);
                 r = lower(r, found.value);
                 i = found.ended;
             }

@@ -23,7 +23,7 @@ pub loop-i-preserved-then-not-part_entry : goal.loop-i-preserved-then-not-part_e
 loop-i-preserved-then-not-part_entry c =
     let T = c.args.self.now in
     let opener : is_kind 7 (get_or T.part.now c.loop-i.i 0) ≡ true = sym c.is_of.ensures ∙ not-false _ (nor_right (leb c.loop-i.r 1) _ c.if-r-is_of.false) in
-    let read = c.read_alternative-found.ensures in
+    let read = c.read_after-found.ensures in
     rw c.lower-r.ensures (walking_turn c.loop-i.invariant (dead_in T.q T.ahead.now T.behind.now T.ranks.now) opener read.ended (lowered_cons _ _ _ _ _ read.value))
 
 pub loop-i-preserved : goal.loop-i-preserved
